@@ -1,0 +1,90 @@
+-- The smaller and the larger of two doubles that are no NaN, and of four. Assumes nothing.
+use mathlib.Core.Bool.{Bool, true, false, not, _||_, cond}
+use lib.Dec.{T, not-T}
+use lib.Ieee.{Float, inf, Format, fits, isNan, lt}
+use lib.Ieee.Fits.{inf-fits, cond-fits}
+use Rattle.doubles.specs.Value.{Number, _⊑_}
+use Rattle.doubles.specs.Neighbour.{fmin, fmax, least4, greatest4}
+use Rattle.doubles.proofs.Order.{⊑-trans, lt-irrefl, lt-asym}
+
+-- m is no NaN, and stands in the relation R to both
+pub record Picked (R : Float → Float → Type 0) (a b m : Float) : Type 0 where
+  pub number : Number m
+  pub first : R m a
+  pub second : R m b
+
+abbrev pub Under : Float → Float → Type 0
+Under m x = m ⊑ x
+
+abbrev pub Over : Float → Float → Type 0
+Over m x = x ⊑ m
+
+module _ (a b : Float) (na : Number a) (nb : Number b) where
+  pub smaller : Picked Under a b (fmin a b)
+  smaller = go (lt b a) (isNan a) na (lt-asym b a) (not-T (lt b a))
+    where
+      go : (k n : Bool) → T (not n) → (T k → b ⊑ a) → ((T k → ⊥) → a ⊑ b) → Picked Under a b (cond (k || n) b a)
+      go true n e h g = record { number = nb; first = h tt; second = lt-irrefl b }
+      go false true e h g = absurd e
+      go false false e h g = record { number = na; first = lt-irrefl a; second = g (λ t. t) }
+
+  pub larger : Picked Over a b (fmax a b)
+  larger = go (lt a b) (isNan a) na (lt-asym a b) (not-T (lt a b))
+    where
+      go : (k n : Bool) → T (not n) → (T k → a ⊑ b) → ((T k → ⊥) → b ⊑ a) → Picked Over a b (cond (k || n) b a)
+      go true n e h g = record { number = nb; first = h tt; second = lt-irrefl b }
+      go false true e h g = absurd e
+      go false false e h g = record { number = na; first = lt-irrefl a; second = g (λ t. t) }
+
+-- ---- of four
+pub record Four (P : Float → Type 0) (p q r s : Float) : Type 0 where
+  pub one : P p
+  pub two : P q
+  pub three : P r
+  pub four : P s
+
+pub record Best (f : Format) (R : Float → Float → Type 0) (p q r s m : Float) : Type 0 where
+  pub held : T (fits f m)
+  pub number : Number m
+  pub each : Four (R m) p q r s
+
+-- a fold that picks one of two each time
+module _ (f : Format) (R : Float → Float → Type 0) (trans : (x y z : Float) → Number y → R x y → R y z → R x z) (pick : Float → Float → Float)
+    (kept : (a b : Float) → T (fits f a) → T (fits f b) → T (fits f (pick a b)))
+    (picked : (a b : Float) → Number a → Number b → Picked R a b (pick a b))
+    (o p q r s : Float) (ho : T (fits f o)) (no : Number o) (h : Four (λ x. T (fits f x)) p q r s) (n : Four Number p q r s) where
+  of-four : Best f R p q r s (pick (pick (pick (pick o p) q) r) s)
+  of-four =
+      let a = picked o p no (n .one) in
+      let b = picked (pick o p) q (a .number) (n .two) in
+      let c = picked (pick (pick o p) q) r (b .number) (n .three) in
+      let d = picked (pick (pick (pick o p) q) r) s (c .number) (n .four) in
+      let to-b = trans _ _ _ (c .number) (d .first) (c .first) in
+      let to-a = trans _ _ _ (b .number) to-b (b .first) in
+      record {
+        held = kept _ s (kept _ r (kept _ q (kept o p ho (h .one)) (h .two)) (h .three)) (h .four);
+        number = d .number;
+        each = record {
+          one = trans _ _ _ (a .number) to-a (a .second);
+          two = trans _ _ _ (b .number) to-b (b .second);
+          three = trans _ _ _ (c .number) (d .first) (c .second);
+          four = d .second;
+        };
+      }
+
+inf-number : (s : Bool) → Number (inf s)
+unfolding isNan
+inf-number s = tt
+
+pub min-fits : (f : Format) (a b : Float) → T (fits f a) → T (fits f b) → T (fits f (fmin a b))
+min-fits f a b h k = cond-fits f (lt b a || isNan a) b a k h
+
+pub max-fits : (f : Format) (a b : Float) → T (fits f a) → T (fits f b) → T (fits f (fmax a b))
+max-fits f a b h k = cond-fits f (lt a b || isNan a) b a k h
+
+module _ (f : Format) (p q r s : Float) (h : Four (λ x. T (fits f x)) p q r s) (n : Four Number p q r s) where
+  pub least : Best f Under p q r s (least4 p q r s)
+  least = of-four f Under ⊑-trans fmin (min-fits f) smaller (inf false) p q r s (inf-fits f false) (inf-number false) h n
+
+  pub greatest : Best f Over p q r s (greatest4 p q r s)
+  greatest = of-four f Over (λ x y z k a b. ⊑-trans z y x k b a) fmax (max-fits f) larger (inf true) p q r s (inf-fits f true) (inf-number true) h n

@@ -1,0 +1,17 @@
+pub mod Tests
+pub mod Value
+pub mod Order
+pub mod Tested
+pub mod Pattern
+pub mod Place
+pub mod Neighbour
+pub mod Stepping
+pub mod Own
+pub mod Enclose
+pub mod Sums
+pub mod Extremes
+pub mod Products
+pub mod Limits
+pub mod Reciprocals
+pub mod Squares
+pub mod Distance

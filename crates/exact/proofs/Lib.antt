@@ -1,0 +1,10 @@
+pub mod Laws
+pub mod Field
+pub mod Sum
+pub mod DeBoor
+pub mod Source
+pub mod Curve
+pub mod Deriv
+pub mod Jets
+pub mod Surface
+pub mod Worked

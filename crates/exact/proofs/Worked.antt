@@ -1,0 +1,88 @@
+-- Worked numbers, by computation: table A has degree 2, knots 0 0 0 1 2 2 2 and x = 0 2 4 6. Assumes nothing.
+use mathlib.Core.Path.{_≡_, refl}
+use mathlib.Core.List.{List, [], _∷_}
+use Prim.Native.Nat.{ℕ, zero, suc, _<_}
+use native.Mathlib.Omega.{arith}
+use lib.IntN.{ℤ, pos, negsuc}
+use lib.ListN.{getD}
+use Rattle.exact.specs.Rational.{ℚ, frac, q1, _≤q_}
+use Rattle.exact.specs.Spline.{basis, Knots, exact, dbasis, dexact}
+use Rattle.exact.proofs.Field.{same, by-same, dec-le, dec-lt}
+use Rattle.exact.proofs.DeBoor.{curve, deboor, mono-of-steps, deboor-is}
+use Rattle.exact.proofs.Source.{work, alpha}
+
+q : ℕ → ℚ
+unfolding frac
+q n = frac (pos n) 0
+
+half : ℚ
+half = frac (pos 1) 1
+
+A : ℕ → ℚ
+unfolding q
+A i = q (getD (0 ∷ 0 ∷ 0 ∷ 1 ∷ 2 ∷ 2 ∷ 2 ∷ []) i 0)
+
+x : ℕ → ℚ
+unfolding q
+x i = q (getD (0 ∷ 2 ∷ 4 ∷ 6 ∷ []) i 0)
+
+basis-A-0 : basis A half 2 2 0 ≡ frac (pos 1) 3
+unfolding same basis A half
+basis-A-0 = by-same tt
+
+basis-A-1 : basis A half 2 2 1 ≡ frac (pos 5) 7
+unfolding same basis A half
+basis-A-1 = by-same tt
+
+basis-A-2 : basis A half 2 2 2 ≡ frac (pos 1) 7
+unfolding same basis A half
+basis-A-2 = by-same tt
+
+deboor-A : deboor A half 2 0 x ≡ frac (pos 7) 3
+unfolding same deboor A half x
+deboor-A = by-same tt
+
+-- the source's loop gives the same
+work-A : work A half 2 2 x 2 2 ≡ frac (pos 7) 3
+unfolding same work alpha A half x
+work-A = by-same tt
+
+-- the first derivatives of the basis
+dbasis-A-0 : dbasis A half 2 2 0 ≡ frac (negsuc 0) 0
+unfolding same dbasis A half
+dbasis-A-0 = by-same tt
+
+dbasis-A-1 : dbasis A half 2 2 1 ≡ half
+unfolding same dbasis A half
+dbasis-A-1 = by-same tt
+
+dbasis-A-2 : dbasis A half 2 2 2 ≡ half
+unfolding same dbasis A half
+dbasis-A-2 = by-same tt
+
+-- the exact point and derivative, with all the weights 1
+exact-A : exact A half 2 2 4 (λ i. q1) x ≡ frac (pos 7) 3
+unfolding same exact A half x
+exact-A = by-same tt
+
+dexact-A : dexact A half 2 2 4 (λ i. q1) x ≡ frac (pos 3) 0
+unfolding same dexact A half x
+dexact-A = by-same tt
+
+-- the knots of A satisfy what the theorems ask
+step-A : (i : ℕ) → suc i < 7 → A i ≤q A (suc i)
+unfolding same A
+step-A zero h = dec-le tt
+step-A (suc zero) h = dec-le tt
+step-A (suc (suc zero)) h = dec-le tt
+step-A (suc (suc (suc zero))) h = dec-le tt
+step-A (suc (suc (suc (suc zero)))) h = dec-le tt
+step-A (suc (suc (suc (suc (suc zero))))) h = dec-le tt
+step-A (suc (suc (suc (suc (suc (suc i)))))) h = absurd (omega arith)
+
+knots-A : Knots A 7 2
+unfolding same A
+knots-A = record { mono = mono-of-steps A 7 step-A; gap = dec-lt tt }
+
+instance-A : deboor A half 2 0 x ≡ curve A half 2 2 0 x
+instance-A = deboor-is knots-A half 2 0 x refl (omega arith)

@@ -1,0 +1,3 @@
+pub mod Rational
+pub mod Spline
+pub mod Surface

@@ -1,0 +1,3 @@
+-- Facts on values that the functions' proofs cite, and that each operation encloses.
+pub mod Facts
+pub mod Contain

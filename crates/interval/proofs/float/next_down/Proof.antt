@@ -1,0 +1,18 @@
+use lib.Ieee.{Float, binary64, inf, isNan, nanBits, ofBits, toBits, neg, lt, le, eq, fits}
+use mathlib.Core.Path.{_≡_, refl, sym, ap, _∙_, subst}
+use borrow.Author.Needs.{needs}
+use Rattle.interval.proofs.float.next_down.Statement.{statement}
+use Rattle.interval.proofs.float.next_down.Tie as tie
+use Rattle.interval.proofs.float.next_down.Reads as reads
+use Rattle.interval.proofs.float.next_down.Lts as lts
+use Rattle.interval.proofs.float.next_up.Reads as next-up-reads
+
+next-up-requires : tie.Need-next-up-requires
+next-up-requires c κs = search needs
+
+returns : tie.Need-returns
+unfolding Rattle.doubles.specs.Neighbour.downFrom
+returns c = ap neg (c .next-up .ensures)
+
+pub next-down-spec : {M : Type 1} → statement M
+next-down-spec = tie.close (tie.spec next-up-requires returns)
