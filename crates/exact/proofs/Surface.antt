@@ -5,7 +5,7 @@ use mathlib.Core.List.{List, [], _∷_}
 use Prim.Native.Nat.{ℕ, zero, suc, _+_, _≤_, _<_, zero-le}
 use Rattle.exact.specs.Rational.{ℚ, _+q_, _-q_, _*q_, _/q_, negq, inv, q0, q1, _≤q_, _<q_}
 use Rattle.exact.specs.Spline.{Σq, basis, Knots, whole, dbasis, quotient, dwhole, exact}
-use Rattle.exact.specs.Surface.{exact₂, sum₂, whole₂}
+use Rattle.exact.specs.Surface.{exact₂, sum₂, whole₂, dexact₂u, dexact₂v}
 use Rattle.exact.proofs.Field.{qring, q-ring, ≤-trans, <-≤-trans, pos-ne, div-le-div, div-eq, one-mul, inv-ne-0}
 use Rattle.exact.proofs.Sum.{Σ-cong, Σ-mul, Σ-scale, Σ-relative, Σ-outer}
 use Rattle.exact.proofs.DeBoor.{relative, deboor-low, deboor-high}
@@ -130,10 +130,10 @@ module _ {U U′ : ℕ → ℚ} {n n′ s z : ℕ} (K : Knots U n s) (L : Knots 
 
     -- the derivative along u: the quotient rule over Σ Σ N' M w P and Σ Σ N' M w
     pub exact₂-du : (u v : ℚ) → whole₂ U u s p count U′ v z q count′ w ≢ q0
-        → quotient (whole₂ U u s p count U′ v z q count′ (λ i j. w i j *q P i j)) (sum₂ count count′ (dbasis U u s p) (basis U′ v z q) (λ i j. w i j *q P i j))
-        (whole₂ U u s p count U′ v z q count′ w) (sum₂ count count′ (dbasis U u s p) (basis U′ v z q) w)
+        → dexact₂u U u s p count U′ v z q count′ w P
         ≡ quotient (net U u s p b U′ v z q d (λ i j. (P i j -q r) *q (w i j /q σ))) (net-du U u s p b U′ v z q d (λ i j. (P i j -q r) *q (w i j /q σ)))
         (net U u s p b U′ v z q d (λ i j. w i j /q σ)) (net-du U u s p b U′ v z q d (λ i j. w i j /q σ))
+    unfolding dexact₂u
     exact₂-du u v h =
         let e₂ = net-du-is u v (λ i j. (P i j -q r) *q (w i j /q σ)) ∙ sum₂-relative count count′ (dbasis U u s p) (basis U′ v z q) w P r σ in
         let e₄ = net-du-is u v (λ i j. w i j /q σ) ∙ sum₂-scale count count′ (dbasis U u s p) (basis U′ v z q) w σ in
@@ -141,10 +141,10 @@ module _ {U U′ : ℕ → ℚ} {n n′ s z : ℕ} (K : Knots U n s) (L : Knots 
 
     -- and along v
     pub exact₂-dv : (u v : ℚ) → whole₂ U u s p count U′ v z q count′ w ≢ q0
-        → quotient (whole₂ U u s p count U′ v z q count′ (λ i j. w i j *q P i j)) (sum₂ count count′ (basis U u s p) (dbasis U′ v z q) (λ i j. w i j *q P i j))
-        (whole₂ U u s p count U′ v z q count′ w) (sum₂ count count′ (basis U u s p) (dbasis U′ v z q) w)
+        → dexact₂v U u s p count U′ v z q count′ w P
         ≡ quotient (net U u s p b U′ v z q d (λ i j. (P i j -q r) *q (w i j /q σ))) (net-dv U u s p b U′ v z q d (λ i j. (P i j -q r) *q (w i j /q σ)))
         (net U u s p b U′ v z q d (λ i j. w i j /q σ)) (net-dv U u s p b U′ v z q d (λ i j. w i j /q σ))
+    unfolding dexact₂v
     exact₂-dv u v h =
         let e₂ = net-dv-is u v (λ i j. (P i j -q r) *q (w i j /q σ)) ∙ sum₂-relative count count′ (basis U u s p) (dbasis U′ v z q) w P r σ in
         let e₄ = net-dv-is u v (λ i j. w i j /q σ) ∙ sum₂-scale count count′ (basis U u s p) (dbasis U′ v z q) w σ in

@@ -18,3 +18,16 @@ whole₂ U u s p count U′ v z q count′ c = Σq count (λ i. Σq count′ (λ
 unfoldable pub exact₂ : (ℕ → ℚ) → ℚ → ℕ → ℕ → ℕ → (ℕ → ℚ) → ℚ → ℕ → ℕ → ℕ → (ℕ → ℕ → ℚ) → (ℕ → ℕ → ℚ) → ℚ
 unfolding whole₂
 exact₂ U u s p count U′ v z q count′ w P = whole₂ U u s p count U′ v z q count′ (λ i j. w i j *q P i j) /q whole₂ U u s p count U′ v z q count′ w
+
+-- its derivatives along u and along v, by the quotient rule
+unfoldable pub dexact₂u : (ℕ → ℚ) → ℚ → ℕ → ℕ → ℕ → (ℕ → ℚ) → ℚ → ℕ → ℕ → ℕ → (ℕ → ℕ → ℚ) → (ℕ → ℕ → ℚ) → ℚ
+unfolding whole₂ sum₂ quotient
+dexact₂u U u s p count U′ v z q count′ w P =
+    quotient (whole₂ U u s p count U′ v z q count′ (λ i j. w i j *q P i j)) (sum₂ count count′ (dbasis U u s p) (basis U′ v z q) (λ i j. w i j *q P i j))
+    (whole₂ U u s p count U′ v z q count′ w) (sum₂ count count′ (dbasis U u s p) (basis U′ v z q) w)
+
+unfoldable pub dexact₂v : (ℕ → ℚ) → ℚ → ℕ → ℕ → ℕ → (ℕ → ℚ) → ℚ → ℕ → ℕ → ℕ → (ℕ → ℕ → ℚ) → (ℕ → ℕ → ℚ) → ℚ
+unfolding whole₂ sum₂ quotient
+dexact₂v U u s p count U′ v z q count′ w P =
+    quotient (whole₂ U u s p count U′ v z q count′ (λ i j. w i j *q P i j)) (sum₂ count count′ (basis U u s p) (dbasis U′ v z q) (λ i j. w i j *q P i j))
+    (whole₂ U u s p count U′ v z q count′ w) (sum₂ count count′ (basis U u s p) (dbasis U′ v z q) w)
