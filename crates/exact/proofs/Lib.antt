@@ -8,3 +8,4 @@ pub mod Deriv
 pub mod Jets
 pub mod Surface
 pub mod Worked
+pub mod Scheme

@@ -1,3 +1,4 @@
 pub mod Rational
 pub mod Spline
 pub mod Surface
+pub mod Scheme
