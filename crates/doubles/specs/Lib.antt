@@ -1,3 +1,4 @@
 pub mod Value
 pub mod Neighbour
 pub mod Place
+pub mod Run

@@ -1,0 +1,15 @@
+pub mod Below
+pub mod Fill
+pub mod Products
+pub mod Classes
+pub mod Refusals
+pub mod Valid
+pub mod Curves
+pub mod Surfaces
+pub mod Fractions
+pub mod Last
+pub mod Halving
+pub mod Spans
+pub mod Answers
+pub mod Walks
+pub mod Worked

@@ -1,0 +1,27 @@
+-- Refusals one after the other: the first that is given is the answer.
+-- Assumes nothing.
+use mathlib.Core.Bool.{Bool, true, false, cond}
+use mathlib.Core.Path.{_≡_, refl, sym, _∙_, ap}
+use lib.Dec.{eqb}
+use borrow.Author.Tests.{eqb-true, eqb-false, eq-eqb, ne-eqb}
+use Rattle.knots.specs.Refusal.{orElse}
+use Rattle.knots.specs.declared.refusal.Refusal.{Refusal}
+
+-- where nothing is refused, a row above has not applied
+pub passed : (b : Bool) (r x : Refusal) → (r .number ≡ 0 → ⊥) → cond b r x .number ≡ 0 → (b ≡ false) × (x .number ≡ 0)
+passed true r x n h = absurd (n h)
+passed false r x n h = (refl, h)
+
+-- a call's answer r that is the refusal a: it is handed on, or the next is asked
+pub stop : {r a : Refusal} → r ≡ a → (r .number ≡ 0 → ⊥) → eqb (a .number) 0 ≡ false
+stop {a} e h = ne-eqb (a .number) 0 (λ z. h (ap (λ (x : Refusal). x .number) e ∙ z))
+
+pub skip : {r a : Refusal} → r ≡ a → r .number ≡ 0 → eqb (a .number) 0 ≡ true
+skip {a} e h = eq-eqb (a .number) 0 (sym (ap (λ (x : Refusal). x .number) e) ∙ h)
+
+pub orElse-none : (a b : Refusal) → orElse a b .number ≡ 0 → (a .number ≡ 0) × (b .number ≡ 0)
+orElse-none a b = go (eqb (a .number) 0) refl
+  where
+    go : (t : Bool) → eqb (a .number) 0 ≡ t → cond t b a .number ≡ 0 → (a .number ≡ 0) × (b .number ≡ 0)
+    go true e h = (eqb-true (a .number) 0 e, h)
+    go false e h = absurd (eqb-false (a .number) 0 e h)

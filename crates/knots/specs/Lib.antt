@@ -1,0 +1,8 @@
+pub mod Below
+pub mod Refusal
+pub mod Clear
+pub mod Knots
+pub mod Curve
+pub mod Surface
+pub mod Span
+pub mod Walk

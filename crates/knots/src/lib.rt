@@ -1,0 +1,9 @@
+// Knots, curves and surfaces: refusals, clearing, validation, spans.
+pub mod clear;
+pub mod curve;
+pub mod knots;
+pub mod limits;
+pub mod refusal;
+pub mod span;
+pub mod surface;
+pub mod walk;

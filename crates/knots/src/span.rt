@@ -1,0 +1,115 @@
+// The span of a parameter.
+use crate::knots::knot_refusal;
+use crate::limits::over_long;
+use crate::refusal::Refusal;
+use crate::refusal::refuse;
+use interval::float::is_finite;
+ghost use mathlib.Core.Path.{_≡_};
+ghost use Prim.Native.Nat.{_-_, _<_};
+ghost use lib.ListN.{length};
+ghost use Rattle.knots.specs.Span.{clamped, halved, lastNonempty, spanRefusal, SpanFound, SpanMeets};
+
+// The span of a parameter, or the refusal of the run or of the parameter.
+pub enum SpanAnswer {
+    Span(usize),
+    Refused(Refusal),
+}
+
+// The parameter that is looked up: u, or the nearer end of the domain where u lies outside it. A NaN stays a NaN, a zero keeps its sign.
+pub fn clamp(degree: usize, count: usize, u: f64, knots: &[f64]) -> f64
+    ensures { λ r. ⌜ r ≡ clamped degree count (now (knots .entry)) u ⌝ }
+{
+    if degree < knots.len() {
+        let lo = knots[degree];
+        if u < lo {
+            return lo;
+        }
+    }
+    if count < knots.len() {
+        let hi = knots[count];
+        if u > hi {
+            return hi;
+        }
+    }
+    u
+}
+
+// At the end of the domain: the last nonempty span.
+fn last_span(degree: usize, count: usize, knots: &[f64]) -> usize
+    requires { ⌜ degree < count ⌝ }
+    requires { ⌜ count < length (now knots) ⌝ }
+    ensures { λ r. ⌜ r ≡ lastNonempty degree count (now (knots .entry)) ⌝ }
+{
+    let mut span = count - 1;
+    while span > degree {
+        if knots[span] < knots[span + 1] {
+            return span;
+        }
+        span -= 1;
+    }
+    span
+}
+
+// Before the end: a binary search. Its window halves at each step whatever the knots are.
+fn inner_span(degree: usize, count: usize, v: f64, knots: &[f64]) -> usize
+    requires { ⌜ degree < count ⌝ }
+    requires { ⌜ count < length (now knots) ⌝ }
+    ensures { λ r. ⌜ r ≡ halved (count - degree) (now (knots .entry)) v degree count ⌝ }
+{
+    let mut low = degree;
+    let mut high = count;
+    while high - low > 1 {
+        let mid = (low + high) / 2;
+        if v < knots[mid] {
+            high = mid;
+        } else {
+            low = mid;
+        }
+    }
+    low
+}
+
+// The span of a parameter of a run that was validated before; on any other run what its search finds, and the degree where an index would leave the run.
+pub fn span_of(degree: usize, count: usize, u: f64, knots: &[f64]) -> usize
+    ensures { λ r. ⌜ SpanFound degree count (now (knots .entry)) u r ⌝ }
+{
+    if count <= degree {
+        return degree;
+    }
+    if knots.len() <= count {
+        return degree;
+    }
+    let v = clamp(degree, count, u, knots);
+    if v < knots[count] {
+        return inner_span(degree, count, v, knots);
+    }
+    last_span(degree, count, knots)
+}
+
+// The refusals of find_span: 30, 1 to 7, 12, in this order.
+fn span_refusal(degree: usize, count: usize, knots: &[f64], u: f64) -> Refusal
+    ensures { λ r. ⌜ r ≡ spanRefusal degree count (now (knots .entry)) u ⌝ }
+{
+    if over_long(true, knots) {
+        return refuse(30);
+    }
+    let refusal = knot_refusal(degree, count, knots);
+    if refusal.number != 0 {
+        return refusal;
+    }
+    if !is_finite(u) {
+        return refuse(12);
+    }
+    refuse(0)
+}
+
+// The span of a parameter, for any input. A parameter outside the domain becomes the nearer end.
+pub fn find_span(degree: usize, count: usize, knots: &[f64], u: f64) -> SpanAnswer
+    ensures { λ r. ⌜ SpanMeets degree count (now (knots .entry)) u r ⌝ }
+{
+    let refusal = span_refusal(degree, count, knots, u);
+    if refusal.number != 0 {
+        return SpanAnswer::Refused(refusal);
+    }
+    SpanAnswer::Span(span_of(degree, count, u, knots))
+}
