@@ -197,6 +197,9 @@ le-not x y h = subst T (le-is x y (le-left x y h) (le-right x y h)) h
 pub not-le : (x y : Float) → Number x → Number y → T (not (le x y)) → T (lt y x)
 not-le x y n k h = elim (yes-or-no (lt y x)) [ inl t ↦ t | inr t ↦ absurd (T-not (le x y) h (subst T (sym (le-is x y n k)) t)) ]
 
+pub val-leq : (x y : Float) → T (finite x) → T (finite y) → T (le x y) → val x ≤q val y
+val-leq x y f g h = val-le y x g f (le-not x y h)
+
 -- ---- `==` of finite doubles, both zeros one number
 level-sym : (s : Bool) (a : ℕ) (t : Bool) (b : ℕ) → T (level s a t b) → T (level t b s a)
 level-sym s a t b h =

@@ -1,0 +1,338 @@
+-- THE THEOREM. Where bound_curve answers with bounds, each coordinate's interval holds the exact coordinate of the curve at every fraction of the range, and the derivative's interval the exact derivative. Assumes nothing.
+use mathlib.Core.Path.{_≡_, refl, sym, _∙_, ap, ap₂, subst}
+use mathlib.Core.Bool.{Bool, true, false, not, _&&_, _||_, cond}
+use mathlib.Core.Logic.{_≢_, _⊎_, inl, inr}
+use mathlib.Core.List.{List, [], _∷_}
+use Prim.Native.Nat.{ℕ, zero, suc, _+_, _-_, _*_, _/_, _%_, _≤_, _<_}
+use native.Mathlib.Nat.{div-add-mod'}
+use native.Mathlib.Numerals.{add-one}
+use native.Mathlib.Omega.{arith}
+use lib.Dec.{T, ltb, leb, eqb}
+use lib.ListN.{length}
+use lib.Ieee.{Float, nan, inf, fin, lt, le}
+use lib.Ieee.Scale.{finite}
+use borrow.Author.Tests.{ltb-false, eqb-true, eqb-false, not-true, not-false}
+use Rattle.doubles.proofs.Enclose.{lower-le}
+use Rattle.doubles.proofs.Value.{val-one}
+use Rattle.doubles.specs.Run.{at}
+use Rattle.doubles.specs.Value.{Lower, Upper, val, zero+, one+}
+use Rattle.exact.proofs.Curve.{exact-work, divisor-low, divisor-le-1, weight-pos}
+use Rattle.exact.proofs.DeBoor.{mono-of-steps}
+use Rattle.exact.proofs.Field.{qring, q-ring, ≤-refl, ≤-trans, <-≤-trans, lt-of-le-ne, pos-ne, mul-pos, inv-nonneg, inv-ne-0, div-is}
+use Rattle.exact.proofs.Jets.{dwork, dexact-work}
+use Rattle.exact.proofs.Source.{work}
+use Rattle.exact.specs.Rational.{ℚ, _+q_, _-q_, _*q_, _/q_, inv, q0, q1, _≤q_, _<q_}
+use Rattle.exact.specs.Spline.{Knots, exact, whole, dexact, quotient}
+use Rattle.interval.specs.Inside.{Inside}
+use Rattle.interval.specs.Ops.{pointOf, newOf}
+use Rattle.interval.specs.declared.Interval.{Interval}
+use Rattle.interval.specs.declared.New.{New}
+use Rattle.interval.specs.declared.New.the-variants.{Made, Nothing}
+use Rattle.bounds.specs.declared.jet.Jet.{Jet}
+use Rattle.bounds.specs.declared.net.Control.{Control}
+use Rattle.bounds.specs.declared.net.NetAnswer.{NetAnswer}
+use Rattle.bounds.specs.declared.net.NetAnswer.the-variants as N
+use Rattle.bounds.specs.declared.start.Point.{Point}
+use Rattle.bounds.specs.declared.start.Place.{Place}
+use Rattle.bounds.specs.declared.start.Weights.{Weights}
+use Rattle.bounds.specs.declared.start.Weights.the-variants as W
+use Rattle.bounds.specs.declared.cartesian.BoundAnswer.{BoundAnswer}
+use Rattle.bounds.specs.declared.cartesian.BoundAnswer.the-variants as B
+use Rattle.bounds.specs.Net.{orElse, mixJet, mixOf, netOf, refusalLevels, lastBy, deboorOf}
+use Rattle.bounds.specs.Start.{weightsOf, maxOf, minOf, startAt, placeControl, refusalUp, pointAt, placeRefused}
+use Rattle.bounds.specs.Cartesian.{cartesianOf}
+use Rattle.bounds.specs.Range.{weightAt, spanOver, rangeRefusal}
+use Rattle.bounds.specs.Curve.{parameterOf, refuse, netBy, rangeIs, weightsAre, spanBound, boundOf}
+use Rattle.bounds.proofs.JetIn.{JetIn, jet-eq, in-one, in-zero}
+use Rattle.bounds.proofs.NetIn.{orElse-0, none, Family, along, across, nowhere, net-in}
+use Rattle.bounds.proofs.WeightIn.{Cut, Cuts, Largest, Least, largest, least, range-in, ControlIn, FinitePoint, place-in, control-in, up-0}
+use Rattle.bounds.proofs.CartesianIn.{Three, Encloses, Boxes, over, cartesian-in, boxes-eq, three-eq}
+use Rattle.bounds.proofs.SpanIn.{SpanValid, span-valid, InSpan, in-span, weight-finite, weight-positive}
+use Rattle.bounds.specs.Answer.{boundsOf, boundedOf}
+use Rattle.bounds.specs.Holds.{weight, Holding, Holds}
+use Rattle.bounds.specs.declared.answer.NurbsBounds.{NurbsBounds}
+use Rattle.bounds.specs.declared.answer.Bounded.{Bounded}
+use Rattle.bounds.specs.declared.answer.Bounded.the-variants as C
+use Rattle.knots.specs.declared.refusal.Refusal.{Refusal}
+use Rattle.knots.specs.Curve.{countOf, curveRefusal, ValidCurve}
+use Rattle.knots.proofs.Curves.{valid-curve}
+use Rattle.doubles.proofs.Tests.{T-of}
+use Rattle.doubles.specs.Run.{valAt}
+use Rattle.bounds.specs.Curve.{unless}
+
+-- coordinate k of point i
+abbrev pub X : List Float → ℕ → ℚ
+X ps i = val (at ps (i * 3))
+
+abbrev pub Y : List Float → ℕ → ℚ
+Y ps i = val (at ps (i * 3 + 1))
+
+abbrev pub Z : List Float → ℕ → ℚ
+Z ps i = val (at ps (i * 3 + 2))
+
+-- ---- helpers
+
+refuse-in : (n : ℕ) (a : BoundAnswer) (X Y Z : Three) → (n ≡ 0 → Boxes a X Y Z) → Boxes (refuse n a) X Y Z
+refuse-in zero a X Y Z h = h refl
+refuse-in (suc n) a X Y Z h = tt
+
+low-of : (x : Float) (t : ℚ) → T (finite x) → val x ≤q t → Lower x t
+low-of nan t f h = absurd f
+low-of (inf s) t f h = absurd f
+low-of (fin s m e) t f h = h
+
+high-of : (x : Float) (t : ℚ) → T (finite x) → t ≤q val x → Upper x t
+high-of nan t f h = absurd f
+high-of (inf s) t f h = absurd f
+high-of (fin s m e) t f h = h
+
+pub param-in : (lo hi : Float) (t : ℚ) → T (finite lo) → T (finite hi) → val lo ≤q t → t ≤q val hi → JetIn (parameterOf (record { lo = lo; hi = hi })) t q1 q0
+unfolding parameterOf
+param-in lo hi t f g a b = record { value = record { low = low-of lo t f a; high = high-of hi t g b }; du = in-one; dv = in-zero }
+
+pub mix-x : (α : Jet) (a b : Control) → mixOf α a b .x ≡ mixJet α (a .x) (b .x)
+unfolding mixOf
+mix-x α a b = refl
+
+pub mix-y : (α : Jet) (a b : Control) → mixOf α a b .y ≡ mixJet α (a .y) (b .y)
+unfolding mixOf
+mix-y α a b = refl
+
+pub mix-z : (α : Jet) (a b : Control) → mixOf α a b .z ≡ mixJet α (a .z) (b .z)
+unfolding mixOf
+mix-z α a b = refl
+
+pub mix-w : (α : Jet) (a b : Control) → mixOf α a b .w ≡ mixJet α (a .w) (b .w)
+unfolding mixOf
+mix-w α a b = refl
+
+-- ---- on one span
+
+module _ (p s : ℕ) (ks ps ws : List Float) (r : Bool) (lo hi : Float) (Va : ValidCurve p ks ps r ws) (Sp : SpanValid p (countOf ps) ks lo hi s) (t : ℚ) (from : val lo ≤q t) (upto : t ≤q val hi) where
+  abbrev n : ℕ
+  n = countOf ps
+
+  abbrev b : ℕ
+  b = s - p
+
+  I : InSpan p (countOf ps) ks s t
+  I = in-span p (countOf ps) ks lo hi s (Va .knots) Sp t from upto
+
+  base : s - p + p ≡ s
+  base = I .base
+
+  fits : s < countOf ps
+  fits = I .fits
+
+  room : s + p < length ks
+  room = I .room
+
+  finites : (i : ℕ) → i < length ks → T (finite (at ks i))
+  finites = I .finites
+
+  knots : Knots (valAt ks) (length ks) s
+  knots = I .knots
+
+  above : valAt ks s ≤q t
+  above = I .above
+
+  below : t ≤q valAt ks (suc s)
+  below = I .below
+
+  heavy : (i : ℕ) → i < countOf ps → T (finite (weightAt r ws i))
+  heavy = weight-finite (countOf ps) ps r ws (Va .controls)
+
+  positive : (i : ℕ) → i < countOf ps → q0 <q val (weightAt r ws i)
+  positive = weight-positive (countOf ps) ps r ws (Va .controls)
+
+  -- the active weights
+  abbrev w : ℕ → Float
+  w m = weightAt r ws (s - p + m)
+
+  least-is : Least w (suc p) (minOf w (suc p))
+  least-is = let h = fits in let e = base in least w p (λ i l. heavy (s - p + i) (omega arith)) (λ i l. positive (s - p + i) (omega arith))
+
+  most-is : Largest w (suc p) (maxOf w (suc p))
+  most-is = let h = fits in let e = base in largest w (suc p) (λ i l. heavy (s - p + i) (omega arith))
+
+  abbrev a : ℚ
+  a = val (minOf w (suc p))
+
+  abbrev σ : ℚ
+  σ = val (maxOf w (suc p))
+
+  a-pos : q0 <q a
+  a-pos = least-is .positive
+
+  lows : (m : ℕ) → m ≤ p → a ≤q weight r ws (s - p + m)
+  lows m l = least-is .all m (omega arith)
+
+  highs : (m : ℕ) → m ≤ p → weight r ws (s - p + m) ≤q σ
+  highs m l = most-is .all m (omega arith)
+
+  σ-pos : q0 <q σ
+  σ-pos = <-≤-trans a-pos (≤-trans (lows 0 (omega arith)) (highs 0 (omega arith)))
+
+  point-finite : (i : ℕ) → i < countOf ps → FinitePoint (pointAt ps i)
+  unfolding pointAt
+  point-finite i l =
+      let e = Va .triples in
+      let f : (k : ℕ) → k < length ps → T (finite (at ps k)) = λ k l. T-of (finite (at ps k)) (Va .controls .coordinates k l) in
+      record { x = f (i * 3) (omega arith); y = f (i * 3 + 1) (omega arith); z = f (i * 3 + 2) (omega arith) }
+
+  -- the exact homogeneous net
+  abbrev H : (ℕ → ℚ) → ℕ → ℚ
+  H P m = (P (s - p + m) -q P (s - p)) *q (weight r ws (s - p + m) /q σ)
+
+  abbrev HW : ℕ → ℚ
+  HW m = weight r ws (s - p + m) /q σ
+
+  abbrev wh : ℚ
+  wh = work (valAt ks) t p s HW p p
+
+  quot-pos : q0 <q a /q σ
+  quot-pos = subst (λ z. q0 <q z) (sym (div-is a σ)) (mul-pos a-pos (lt-of-le-ne (inv-nonneg σ-pos) (λ e. inv-ne-0 (pos-ne σ-pos) (sym e))))
+
+  wh-low : a /q σ ≤q wh
+  wh-low = divisor-low knots p b n base fits room above below (weight r ws) a σ σ-pos lows
+
+  wh-high : wh ≤q q1
+  wh-high = divisor-le-1 knots p b n base fits room above below (weight r ws) σ σ-pos highs
+
+  sum-ne : whole (valAt ks) t s p n (weight r ws) ≢ q0
+  sum-ne = pos-ne (weight-pos knots p b n base fits room above below (weight r ws) a a-pos lows)
+
+  point-eq : (P : ℕ → ℚ) → work (valAt ks) t p s (H P) p p /q wh +q P b ≡ exact (valAt ks) t s p n (weight r ws) P
+  point-eq P = sym (exact-work knots p b n base fits room t (weight r ws) P (P b) σ (pos-ne σ-pos) sum-ne)
+
+  deriv-eq : (P : ℕ → ℚ) → quotient (work (valAt ks) t p s (H P) p p) (dwork (valAt ks) t p s (H P) (λ m. q0) p p) wh (dwork (valAt ks) t p s HW (λ m. q0) p p) ≡ dexact (valAt ks) t s p n (weight r ws) P
+  deriv-eq P = sym (dexact-work knots p b n base fits room t (weight r ws) P (P b) σ (pos-ne σ-pos) sum-ne)
+
+  no-dv : (A B : ℚ) → quotient A q0 B q0 ≡ q0
+  unfolding quotient
+  no-dv A B = q-ring (A ∷ inv B ∷ []) (search qring depth 20) tt
+
+  abbrev EX : (ℕ → ℚ) → Three
+  EX P = record { value = exact (valAt ks) t s p n (weight r ws) P; du = dexact (valAt ks) t s p n (weight r ws) P; dv = q0 }
+
+  -- a homogeneous number with its derivatives
+  abbrev HT : (ℕ → ℚ) → Three
+  HT C = record { value = work (valAt ks) t p s C p p; du = dwork (valAt ks) t p s C (λ m. q0) p p; dv = q0 }
+
+  exact-eq : (P : ℕ → ℚ) → over (HT (H P)) (HT HW) (P b) ≡ EX P
+  exact-eq P = three-eq (over (HT (H P)) (HT HW) (P b)) (EX P) (point-eq P) (deriv-eq P) (no-dv (work (valAt ks) t p s (H P) p p) wh)
+
+  abbrev Good : BoundAnswer → Type 0
+  Good A = Boxes A (EX (X ps)) (EX (Y ps)) (EX (Z ps))
+
+  module _ (scale : Float) (bound : Interval) (cut : Cut (minOf w (suc p)) (maxOf w (suc p)) scale bound) (clear : refusalUp (startAt ps ws r (s - p) scale) (p + 1) 0 ≡ 0) where
+    abbrev net : ℕ → Control
+    net m = placeControl (startAt ps ws r (s - p) scale m)
+
+    start-in : (m : ℕ) → m ≤ p → ControlIn (net m) (H (X ps) m) (H (Y ps) m) (H (Z ps) m) (HW m)
+    unfolding startAt pointAt
+    start-in m l =
+        let e = cut .scaled in
+        let h = fits in
+        let k = base in
+        let z : 0 + m ≡ m = omega arith in
+        subst (λ c. ControlIn (placeControl (startAt ps ws r (s - p) c m)) (H (X ps) m) (H (Y ps) m) (H (Z ps) m) (HW m)) (sym e)
+        (control-in (startAt ps ws r (s - p) (maxOf w (suc p)) m)
+        (place-in (pointAt ps (s - p + m)) (pointAt ps (s - p)) (weightAt r ws (s - p + m)) (maxOf w (suc p)) (point-finite (s - p + m) (omega arith)) (point-finite (s - p) (omega arith)) (heavy (s - p + m) (omega arith)) (most-is .held) (pos-ne σ-pos))
+        (subst (λ c. placeRefused (startAt ps ws r (s - p) c m) ≡ 0) e (subst (λ i. placeRefused (startAt ps ws r (s - p) scale i) ≡ 0) z (up-0 (startAt ps ws r (s - p) scale) (p + 1) 0 clear m (omega arith)))))
+
+    bound-in : Inside bound wh
+    bound-in = record {
+      low = lower-le (bound .lo) (cut .low) wh-low;
+      high = subst (λ x. Upper x wh) (sym (cut .one)) (subst (λ x. wh ≤q x) (sym val-one) wh-high);
+    }
+
+    run : (j : Jet) → JetIn j t q1 q0 → refusalLevels ks p s j 1 p ≡ 0 → (sel : Control → Jet) → ((α : Jet) (a b : Control) → sel (mixOf α a b) ≡ mixJet α (sel a) (sel b))
+        → (C : ℕ → ℚ) → ((m : ℕ) → m ≤ p → JetIn (sel (net m)) (C m) q0 q0) → JetIn (sel (netOf ks p s j net p p)) (work (valAt ks) t p s C p p) (dwork (valAt ks) t p s C (λ m. q0) p p) q0
+    unfolding dwork
+    run j h e sel mixes C start = net-in ks p s j finites knots (Sp .span .first) room t q1 q0 h sel mixes net C (dwork (valAt ks) t p s C (λ m. q0)) (λ l j. q0)
+        (along (valAt ks) t p s C (λ m. q0)) (nowhere (valAt ks) t p s C) start (none ks p s j e) p p (omega arith)
+
+    levels-in : (j : Jet) → JetIn j t q1 q0 → (k : ℕ) → refusalLevels ks p s j 1 p ≡ k → Good (netBy (pointAt ps (s - p)) bound (lastBy k (netOf ks p s j net p p)))
+    unfolding lastBy pointAt
+    levels-in j h (suc k) e = tt
+    levels-in j h zero e =
+        boxes-eq (cartesianOf (netOf ks p s j net p p) (pointAt ps (s - p)) bound) (over (HT (H (X ps))) (HT HW) (X ps b)) (over (HT (H (Y ps))) (HT HW) (Y ps b)) (over (HT (H (Z ps))) (HT HW) (Z ps b))
+        (EX (X ps)) (EX (Y ps)) (EX (Z ps)) (exact-eq (X ps)) (exact-eq (Y ps)) (exact-eq (Z ps))
+        (cartesian-in (netOf ks p s j net p p) (pointAt ps (s - p)) bound (HT (H (X ps))) (HT (H (Y ps))) (HT (H (Z ps))) (HT HW)
+        (run j h e (λ c. c .x) mix-x (H (X ps)) (λ m l. start-in m l .x))
+        (run j h e (λ c. c .y) mix-y (H (Y ps)) (λ m l. start-in m l .y))
+        (run j h e (λ c. c .z) mix-z (H (Z ps)) (λ m l. start-in m l .z))
+        (run j h e (λ c. c .w) mix-w HW (λ m l. start-in m l .w))
+        bound-in (pos-ne (<-≤-trans quot-pos wh-low)) (point-finite (s - p) (let h = fits in let k = base in omega arith)))
+
+    range-is-in : Good (rangeIs p s ks ps ws r lo hi scale bound (newOf lo hi))
+    unfolding newOf deboorOf
+    range-is-in = go (le lo hi)
+      where
+        go : (x : Bool) → Good (rangeIs p s ks ps ws r lo hi scale bound (cond x (Made (record { lo = lo; hi = hi })) Nothing))
+        go true = levels-in (parameterOf (record { lo = lo; hi = hi })) (param-in lo hi t (Sp .lo-finite) (Sp .hi-finite) from upto) (refusalLevels ks p s (parameterOf (record { lo = lo; hi = hi })) 1 p) refl
+        go false = tt
+
+  pub span-bound-in : Good (spanBound p s ks ps ws r lo hi)
+  unfolding spanBound weightsOf
+  span-bound-in = go (weightsOf w (p + 1)) (subst (λ k. Cuts (minOf w (suc p)) (maxOf w (suc p)) (weightsOf w k)) (sym (add-one p)) (range-in (minOf w (suc p)) (maxOf w (suc p)) (least-is .held) (most-is .held) (pos-ne σ-pos)))
+    where
+      go : (A : Weights) → Cuts (minOf w (suc p)) (maxOf w (suc p)) A → Good (weightsAre p s ks ps ws r lo hi A)
+      go (W.Are scale bound) c = refuse-in (refusalUp (startAt ps ws r (s - p) scale) (p + 1) 0) (rangeIs p s ks ps ws r lo hi scale bound (newOf lo hi)) (EX (X ps)) (EX (Y ps)) (EX (Z ps)) (range-is-in scale bound c)
+      go (W.Refused k) c = tt
+
+-- ---- the whole answer
+
+-- the exact coordinate and its derivative at t in span s; 0 in the other direction
+abbrev pub at-t : ℕ → List Float → ℕ → List Float → Bool → ℕ → ℚ → (ℕ → ℚ) → Three
+at-t p ks n ws r s t P = record { value = exact (valAt ks) t s p n (weight r ws) P; du = dexact (valAt ks) t s p n (weight r ws) P; dv = q0 }
+
+-- the boxes of an answer, by point and derivatives
+abbrev pub Boxed : Bounded → Three → Three → Three → Type 0
+Boxed (C.Are b) X Y Z =
+    Holding (b .point) (X .value) (Y .value) (Z .value) × Holding (b .du) (X .du) (Y .du) (Z .du) × Holding (b .dv) (X .dv) (Y .dv) (Z .dv)
+Boxed (C.Refused r) X Y Z = Unit
+
+boxed : (A : BoundAnswer) (X Y Z : Three) → Boxes A X Y Z → Boxed (boundedOf A) X Y Z
+unfolding boundsOf
+boxed (B.Are b) X Y Z h = (
+  record { x = h .x .value; y = h .y .value; z = h .z .value },
+  record { x = h .x .du; y = h .y .du; z = h .z .du },
+  record { x = h .x .dv; y = h .y .dv; z = h .z .dv },
+)
+boxed (B.Refused n) X Y Z h = tt
+
+unless-in : (f : Refusal) (A : Bounded) (X Y Z : Three) → (f .number ≡ 0 → Boxed A X Y Z) → Boxed (unless f A) X Y Z
+unless-in f A X Y Z h = go (eqb (f .number) 0) (eqb-true (f .number) 0)
+  where
+    go : (b : Bool) → (b ≡ true → f .number ≡ 0) → Boxed (cond b A (C.Refused f)) X Y Z
+    go true e = h (e refl)
+    go false e = tt
+
+-- bounds hold the exact point and its derivatives at each t of the range
+pub bound-holds : (p : ℕ) (ks ps ws : List Float) (r : Bool) (lo hi : Float) (t : ℚ) → val lo ≤q t → t ≤q val hi →
+    let e = at-t p ks (countOf ps) ws r (spanOver p (countOf ps) ks lo hi) t in
+    Boxed (boundOf p ks ps r ws lo hi) (e (X ps)) (e (Y ps)) (e (Z ps))
+unfolding boundOf
+bound-holds p ks ps ws r lo hi t from upto =
+    let s = spanOver p (countOf ps) ks lo hi in
+    let e = at-t p ks (countOf ps) ws r s t in
+    let A = spanBound p s ks ps ws r lo hi in
+    unless-in (curveRefusal p ks ps r ws) (unless (rangeRefusal p (countOf ps) s lo hi) (boundedOf A)) (e (X ps)) (e (Y ps)) (e (Z ps))
+    (λ h. let Va = valid-curve p ks ps r ws h in
+    unless-in (rangeRefusal p (countOf ps) s lo hi) (boundedOf A) (e (X ps)) (e (Y ps)) (e (Z ps))
+    (λ k. let l = Va .knots .count in
+    boxed A (e (X ps)) (e (Y ps)) (e (Z ps)) (span-bound-in p s ks ps ws r lo hi Va (span-valid p (countOf ps) ks lo hi (omega arith) k) t from upto)))
+
+-- both promises of bound_curve
+pub both-hold : (p : ℕ) (ks ps ws : List Float) (r : Bool) (lo hi : Float) (A : Bounded) → A ≡ boundOf p ks ps r ws lo hi → (A ≡ boundOf p ks ps r ws lo hi) × Holds p ks ps r ws lo hi A
+both-hold p ks ps ws r lo hi A e = (
+  e,
+  λ t from upto b f.
+      let z = at-t p ks (countOf ps) ws r (spanOver p (countOf ps) ks lo hi) t in
+      point b (z (X ps)) (z (Y ps)) (z (Z ps)) (subst (λ (a : Bounded). Boxed a (z (X ps)) (z (Y ps)) (z (Z ps))) (sym e ∙ f) (bound-holds p ks ps ws r lo hi t from upto)),
+)
+  where
+    point : (b : NurbsBounds) (x y z : Three) → Boxed (C.Are b) x y z → Holding (b .point) (x .value) (y .value) (z .value)
+    point b x y z h = h .0

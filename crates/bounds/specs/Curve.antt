@@ -1,0 +1,66 @@
+-- The bounds of a curve: the answer of bound_curve. Definitions only.
+use Prim.Native.Nat.{ℕ, zero, suc, _+_, _-_, _*_, _≤_, _<_}
+use mathlib.Core.Bool.{Bool, true, false, cond}
+use mathlib.Core.Path.{_≡_}
+use mathlib.Core.List.{List}
+use lib.ListN.{length}
+use lib.Ieee.{Float}
+use Rattle.interval.specs.declared.Interval.{Interval}
+use Rattle.interval.specs.declared.New.{New}
+use Rattle.interval.specs.declared.New.the-variants.{Made, Nothing}
+use Rattle.doubles.specs.Value.{zero+, one+}
+use Rattle.interval.specs.Ops.{pointOf, newOf}
+use Rattle.bounds.specs.declared.jet.Jet.{Jet}
+use Rattle.bounds.specs.declared.net.NetAnswer.{NetAnswer}
+use Rattle.bounds.specs.declared.net.NetAnswer.the-variants as N
+use Rattle.bounds.specs.declared.start.Point.{Point}
+use Rattle.bounds.specs.declared.start.Weights.{Weights}
+use Rattle.bounds.specs.declared.start.Weights.the-variants as W
+use Rattle.bounds.specs.declared.cartesian.BoundAnswer.{BoundAnswer}
+use Rattle.bounds.specs.declared.cartesian.BoundAnswer.the-variants as B
+use Rattle.bounds.specs.Net.{deboorOf}
+use Rattle.bounds.specs.Start.{weightsOf, startAt, placeControl, refusalUp, pointAt}
+use Rattle.bounds.specs.Cartesian.{cartesianOf}
+use Rattle.bounds.specs.Range.{weightAt, spanOver, rangeRefusal}
+use Rattle.bounds.specs.Answer.{boundedOf}
+use Rattle.bounds.specs.declared.answer.Bounded.{Bounded}
+use Rattle.bounds.specs.declared.answer.Bounded.the-variants.{Refused}
+use Rattle.knots.specs.declared.refusal.Refusal.{Refusal}
+use Rattle.knots.specs.Curve.{countOf, curveRefusal}
+use lib.Dec.{eqb}
+
+unfoldable pub parameterOf : Interval → Jet
+parameterOf range = record { v = range; du = pointOf one+; dv = pointOf zero+ }
+
+-- a refusal that is not 0, or the answer
+abbrev pub refuse : ℕ → BoundAnswer → BoundAnswer
+refuse zero a = a
+refuse (suc n) a = B.Refused (suc n)
+
+abbrev pub netBy : Point → Interval → NetAnswer → BoundAnswer
+netBy o bound (N.Is h) = cartesianOf h o bound
+netBy o bound (N.Refused n) = B.Refused n
+
+module _ (p s : ℕ) (ks ps ws : List Float) (r : Bool) (lo hi : Float) where
+  abbrev pub rangeIs : Float → Interval → New → BoundAnswer
+  rangeIs scale bound (Made i) = netBy (pointAt ps (s - p)) bound (deboorOf ks p s (parameterOf i) (λ m. placeControl (startAt ps ws r (s - p) scale m)))
+  rangeIs scale bound Nothing = B.Refused 24
+
+  abbrev pub weightsAre : Weights → BoundAnswer
+  weightsAre (W.Are scale bound) = refuse (refusalUp (startAt ps ws r (s - p) scale) (p + 1) 0) (rangeIs scale bound (newOf lo hi))
+  weightsAre (W.Refused n) = B.Refused n
+
+  -- the bounds on span s
+  unfoldable pub spanBound : BoundAnswer
+  spanBound = weightsAre (weightsOf (λ m. weightAt r ws (s - p + m)) (p + 1))
+
+-- a refusal, or the answer where there is none
+abbrev pub unless : Refusal → Bounded → Bounded
+unless r a = cond (eqb (r .number) 0) a (Refused r)
+
+-- the bounds of a curve, or the first refusal: validity, 31, 24, 25, then those of the steps
+unfoldable pub boundOf : ℕ → List Float → List Float → Bool → List Float → Float → Float → Bounded
+boundOf p ks ps r ws lo hi =
+    unless (curveRefusal p ks ps r ws)
+    (unless (rangeRefusal p (countOf ps) (spanOver p (countOf ps) ks lo hi) lo hi)
+    (boundedOf (spanBound p (spanOver p (countOf ps) ks lo hi) ks ps ws r lo hi)))

@@ -1,0 +1,44 @@
+-- The promise that the box holds the point: for every fraction t of the closed range the exact point on the span taken lies in the three intervals.
+use mathlib.Core.Bool.{Bool}
+use mathlib.Core.List.{List}
+use mathlib.Core.Path.{_≡_}
+use Prim.Native.Nat.{ℕ, zero, suc, _+_, _*_}
+use lib.Ieee.{Float}
+use Rattle.exact.specs.Rational.{ℚ, _≤q_}
+use Rattle.exact.specs.Spline.{exact}
+use Rattle.doubles.specs.Value.{val}
+use Rattle.doubles.specs.Run.{at, valAt}
+use Rattle.interval.specs.Inside.{Inside}
+use Rattle.knots.specs.Curve.{countOf}
+use Rattle.bounds.specs.Range.{spanOver, weightAt}
+use Rattle.bounds.specs.declared.answer.Triple.{Triple}
+use Rattle.bounds.specs.declared.answer.NurbsBounds.{NurbsBounds}
+use Rattle.bounds.specs.declared.answer.Bounded.{Bounded}
+use Rattle.bounds.specs.declared.answer.Bounded.the-variants.{Are}
+
+-- where coordinate k of point i stands
+abbrev pub place : ℕ → ℕ → ℕ
+place i zero = i * 3
+place i (suc k) = i * 3 + suc k
+
+-- coordinate k of point i, and its weight
+abbrev pub coordinate : List Float → ℕ → ℕ → ℚ
+coordinate ps k i = valAt ps (place i k)
+
+abbrev pub weight : Bool → List Float → ℕ → ℚ
+weight r ws i = val (weightAt r ws i)
+
+-- the exact coordinate k at t on span s
+abbrev pub pointAt : ℕ → List Float → List Float → Bool → List Float → ℕ → ℚ → ℕ → ℚ
+pointAt p ks ps r ws s t k = exact (valAt ks) t s p (countOf ps) (weight r ws) (coordinate ps k)
+
+pub record Holding (b : Triple) (e f g : ℚ) : Type 0 where
+  pub x : Inside (b .x) e
+  pub y : Inside (b .y) f
+  pub z : Inside (b .z) g
+
+abbrev pub Holds : ℕ → List Float → List Float → Bool → List Float → Float → Float → Bounded → Type 0
+Holds p ks ps r ws lo hi A =
+    (t : ℚ) → val lo ≤q t → t ≤q val hi → (b : NurbsBounds) → A ≡ Are b →
+    let e = pointAt p ks ps r ws (spanOver p (countOf ps) ks lo hi) t in
+    Holding (b .point) (e 0) (e 1) (e 2)

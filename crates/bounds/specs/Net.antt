@@ -1,0 +1,92 @@
+-- De Boor's levels over jets, with the source's operations. Definitions only.
+use mathlib.Core.Path.{_≡_}
+use mathlib.Core.Bool.{Bool, true, false, cond}
+use mathlib.Core.List.{List}
+use Prim.Native.Nat.{ℕ, zero, suc, _+_, _-_, _≤_, _<_}
+use lib.Dec.{leb}
+use lib.ListN.{length, getD}
+use lib.Ieee.{Float}
+use Rattle.doubles.specs.Run.{at}
+use Rattle.doubles.specs.Value.{zero+, one+}
+use Rattle.interval.specs.Ops.{pointOf, addOf, subOf, mulOf, divideOf}
+use Rattle.interval.specs.declared.Interval.{Interval}
+use Rattle.interval.specs.declared.Quotient.{Quotient}
+use Rattle.interval.specs.declared.Quotient.the-variants.{Is, HoldsZero, Unbounded}
+use Rattle.bounds.specs.declared.jet.Jet.{Jet}
+use Rattle.bounds.specs.declared.net.Control.{Control}
+use Rattle.bounds.specs.declared.jet.JetAnswer.{JetAnswer}
+use Rattle.bounds.specs.declared.jet.JetAnswer.the-variants as F
+use Rattle.bounds.specs.declared.net.Net.{Net}
+use Rattle.bounds.specs.declared.net.NetAnswer.{NetAnswer}
+use Rattle.bounds.specs.declared.net.NetAnswer.the-variants as N
+use Rattle.bounds.specs.Jet.{constantOf, jetSub, jetAdd, jetMul, jetScale}
+
+-- the share by the quotient of its denominator
+abbrev pub shareBy : Jet → Interval → Quotient → JetAnswer
+shareBy t l (Is q) = F.Is (jetScale (jetSub t (constantOf l)) q)
+shareBy t l HoldsZero = F.Refused 26
+shareBy t l Unbounded = F.Refused 28
+
+unfoldable pub shareOf : Jet → Float → Float → JetAnswer
+shareOf t left right = shareBy t (pointOf left) (divideOf (pointOf one+) (subOf (pointOf right) (pointOf left)))
+
+unfoldable pub mixJet : Jet → Jet → Jet → Jet
+mixJet alpha a b = jetAdd (jetMul (jetSub (constantOf (pointOf one+)) alpha) a) (jetMul alpha b)
+
+unfoldable pub mixOf : Jet → Control → Control → Control
+mixOf alpha a b = record { x = mixJet alpha (a .x) (b .x); y = mixJet alpha (a .y) (b .y); z = mixJet alpha (a .z) (b .z); w = mixJet alpha (a .w) (b .w) }
+
+abbrev pub refusedBy : JetAnswer → ℕ
+refusedBy (F.Is a) = 0
+refusedBy (F.Refused n) = n
+
+-- two points of the net under a share. A share that is refused leaves the right one
+abbrev pub mixBy : JetAnswer → Control → Control → Control
+mixBy (F.Is alpha) a b = mixOf alpha a b
+mixBy (F.Refused n) a b = b
+
+-- the first that is not 0
+abbrev pub orElse : ℕ → ℕ → ℕ
+orElse zero n = n
+orElse (suc m) n = suc m
+
+module _ (ks : List Float) (p s : ℕ) (t : Jet) where
+  -- the share at place j of level l
+  unfoldable pub shareAt : ℕ → ℕ → JetAnswer
+  shareAt l j = shareOf t (at ks (s - p + j)) (at ks (s + j - l + 1))
+
+  -- place j after level l, from the places before it
+  unfoldable pub levelOf : ℕ → (ℕ → Control) → ℕ → Control
+  levelOf l c j = cond (leb l j) (mixBy (shareAt l j) (c (j - 1)) (c j)) (c j)
+
+  -- the first refusal of k places of level l, from j down
+  unfoldable pub refusalFrom : ℕ → ℕ → ℕ → ℕ
+  refusalFrom l zero j = 0
+  refusalFrom l (suc k) j = orElse (refusedBy (shareAt l j)) (refusalFrom l k (j - 1))
+
+  -- place j after l levels, from the net c
+  unfoldable pub netOf : (ℕ → Control) → ℕ → ℕ → Control
+  netOf c zero j = c j
+  netOf c (suc l) j = levelOf (suc l) (netOf c l) j
+
+  -- the first refusal of k levels, from level l up
+  unfoldable pub refusalLevels : ℕ → ℕ → ℕ
+  refusalLevels l zero = 0
+  refusalLevels l (suc k) = orElse (refusalFrom l (p + 1 - l) p) (refusalLevels (l + 1) k)
+
+-- what one level leaves; the default d is never read
+pub record LevelDone (ks : List Float) (p s : ℕ) (t : Jet) (l : ℕ) (before : List Control) (after : Net) : Type 0 where
+  pub long : length (after .work) ≡ 65
+  pub refused : after .refused ≡ refusalFrom ks p s t l (p + 1 - l) p
+  pub done : after .refused ≡ 0 → (d : Control) (i : ℕ) → i ≤ p → getD (after .work) i d ≡ levelOf ks p s t l (λ k. getD before k d) i
+
+-- the answer of all levels
+unfoldable pub lastBy : ℕ → Control → NetAnswer
+lastBy zero c = N.Is c
+lastBy (suc n) c = N.Refused (suc n)
+
+unfoldable pub deboorOf : List Float → ℕ → ℕ → Jet → (ℕ → Control) → NetAnswer
+deboorOf ks p s t c = lastBy (refusalLevels ks p s t 1 p) (netOf ks p s t c p p)
+
+abbrev pub NetMeets : List Float → ℕ → ℕ → Jet → List Control → NetAnswer → Type 0
+NetMeets ks p s t work r = (d : Control) → r ≡ deboorOf ks p s t (λ k. getD work k d)

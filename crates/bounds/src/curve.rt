@@ -1,0 +1,100 @@
+// Bounds of a curve on one nonempty span.
+use crate::answer::Bounded;
+use crate::answer::answer_of;
+use crate::cartesian::BoundAnswer;
+use crate::cartesian::cartesian;
+use crate::jet::Jet;
+use crate::net::NetAnswer;
+use crate::net::deboor;
+use crate::range::range_refusal;
+use crate::range::span_over;
+use crate::start::Weights;
+use crate::start::point_at;
+use crate::start::start;
+use crate::start::weights_of;
+use interval::Interval;
+use interval::New;
+use knots::curve::curve_refusal;
+ghost use mathlib.Core.Path.{_≡_};
+ghost use mathlib.Core.Bool.{true};
+ghost use Prim.Native.Nat.{_+_, _*_, _≤_, _<_};
+ghost use lib.ListN.{length};
+ghost use Rattle.bounds.specs.Curve.{parameterOf, boundOf, spanBound};
+ghost use Rattle.bounds.specs.Holds.{Holds};
+
+// The parameter as a jet.
+pub fn parameter(range: Interval) -> Jet
+    ensures { λ r. ⌜ r ≡ parameterOf range ⌝ }
+{
+    Jet {
+        v: range,
+        du: Interval::point(1.0),
+        dv: Interval::point(0.0),
+    }
+}
+
+// The bounds on span s.
+fn on_span(
+    degree: usize,
+    s: usize,
+    knots: &[f64],
+    points: &[f64],
+    weights: &[f64],
+    rational: bool,
+    lo: f64,
+    hi: f64,
+) -> BoundAnswer
+    requires { ⌜ degree ≤ 64 ⌝ }
+    requires { ⌜ degree ≤ s ⌝ }
+    requires { ⌜ s + degree < length (now knots) ⌝ }
+    requires { ⌜ s * 3 + 2 < length (now points) ⌝ }
+    requires { ⌜ length (now points) ≤ 1048576 ⌝ }
+    requires { ⌜ (rational ≡ true → s < length (now weights)) ⌝ }
+    ensures { λ r. ⌜ r ≡ spanBound degree s (now (knots .entry)) (now (points .entry)) (now (weights .entry)) rational lo hi ⌝ }
+{
+    let first = s - degree;
+    match weights_of(rational, weights, first, degree + 1) {
+        Weights::Are(scale, bound) => {
+            let net = start(points, weights, rational, first, degree, scale);
+            let refused = net.refused;
+            if refused != 0 {
+                return BoundAnswer::Refused(refused);
+            }
+            let work = net.work;
+            match Interval::new(lo, hi) {
+                New::Made(range) => match deboor(work, knots, degree, s, parameter(range)) {
+                    NetAnswer::Is(h) => cartesian(h, point_at(points, first), bound),
+                    NetAnswer::Refused(n) => BoundAnswer::Refused(n),
+                },
+                New::Nothing => BoundAnswer::Refused(24),
+            }
+        }
+        Weights::Refused(n) => BoundAnswer::Refused(n),
+    }
+}
+
+// The bounds of a curve over the closed range [lo, hi], which one nonempty span must contain. The first such span is taken, so a range that is one inner knot belongs to the span before it.
+pub fn bound_curve(
+    degree: usize,
+    knots: &[f64],
+    points: &[f64],
+    rational: bool,
+    weights: &[f64],
+    lo: f64,
+    hi: f64,
+) -> Bounded
+    ensures { λ r. ⌜ r ≡ boundOf degree (now (knots .entry)) (now (points .entry)) rational (now (weights .entry)) lo hi ⌝ }
+    ensures { λ r. ⌜ Holds degree (now (knots .entry)) (now (points .entry)) rational (now (weights .entry)) lo hi r ⌝ }
+{
+    let refusal = curve_refusal(degree, knots, points, rational, weights);
+    if refusal.number != 0 {
+        return Bounded::Refused(refusal);
+    }
+    let count = points.len() / 3;
+    let s = span_over(degree, count, knots, lo, hi);
+    let outside = range_refusal(degree, count, s, lo, hi);
+    if outside.number != 0 {
+        return Bounded::Refused(outside);
+    }
+    answer_of(on_span(degree, s, knots, points, weights, rational, lo, hi))
+}
