@@ -72,16 +72,16 @@ Z ps i = val (at ps (i * 3 + 2))
 
 -- ---- helpers
 
-refuse-in : (n : ℕ) (a : BoundAnswer) (X Y Z : Three) → (n ≡ 0 → Boxes a X Y Z) → Boxes (refuse n a) X Y Z
+pub refuse-in : (n : ℕ) (a : BoundAnswer) (X Y Z : Three) → (n ≡ 0 → Boxes a X Y Z) → Boxes (refuse n a) X Y Z
 refuse-in zero a X Y Z h = h refl
 refuse-in (suc n) a X Y Z h = tt
 
-low-of : (x : Float) (t : ℚ) → T (finite x) → val x ≤q t → Lower x t
+pub low-of : (x : Float) (t : ℚ) → T (finite x) → val x ≤q t → Lower x t
 low-of nan t f h = absurd f
 low-of (inf s) t f h = absurd f
 low-of (fin s m e) t f h = h
 
-high-of : (x : Float) (t : ℚ) → T (finite x) → t ≤q val x → Upper x t
+pub high-of : (x : Float) (t : ℚ) → T (finite x) → t ≤q val x → Upper x t
 high-of nan t f h = absurd f
 high-of (inf s) t f h = absurd f
 high-of (fin s m e) t f h = h
@@ -294,7 +294,7 @@ Boxed (C.Are b) X Y Z =
     Holding (b .point) (X .value) (Y .value) (Z .value) × Holding (b .du) (X .du) (Y .du) (Z .du) × Holding (b .dv) (X .dv) (Y .dv) (Z .dv)
 Boxed (C.Refused r) X Y Z = Unit
 
-boxed : (A : BoundAnswer) (X Y Z : Three) → Boxes A X Y Z → Boxed (boundedOf A) X Y Z
+pub boxed : (A : BoundAnswer) (X Y Z : Three) → Boxes A X Y Z → Boxed (boundedOf A) X Y Z
 unfolding boundsOf
 boxed (B.Are b) X Y Z h = (
   record { x = h .x .value; y = h .y .value; z = h .z .value },
@@ -303,7 +303,7 @@ boxed (B.Are b) X Y Z h = (
 )
 boxed (B.Refused n) X Y Z h = tt
 
-unless-in : (f : Refusal) (A : Bounded) (X Y Z : Three) → (f .number ≡ 0 → Boxed A X Y Z) → Boxed (unless f A) X Y Z
+pub unless-in : (f : Refusal) (A : Bounded) (X Y Z : Three) → (f .number ≡ 0 → Boxed A X Y Z) → Boxed (unless f A) X Y Z
 unless-in f A X Y Z h = go (eqb (f .number) 0) (eqb-true (f .number) 0)
   where
     go : (b : Bool) → (b ≡ true → f .number ≡ 0) → Boxed (cond b A (C.Refused f)) X Y Z

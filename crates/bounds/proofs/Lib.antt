@@ -1,7 +1,10 @@
 pub mod Steps
+pub mod RowSteps
 pub mod JetIn
 pub mod NetIn
 pub mod WeightIn
 pub mod CartesianIn
 pub mod SpanIn
 pub mod CurveIn
+pub mod SurfaceIn
+pub mod Worked

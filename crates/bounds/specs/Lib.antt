@@ -6,3 +6,4 @@ pub mod Cartesian
 pub mod Answer
 pub mod Curve
 pub mod Holds
+pub mod Surface

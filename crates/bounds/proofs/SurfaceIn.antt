@@ -1,0 +1,448 @@
+-- THE THEOREM for surfaces. Where the answer is bounds, they hold the exact point and its two derivatives at every pair of parameters of the ranges. Assumes nothing.
+use mathlib.Core.Path.{_≡_, refl, sym, _∙_, ap, ap₂, subst}
+use mathlib.Core.Bool.{Bool, true, false, not, _&&_, cond}
+use mathlib.Core.Logic.{_≢_, _⊎_, inl, inr}
+use mathlib.Core.List.{List, [], _∷_}
+use Prim.Native.Nat.{ℕ, zero, suc, _+_, _-_, _*_, _/_, _%_, _≤_, _<_}
+use native.Mathlib.Nat.{eq-or-lt-of-le, le-of-suc-le-suc, mul-le-mul-right, suc-mul}
+use native.Mathlib.Numerals.{add-one}
+use native.Mathlib.Omega.{arith}
+use lib.Dec.{T, ltb, leb, eqb}
+use lib.ListN.{length}
+use lib.Ieee.{Float, inf, lt, le}
+use lib.Ieee.Scale.{finite}
+use borrow.Author.Tests.{ltb-false, eqb-true, not-true, not-false}
+use Rattle.doubles.proofs.Enclose.{lower-le}
+use Rattle.doubles.specs.Neighbour.{fmin, fmax}
+use Rattle.doubles.specs.Run.{at, valAt}
+use Rattle.doubles.specs.Value.{Lower, Upper, val, zero+, one+}
+use Rattle.exact.proofs.Field.{≤-refl, ≤-trans, <-≤-trans, lt-of-le-ne, pos-ne, mul-pos, inv-nonneg, inv-ne-0, div-is}
+use Rattle.exact.proofs.Jets.{dwork}
+use Rattle.exact.proofs.Source.{work}
+use Rattle.exact.proofs.Surface.{net, net-du, net-dv, exact₂-net, exact₂-du, exact₂-dv, weight₂-pos, weight₂-low, weight₂-le-1}
+use Rattle.exact.specs.Rational.{ℚ, _+q_, _-q_, _*q_, _/q_, inv, q0, q1, _≤q_, _<q_}
+use Rattle.exact.specs.Spline.{basis, Knots, dbasis, quotient}
+use Rattle.exact.specs.Surface.{whole₂, exact₂, dexact₂u, dexact₂v}
+use Rattle.interval.specs.Inside.{Inside}
+use Rattle.interval.specs.Ops.{pointOf, newOf}
+use Rattle.knots.specs.Knots.{ValidKnots}
+use Rattle.interval.specs.declared.Interval.{Interval}
+use Rattle.interval.specs.declared.New.{New}
+use Rattle.interval.specs.declared.New.the-variants.{Made, Nothing}
+use Rattle.bounds.specs.declared.jet.Jet.{Jet}
+use Rattle.bounds.specs.declared.net.Control.{Control}
+use Rattle.bounds.specs.declared.net.NetAnswer.{NetAnswer}
+use Rattle.bounds.specs.declared.net.NetAnswer.the-variants as N
+use Rattle.bounds.specs.declared.start.Weights.{Weights}
+use Rattle.bounds.specs.declared.start.Weights.the-variants as W
+use Rattle.bounds.specs.declared.cartesian.BoundAnswer.{BoundAnswer}
+use Rattle.bounds.specs.declared.cartesian.BoundAnswer.the-variants as B
+use Rattle.bounds.specs.Net.{orElse, mixJet, mixOf, netOf, refusalLevels, lastBy, deboorOf}
+use Rattle.bounds.specs.Start.{maxOf, minOf, rangeOf, placeControl, placeRefused, refusalUp, pointAt}
+use Rattle.bounds.specs.Cartesian.{cartesianOf}
+use Rattle.bounds.specs.Range.{weightAt, spanOver, rangeRefusal}
+use Rattle.bounds.specs.Curve.{parameterOf, refuse, netBy, unless}
+use Rattle.bounds.specs.Surface.{rangesRefusal, maxFrom, minFrom, maxRows, minRows, refuseNet, netRefused, netControl, rowsUp, secondOf, placeAt, firstAt, startOf, rowOf, rangesAre, weightsBy, spansBound, surfaceOf, SpansFit}
+use Rattle.bounds.proofs.JetIn.{JetIn, in-one, in-zero}
+use Rattle.bounds.proofs.NetIn.{orElse-0, none, along, across, nowhere, net-in}
+use Rattle.bounds.proofs.WeightIn.{Above, Below, max-above, min-below, Least, least, Cut, Cuts, range-in, ControlIn, FinitePoint, place-in, control-in, up-0}
+use Rattle.bounds.proofs.CartesianIn.{Three, Boxes, over, cartesian-in, boxes-eq, three-eq}
+use Rattle.bounds.proofs.CurveIn.{mix-x, mix-y, mix-z, mix-w, low-of, high-of, refuse-in, X, Y, Z, param-in, Boxed, boxed, unless-in}
+use Rattle.bounds.proofs.SpanIn.{SpanValid, span-valid, InSpan, in-span, weight-finite, weight-positive}
+use Rattle.bounds.specs.Holds.{weight}
+use Rattle.bounds.specs.Answer.{boundedOf}
+use Rattle.knots.specs.Refusal as R
+use Rattle.knots.specs.Refusal.{degree-high}
+use Rattle.knots.specs.Surface.{surfaceRefusal, ValidSurface}
+use Rattle.knots.proofs.Refusals.{passed, orElse-none}
+use Rattle.knots.proofs.Surfaces.{valid-surface}
+use Rattle.doubles.proofs.Tests.{T-of}
+use Rattle.doubles.proofs.Value.{val-one}
+
+-- ---- the least and the largest weight of a net
+
+pub record From (a : Float) (w : ℕ → Float) (k : ℕ) (m : Float) : Type 0 where
+  pub held : T (finite m)
+  pub first : val a ≤q val m
+  pub all : (i : ℕ) → i < k → val (w i) ≤q val m
+
+pub record Under (a : Float) (w : ℕ → Float) (k : ℕ) (m : Float) : Type 0 where
+  pub held : T (finite m)
+  pub first : val m ≤q val a
+  pub all : (i : ℕ) → i < k → val m ≤q val (w i)
+  pub positive : q0 <q val a → q0 <q val m
+
+max-from : (a : Float) (w : ℕ → Float) (k : ℕ) → T (finite a) → ((i : ℕ) → i < k → T (finite (w i))) → From a w k (maxFrom a w k)
+unfolding maxFrom
+max-from a w zero g f = record { held = g; first = ≤-refl (val a); all = λ i l. absurd (omega arith) }
+max-from a w (suc k) g f = go (max-from a w k g (λ i l. f i (omega arith)))
+  where
+    go : From a w k (maxFrom a w k) → From a w (suc k) (fmax (maxFrom a w k) (w k))
+    go r =
+        let m = max-above (maxFrom a w k) (w k) (r .held) (f k (omega arith)) in
+        record {
+          held = m .held;
+          first = ≤-trans (r .first) (m .first);
+          all = λ i l. elim (eq-or-lt-of-le (le-of-suc-le-suc l)) [ inl e ↦ subst (λ j. val (w j) ≤q val (fmax (maxFrom a w k) (w k))) (sym e) (m .second) | inr h ↦ ≤-trans (r .all i h) (m .first) ];
+        }
+
+min-from : (a : Float) (w : ℕ → Float) (k : ℕ) → T (finite a) → ((i : ℕ) → i < k → T (finite (w i))) → ((i : ℕ) → i < k → q0 <q val (w i)) → Under a w k (minFrom a w k)
+unfolding minFrom
+min-from a w zero g f p = record { held = g; first = ≤-refl (val a); all = λ i l. absurd (omega arith); positive = λ x. x }
+min-from a w (suc k) g f p = go (min-from a w k g (λ i l. f i (omega arith)) (λ i l. p i (omega arith)))
+  where
+    go : Under a w k (minFrom a w k) → Under a w (suc k) (fmin (minFrom a w k) (w k))
+    go r =
+        let m = min-below (minFrom a w k) (w k) (r .held) (f k (omega arith)) in
+        record {
+          held = m .held;
+          first = ≤-trans (m .first) (r .first);
+          all = λ i l. elim (eq-or-lt-of-le (le-of-suc-le-suc l)) [ inl e ↦ subst (λ j. val (fmin (minFrom a w k) (w k)) ≤q val (w j)) (sym e) (m .second) | inr h ↦ ≤-trans (m .first) (r .all i h) ];
+          positive = λ x. m .positive (r .positive x) (p k (omega arith));
+        }
+
+min-same : (w : ℕ → Float) (k : ℕ) → minFrom (inf false) w k ≡ minOf w k
+unfolding minFrom minOf
+min-same w zero = refl
+min-same w (suc k) = ap (λ (x : Float). fmin x (w k)) (min-same w k)
+
+pub record Largest₂ (w : ℕ → ℕ → Float) (k m : ℕ) (x : Float) : Type 0 where
+  pub held : T (finite x)
+  pub all : (i j : ℕ) → i < m → j < k → val (w i j) ≤q val x
+
+pub record Least₂ (w : ℕ → ℕ → Float) (k m : ℕ) (x : Float) : Type 0 where
+  pub held : T (finite x)
+  pub all : (i j : ℕ) → i < m → j < k → val x ≤q val (w i j)
+  pub positive : q0 <q val x
+
+pub largest₂ : (w : ℕ → ℕ → Float) (k m : ℕ) → ((i j : ℕ) → i < m → j < k → T (finite (w i j))) → Largest₂ w k m (maxRows w k m)
+unfolding maxRows
+largest₂ w k zero f = record { held = tt; all = λ i j l h. absurd (omega arith) }
+largest₂ w k (suc m) f = go (largest₂ w k m (λ i j l h. f i j (omega arith) h))
+  where
+    go : Largest₂ w k m (maxRows w k m) → Largest₂ w k (suc m) (maxFrom (maxRows w k m) (w m) k)
+    go r =
+        let x = max-from (maxRows w k m) (w m) k (r .held) (λ j l. f m j (omega arith) l) in
+        record {
+          held = x .held;
+          all = λ i j l h. elim (eq-or-lt-of-le (le-of-suc-le-suc l)) [ inl e ↦ subst (λ a. val (w a j) ≤q val (maxFrom (maxRows w k m) (w m) k)) (sym e) (x .all j h) | inr g ↦ ≤-trans (r .all i j g h) (x .first) ];
+        }
+
+pub least₂ : (w : ℕ → ℕ → Float) (k m : ℕ) → ((i j : ℕ) → i < suc m → j < suc k → T (finite (w i j))) → ((i j : ℕ) → i < suc m → j < suc k → q0 <q val (w i j)) → Least₂ w (suc k) (suc m) (minRows w (suc k) (suc m))
+unfolding minRows
+least₂ w k zero f p =
+    let x = least (w 0) k (λ j l. f 0 j (omega arith) l) (λ j l. p 0 j (omega arith) l) in
+    rw (min-same (w 0) (suc k)) (record {
+      held = x .held;
+      all = λ i j l h. let e : 0 ≡ i = omega arith in subst (λ a. val (minOf (w 0) (suc k)) ≤q val (w a j)) e (x .all j h);
+      positive = x .positive;
+    })
+least₂ w k (suc m) f p = go (least₂ w k m (λ i j l h. f i j (omega arith) h) (λ i j l h. p i j (omega arith) h))
+  where
+    go : Least₂ w (suc k) (suc m) (minRows w (suc k) (suc m)) → Least₂ w (suc k) (suc (suc m)) (minFrom (minRows w (suc k) (suc m)) (w (suc m)) (suc k))
+    go r =
+        let x = min-from (minRows w (suc k) (suc m)) (w (suc m)) (suc k) (r .held) (λ j l. f (suc m) j (omega arith) l) (λ j l. p (suc m) j (omega arith) l) in
+        record {
+          held = x .held;
+          all = λ i j l h. elim (eq-or-lt-of-le (le-of-suc-le-suc l)) [ inl e ↦ subst (λ a. val (minFrom (minRows w (suc k) (suc m)) (w (suc m)) (suc k)) ≤q val (w a j)) (sym e) (x .all j h) | inr g ↦ ≤-trans (x .first) (r .all i j g h) ];
+          positive = x .positive (r .positive);
+        }
+
+-- ---- helpers
+
+rows-0 : (f : ℕ → NetAnswer) (k i : ℕ) → rowsUp f k i ≡ 0 → (m : ℕ) → m < k → netRefused (f (i + m)) ≡ 0
+unfolding rowsUp
+rows-0 f zero i h m l = absurd (omega arith)
+rows-0 f (suc k) i h zero l = let e : i + 0 ≡ i = omega arith in rw e (orElse-0 _ _ h .0)
+rows-0 f (suc k) i h (suc m) l =
+    let e : i + suc m ≡ i + 1 + m = omega arith in
+    rw e (rows-0 f k (i + 1) (orElse-0 (netRefused (f i)) _ h .1) m (omega arith))
+
+row-split : (R L : ℕ) (x : Control) → netRefused (refuseNet R (lastBy L x)) ≡ 0 → (R ≡ 0) × (L ≡ 0) × (netControl (refuseNet R (lastBy L x)) ≡ x)
+unfolding lastBy
+row-split zero zero x h = (refl, refl, refl)
+row-split zero (suc L) x h = absurd (omega arith)
+row-split (suc R) L x h = absurd (omega arith)
+
+below-product : (i j nu nv : ℕ) → i < nu → j < nv → i * nv + j < nu * nv
+below-product i j nu nv h k =
+    let a : suc i * nv ≤ nu * nv = mul-le-mul-right nv h in
+    let b : suc i * nv ≡ i * nv + nv = suc-mul i nv in
+    omega arith
+
+pub second-in : (lo hi : Float) (t : ℚ) → T (finite lo) → T (finite hi) → val lo ≤q t → t ≤q val hi → JetIn (secondOf (record { lo = lo; hi = hi })) t q0 q1
+unfolding secondOf
+second-in lo hi t f g a b = record { value = record { low = low-of lo t f a; high = high-of hi t g b }; du = in-zero; dv = in-one }
+
+-- the two ranges, where nothing is refused
+pub ranges-valid : (p q : ℕ) (uk vk : List Float) (nu nv : ℕ) (ulo uhi vlo vhi : Float) → ValidKnots p nu uk → ValidKnots q nv vk
+    → rangesRefusal p q nu nv (spanOver p nu uk ulo uhi) (spanOver q nv vk vlo vhi) ulo uhi vlo vhi .number ≡ 0
+    → SpanValid p nu uk ulo uhi (spanOver p nu uk ulo uhi) × SpanValid q nv vk vlo vhi (spanOver q nv vk vlo vhi)
+unfolding rangesRefusal
+ranges-valid p q uk vk nu nv ulo uhi vlo vhi Ku Kv k =
+    let a = passed (ltb 64 q) (R.refuse degree-high) _ (λ e. omega arith) k in
+    let b = orElse-none (rangeRefusal p nu (spanOver p nu uk ulo uhi) ulo uhi) (rangeRefusal q nv (spanOver q nv vk vlo vhi) vlo vhi) (a .1) in
+    let m = Ku .count in
+    let n = Kv .count in
+    (span-valid p nu uk ulo uhi (omega arith) (b .0), span-valid q nv vk vlo vhi (omega arith) (b .1))
+
+-- ---- the exact point and its two derivatives
+
+abbrev pub grid : (ℕ → ℚ) → ℕ → ℕ → ℕ → ℚ
+grid P nv i j = P (i * nv + j)
+
+module _ (p q us vs : ℕ) (uk vk : List Float) (nu nv : ℕ) (ws : List Float) (r : Bool) (u v : ℚ) (P : ℕ → ℚ) where
+  abbrev pub at-uv : Three
+  at-uv = record {
+    value = exact₂ (valAt uk) u us p nu (valAt vk) v vs q nv (grid (weight r ws) nv) (grid P nv);
+    du = dexact₂u (valAt uk) u us p nu (valAt vk) v vs q nv (grid (weight r ws) nv) (grid P nv);
+    dv = dexact₂v (valAt uk) u us p nu (valAt vk) v vs q nv (grid (weight r ws) nv) (grid P nv);
+  }
+
+-- ---- on two spans
+
+module _ (p q us vs : ℕ) (uk vk : List Float) (nu nv : ℕ) (ps ws : List Float) (r : Bool) (ulo uhi vlo vhi : Float) (Va : ValidSurface p q uk vk nu nv ps r ws)
+    (Su : SpanValid p nu uk ulo uhi us) (Sv : SpanValid q nv vk vlo vhi vs) (u v : ℚ) (u-from : val ulo ≤q u) (u-upto : u ≤q val uhi) (v-from : val vlo ≤q v) (v-upto : v ≤q val vhi) where
+  Iu : InSpan p nu uk us u
+  Iu = in-span p nu uk ulo uhi us (Va .u) Su u u-from u-upto
+
+  Iv : InSpan q nv vk vs v
+  Iv = in-span q nv vk vlo vhi vs (Va .v) Sv v v-from v-upto
+
+  heavy : (i : ℕ) → i < nu * nv → T (finite (weightAt r ws i))
+  heavy = weight-finite (nu * nv) ps r ws (Va .controls)
+
+  positive : (i : ℕ) → i < nu * nv → q0 <q val (weightAt r ws i)
+  positive = weight-positive (nu * nv) ps r ws (Va .controls)
+
+  here : (m k : ℕ) → m ≤ p → k ≤ q → (us - p + m) * nv + (vs - q + k) < nu * nv
+  here m k h l =
+      let a = Iu .base in
+      let b = Iu .fits in
+      let c = Iv .base in
+      let d = Iv .fits in
+      (below-product (us - p + m) (vs - q + k) nu nv (omega arith) (omega arith))
+
+  first-here : (us - p) * nv + (vs - q) < nu * nv
+  first-here =
+      let a = Iu .base in
+      let b = Iu .fits in
+      let c = Iv .base in
+      let d = Iv .fits in
+      (below-product (us - p) (vs - q) nu nv (omega arith) (omega arith))
+
+  abbrev w : ℕ → ℕ → Float
+  w m k = weightAt r ws ((us - p + m) * nv + (vs - q + k))
+
+  abbrev w₂ : ℕ → ℕ → ℚ
+  w₂ = grid (weight r ws) nv
+
+  least-is : Least₂ w (suc q) (suc p) (minRows w (suc q) (suc p))
+  least-is = least₂ w q p (λ i j l h. heavy _ (here i j (omega arith) (omega arith))) (λ i j l h. positive _ (here i j (omega arith) (omega arith)))
+
+  most-is : Largest₂ w (suc q) (suc p) (maxRows w (suc q) (suc p))
+  most-is = largest₂ w (suc q) (suc p) (λ i j l h. heavy _ (here i j (omega arith) (omega arith)))
+
+  abbrev a : ℚ
+  a = val (minRows w (suc q) (suc p))
+
+  abbrev σ : ℚ
+  σ = val (maxRows w (suc q) (suc p))
+
+  lows : (m k : ℕ) → m ≤ p → k ≤ q → a ≤q w₂ (us - p + m) (vs - q + k)
+  lows m k h l = least-is .all m k (omega arith) (omega arith)
+
+  highs : (m k : ℕ) → m ≤ p → k ≤ q → w₂ (us - p + m) (vs - q + k) ≤q σ
+  highs m k h l = most-is .all m k (omega arith) (omega arith)
+
+  σ-pos : q0 <q σ
+  σ-pos = <-≤-trans (least-is .positive) (≤-trans (lows 0 0 (omega arith) (omega arith)) (highs 0 0 (omega arith) (omega arith)))
+
+  point-finite : (i : ℕ) → i < nu * nv → FinitePoint (pointAt ps i)
+  unfolding pointAt
+  point-finite i l =
+      let e = Va .triples in
+      let f : (k : ℕ) → k < length ps → T (finite (at ps k)) = λ k l. T-of (finite (at ps k)) (Va .controls .coordinates k l) in
+      record { x = f (i * 3) (omega arith); y = f (i * 3 + 1) (omega arith); z = f (i * 3 + 2) (omega arith) }
+
+  -- the exact homogeneous net
+  abbrev H : (ℕ → ℚ) → ℕ → ℕ → ℚ
+  H P i j = (grid P nv i j -q P ((us - p) * nv + (vs - q))) *q (w₂ i j /q σ)
+
+  abbrev HW : ℕ → ℕ → ℚ
+  HW i j = w₂ i j /q σ
+
+  abbrev HT : (ℕ → ℕ → ℚ) → Three
+  HT C = record {
+    value = net (valAt uk) u us p (us - p) (valAt vk) v vs q (vs - q) C;
+    du = net-du (valAt uk) u us p (us - p) (valAt vk) v vs q (vs - q) C;
+    dv = net-dv (valAt uk) u us p (us - p) (valAt vk) v vs q (vs - q) C;
+  }
+
+  abbrev wh : ℚ
+  wh = net (valAt uk) u us p (us - p) (valAt vk) v vs q (vs - q) HW
+
+  wh-low : a /q σ ≤q wh
+  wh-low = weight₂-low (Iu .knots) (Iv .knots) p (us - p) nu q (vs - q) nv (Iu .base) (Iu .fits) (Iu .room) (Iv .base) (Iv .fits) (Iv .room) (Iu .above) (Iu .below) (Iv .above) (Iv .below) w₂ a σ (least-is .positive) lows highs
+
+  wh-high : wh ≤q q1
+  wh-high = weight₂-le-1 (Iu .knots) (Iv .knots) p (us - p) nu q (vs - q) nv (Iu .base) (Iu .fits) (Iu .room) (Iv .base) (Iv .fits) (Iv .room) (Iu .above) (Iu .below) (Iv .above) (Iv .below) w₂ a σ (least-is .positive) lows highs
+
+  sum-ne : whole₂ (valAt uk) u us p nu (valAt vk) v vs q nv w₂ ≢ q0
+  sum-ne = pos-ne (weight₂-pos (Iu .knots) (Iv .knots) p (us - p) nu q (vs - q) nv (Iu .base) (Iu .fits) (Iu .room) (Iv .base) (Iv .fits) (Iv .room) (Iu .above) (Iu .below) (Iv .above) (Iv .below) w₂ a σ (least-is .positive) lows highs)
+
+  quot-pos : q0 <q a /q σ
+  quot-pos = subst (λ z. q0 <q z) (sym (div-is a σ)) (mul-pos (least-is .positive) (lt-of-le-ne (inv-nonneg σ-pos) (λ e. inv-ne-0 (pos-ne σ-pos) (sym e))))
+
+  abbrev EX : (ℕ → ℚ) → Three
+  EX P = at-uv p q us vs uk vk nu nv ws r u v P
+
+  exact-eq : (P : ℕ → ℚ) → over (HT (H P)) (HT HW) (P ((us - p) * nv + (vs - q))) ≡ EX P
+  exact-eq P = three-eq (over (HT (H P)) (HT HW) (P ((us - p) * nv + (vs - q)))) (EX P)
+      (sym (exact₂-net (Iu .knots) (Iv .knots) p (us - p) nu q (vs - q) nv (Iu .base) (Iu .fits) (Iu .room) (Iv .base) (Iv .fits) (Iv .room) w₂ (grid P nv) (P ((us - p) * nv + (vs - q))) σ (pos-ne σ-pos) u v sum-ne))
+      (sym (exact₂-du (Iu .knots) (Iv .knots) p (us - p) nu q (vs - q) nv (Iu .base) (Iu .fits) (Iu .room) (Iv .base) (Iv .fits) (Iv .room) w₂ (grid P nv) (P ((us - p) * nv + (vs - q))) σ (pos-ne σ-pos) u v sum-ne))
+      (sym (exact₂-dv (Iu .knots) (Iv .knots) p (us - p) nu q (vs - q) nv (Iu .base) (Iu .fits) (Iu .room) (Iv .base) (Iv .fits) (Iv .room) w₂ (grid P nv) (P ((us - p) * nv + (vs - q))) σ (pos-ne σ-pos) u v sum-ne))
+
+  abbrev Good : BoundAnswer → Type 0
+  Good A = Boxes A (EX (X ps)) (EX (Y ps)) (EX (Z ps))
+
+  abbrev iu : Interval
+  iu = record { lo = ulo; hi = uhi }
+
+  abbrev iv : Interval
+  iv = record { lo = vlo; hi = vhi }
+
+  module _ (scale : Float) (bound : Interval) (cut : Cut (minRows w (suc q) (suc p)) (maxRows w (suc q) (suc p)) scale bound) where
+    abbrev start : ℕ → ℕ → Control
+    start m k = placeControl (startOf p q us vs uk vk nv ps ws r ulo uhi vlo vhi scale m k)
+
+    abbrev row : ℕ → NetAnswer
+    row m = rowOf p q us vs uk vk nv ps ws r ulo uhi vlo vhi scale iv m
+
+    start-in : (m : ℕ) → m ≤ p → refusalUp (startOf p q us vs uk vk nv ps ws r ulo uhi vlo vhi scale m) (q + 1) 0 ≡ 0 → (k : ℕ) → k ≤ q
+        → ControlIn (start m k) (H (X ps) (us - p + m) (vs - q + k)) (H (Y ps) (us - p + m) (vs - q + k)) (H (Z ps) (us - p + m) (vs - q + k)) (HW (us - p + m) (vs - q + k))
+    unfolding startOf pointAt
+    start-in m l clear k h =
+        let e = cut .scaled in
+        let z : 0 + k ≡ k = omega arith in
+        subst (λ c. ControlIn (placeControl (startOf p q us vs uk vk nv ps ws r ulo uhi vlo vhi c m k)) (H (X ps) (us - p + m) (vs - q + k)) (H (Y ps) (us - p + m) (vs - q + k)) (H (Z ps) (us - p + m) (vs - q + k)) (HW (us - p + m) (vs - q + k))) (sym e)
+        (control-in (startOf p q us vs uk vk nv ps ws r ulo uhi vlo vhi (maxRows w (suc q) (suc p)) m k)
+        (place-in (pointAt ps ((us - p + m) * nv + (vs - q + k))) (pointAt ps ((us - p) * nv + (vs - q))) (weightAt r ws ((us - p + m) * nv + (vs - q + k))) (maxRows w (suc q) (suc p))
+        (point-finite ((us - p + m) * nv + (vs - q + k)) (here m k l h)) (point-finite ((us - p) * nv + (vs - q)) first-here) (heavy ((us - p + m) * nv + (vs - q + k)) (here m k l h)) (most-is .held) (pos-ne σ-pos))
+        (subst (λ c. placeRefused (startOf p q us vs uk vk nv ps ws r ulo uhi vlo vhi c m k) ≡ 0) e (subst (λ i. placeRefused (startOf p q us vs uk vk nv ps ws r ulo uhi vlo vhi scale m i) ≡ 0) z (up-0 (startOf p q us vs uk vk nv ps ws r ulo uhi vlo vhi scale m) (q + 1) 0 clear k (omega arith)))))
+
+    bound-in : Inside bound wh
+    bound-in = record {
+      low = lower-le (bound .lo) (cut .low) wh-low;
+      high = subst (λ x. Upper x wh) (sym (cut .one)) (subst (λ x. wh ≤q x) (sym val-one) wh-high);
+    }
+
+    -- a row along v
+    module _ (sel : Control → Jet) (mixes : (α : Jet) (a b : Control) → sel (mixOf α a b) ≡ mixJet α (sel a) (sel b)) (C : ℕ → ℕ → ℚ)
+        (holds : (m : ℕ) → m ≤ p → refusalUp (startOf p q us vs uk vk nv ps ws r ulo uhi vlo vhi scale m) (q + 1) 0 ≡ 0 → (k : ℕ) → k ≤ q → JetIn (sel (start m k)) (C (us - p + m) (vs - q + k)) q0 q0) where
+      row-in : (m : ℕ) → m ≤ p → netRefused (row m) ≡ 0
+          → JetIn (sel (netControl (row m))) (work (valAt vk) v q vs (λ k. C (us - p + m) (vs - q + k)) q q) q0 (dwork (valAt vk) v q vs (λ k. C (us - p + m) (vs - q + k)) (λ k. q0) q q)
+      unfolding rowOf deboorOf dwork
+      row-in m h ok =
+          let x = row-split (refusalUp (startOf p q us vs uk vk nv ps ws r ulo uhi vlo vhi scale m) (q + 1) 0) (refusalLevels vk q vs (secondOf iv) 1 q) (netOf vk q vs (secondOf iv) (start m) q q) ok in
+          subst (λ c. JetIn (sel c) (work (valAt vk) v q vs (λ k. C (us - p + m) (vs - q + k)) q q) q0 (dwork (valAt vk) v q vs (λ k. C (us - p + m) (vs - q + k)) (λ k. q0) q q)) (sym (x .2))
+          (net-in vk q vs (secondOf iv) (Iv .finites) (Iv .knots) (Iv .low) (Iv .room) v q0 q1 (second-in vlo vhi v (Sv .lo-finite) (Sv .hi-finite) v-from v-upto) sel mixes (start m) (λ k. C (us - p + m) (vs - q + k)) (λ l j. q0) (dwork (valAt vk) v q vs (λ k. C (us - p + m) (vs - q + k)) (λ k. q0))
+          (nowhere (valAt vk) v q vs (λ k. C (us - p + m) (vs - q + k))) (along (valAt vk) v q vs (λ k. C (us - p + m) (vs - q + k)) (λ k. q0)) (holds m h (x .0)) (none vk q vs (secondOf iv) (x .1)) q q (omega arith))
+
+      -- and the column of the rows along u
+      column-in : rowsUp row (p + 1) 0 ≡ 0 → refusalLevels uk p us (parameterOf iu) 1 p ≡ 0
+          → JetIn (sel (netOf uk p us (parameterOf iu) (λ m. netControl (row m)) p p)) (HT C .value) (HT C .du) (HT C .dv)
+      unfolding net net-du net-dv work dwork
+      column-in clear ok =
+          net-in uk p us (parameterOf iu) (Iu .finites) (Iu .knots) (Iu .low) (Iu .room) u q1 q0 (param-in ulo uhi u (Su .lo-finite) (Su .hi-finite) u-from u-upto) sel mixes (λ m. netControl (row m))
+          (λ m. work (valAt vk) v q vs (λ k. C (us - p + m) (vs - q + k)) q q)
+          (dwork (valAt uk) u p us (λ m. work (valAt vk) v q vs (λ k. C (us - p + m) (vs - q + k)) q q) (λ m. q0))
+          (work (valAt uk) u p us (λ m. dwork (valAt vk) v q vs (λ k. C (us - p + m) (vs - q + k)) (λ k. q0) q q))
+          (along (valAt uk) u p us (λ m. work (valAt vk) v q vs (λ k. C (us - p + m) (vs - q + k)) q q) (λ m. q0))
+          (across (valAt uk) u p us (λ m. work (valAt vk) v q vs (λ k. C (us - p + m) (vs - q + k)) q q) (λ m. dwork (valAt vk) v q vs (λ k. C (us - p + m) (vs - q + k)) (λ k. q0) q q))
+          (λ m h. let z : 0 + m ≡ m = omega arith in row-in m h (subst (λ i. netRefused (row i) ≡ 0) z (rows-0 row (p + 1) 0 clear m (omega arith))))
+          (none uk p us (parameterOf iu) ok) p p (omega arith)
+
+    levels-in : rowsUp row (p + 1) 0 ≡ 0 → (k : ℕ) → refusalLevels uk p us (parameterOf iu) 1 p ≡ k
+        → Good (netBy (pointAt ps ((us - p) * nv + (vs - q))) bound (lastBy k (netOf uk p us (parameterOf iu) (λ m. netControl (row m)) p p)))
+    unfolding lastBy pointAt
+    levels-in clear (suc k) e = tt
+    levels-in clear zero e =
+        boxes-eq (cartesianOf (netOf uk p us (parameterOf iu) (λ m. netControl (row m)) p p) (pointAt ps ((us - p) * nv + (vs - q))) bound)
+        (over (HT (H (X ps))) (HT HW) (X ps ((us - p) * nv + (vs - q)))) (over (HT (H (Y ps))) (HT HW) (Y ps ((us - p) * nv + (vs - q)))) (over (HT (H (Z ps))) (HT HW) (Z ps ((us - p) * nv + (vs - q))))
+        (EX (X ps)) (EX (Y ps)) (EX (Z ps)) (exact-eq (X ps)) (exact-eq (Y ps)) (exact-eq (Z ps))
+        (cartesian-in (netOf uk p us (parameterOf iu) (λ m. netControl (row m)) p p) (pointAt ps ((us - p) * nv + (vs - q))) bound (HT (H (X ps))) (HT (H (Y ps))) (HT (H (Z ps))) (HT HW)
+        (column-in (λ c. c .x) mix-x (H (X ps)) (λ m l g k n. start-in m l g k n .x) clear e)
+        (column-in (λ c. c .y) mix-y (H (Y ps)) (λ m l g k n. start-in m l g k n .y) clear e)
+        (column-in (λ c. c .z) mix-z (H (Z ps)) (λ m l g k n. start-in m l g k n .z) clear e)
+        (column-in (λ c. c .w) mix-w HW (λ m l g k n. start-in m l g k n .w) clear e)
+        bound-in (pos-ne (<-≤-trans quot-pos wh-low)) (point-finite ((us - p) * nv + (vs - q)) first-here))
+
+    ranges-in : Good (rangesAre p q us vs uk vk nv ps ws r ulo uhi vlo vhi scale bound (newOf vlo vhi) (newOf ulo uhi))
+    unfolding newOf deboorOf
+    ranges-in = go (le vlo vhi) (le ulo uhi)
+      where
+        go : (x y : Bool) → Good (rangesAre p q us vs uk vk nv ps ws r ulo uhi vlo vhi scale bound (cond x (Made iv) Nothing) (cond y (Made iu) Nothing))
+        go true true = refuse-in (rowsUp row (p + 1) 0) (netBy (pointAt ps ((us - p) * nv + (vs - q))) bound (deboorOf uk p us (parameterOf iu) (λ m. netControl (row m)))) (EX (X ps)) (EX (Y ps)) (EX (Z ps))
+            (λ clear. levels-in clear (refusalLevels uk p us (parameterOf iu) 1 p) refl)
+        go true false = tt
+        go false y = tt
+
+  pub spans-bound-in : Good (spansBound p q us vs uk vk nv ps ws r ulo uhi vlo vhi)
+  unfolding spansBound
+  spans-bound-in = go (rangeOf (minRows w (q + 1) (p + 1)) (maxRows w (q + 1) (p + 1)))
+      (subst (λ i. Cuts (minRows w (suc q) (suc p)) (maxRows w (suc q) (suc p)) (rangeOf (minRows w i (p + 1)) (maxRows w i (p + 1)))) (sym (add-one q))
+      (subst (λ i. Cuts (minRows w (suc q) (suc p)) (maxRows w (suc q) (suc p)) (rangeOf (minRows w (suc q) i) (maxRows w (suc q) i))) (sym (add-one p))
+      (range-in (minRows w (suc q) (suc p)) (maxRows w (suc q) (suc p)) (least-is .held) (most-is .held) (pos-ne σ-pos))))
+    where
+      go : (A : Weights) → Cuts (minRows w (suc q) (suc p)) (maxRows w (suc q) (suc p)) A → Good (weightsBy p q us vs uk vk nv ps ws r ulo uhi vlo vhi A)
+      go (W.Are scale bound) c = ranges-in scale bound c
+      go (W.Refused k) c = tt
+
+-- ---- the whole answer
+
+-- bounds hold the exact point and its two derivatives at each pair of fractions of the ranges
+pub surface-holds : (p q : ℕ) (uk vk : List Float) (nu nv : ℕ) (ps ws : List Float) (r : Bool) (ulo uhi vlo vhi : Float) (u v : ℚ)
+    → val ulo ≤q u → u ≤q val uhi → val vlo ≤q v → v ≤q val vhi →
+    let e = at-uv p q (spanOver p nu uk ulo uhi) (spanOver q nv vk vlo vhi) uk vk nu nv ws r u v in
+    Boxed (surfaceOf p q uk vk nu nv ps r ws ulo uhi vlo vhi) (e (X ps)) (e (Y ps)) (e (Z ps))
+unfolding surfaceOf
+surface-holds p q uk vk nu nv ps ws r ulo uhi vlo vhi u v uf ut vf vt =
+    let us = spanOver p nu uk ulo uhi in
+    let vs = spanOver q nv vk vlo vhi in
+    let e = at-uv p q us vs uk vk nu nv ws r u v in
+    let inner = spansBound p q us vs uk vk nv ps ws r ulo uhi vlo vhi in
+    let ranges = rangesRefusal p q nu nv us vs ulo uhi vlo vhi in
+    unless-in (surfaceRefusal p q uk vk nu nv ps r ws) (unless ranges (boundedOf inner)) (e (X ps)) (e (Y ps)) (e (Z ps))
+    (λ h. let Va = valid-surface p q uk vk nu nv ps r ws h in
+    unless-in ranges (boundedOf inner) (e (X ps)) (e (Y ps)) (e (Z ps))
+    (λ k.
+    let b = ranges-valid p q uk vk nu nv ulo uhi vlo vhi (Va .u) (Va .v) k in
+    boxed inner (e (X ps)) (e (Y ps)) (e (Z ps)) (spans-bound-in p q us vs uk vk nu nv ps ws r ulo uhi vlo vhi Va (b .0) (b .1) u v uf ut vf vt)))
+
+-- what `on_spans` asks
+pub spans-fit : (p q : ℕ) (uk vk : List Float) (nu nv : ℕ) (ps ws : List Float) (r : Bool) (ulo uhi vlo vhi : Float) (us vs : ℕ) → ValidSurface p q uk vk nu nv ps r ws → SpanValid p nu uk ulo uhi us → SpanValid q nv vk vlo vhi vs
+    → SpansFit p q us vs (length uk) (length vk) nv (length ps) (length ws) r
+spans-fit p q uk vk nu nv ps ws r ulo uhi vlo vhi us vs Va Su Sv =
+    let a = Su .span .first in
+    let b = Su .span .last in
+    let c = Sv .span .first in
+    let d = Sv .span .last in
+    let e = Va .u .long in
+    let f = Va .v .long in
+    let g = Va .short-u in
+    let h = Va .short .points in
+    let m3 = Va .triples in
+    let here : (m : ℕ) → m ≤ p → (us - p + m) * nv + (vs - q + q) < nu * nv = λ m l. below-product (us - p + m) (vs - q + q) nu nv (omega arith) (omega arith) in
+    record {
+      p-small = Su .small;
+      q-small = Sv .small;
+      u-low = a;
+      v-low = c;
+      u-room = omega arith;
+      v-room = omega arith;
+      few = omega arith;
+      small = λ m l. omega (arith, here m l);
+      inside = λ m l. omega (arith, here m l);
+      weighed = λ x m l. omega (arith, here m l, Va .controls .weights x);
+    }
