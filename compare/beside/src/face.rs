@@ -1,0 +1,25 @@
+//! The exported functions as tasulogi.h declares them.
+unsafe extern "C" {
+    pub safe fn tasulogi_is_nan(x: f64) -> bool;
+    pub safe fn tasulogi_is_finite(x: f64) -> bool;
+    pub safe fn tasulogi_next_up(x: f64) -> f64;
+    pub safe fn tasulogi_next_down(x: f64) -> f64;
+    pub safe fn tasulogi_min(a: f64, b: f64) -> f64;
+    pub safe fn tasulogi_max(a: f64, b: f64) -> f64;
+    pub safe fn tasulogi_place(x: f64) -> i64;
+    pub safe fn tasulogi_steps(lo: f64, hi: f64) -> u64;
+
+    pub fn tasulogi_interval_entire(out: *mut f64, n: usize) -> u32;
+    pub fn tasulogi_interval_new(lo: f64, hi: f64, out: *mut f64, n: usize) -> u32;
+    pub fn tasulogi_interval_point(x: f64, out: *mut f64, n: usize) -> u32;
+    pub fn tasulogi_interval_width(lo: f64, hi: f64, out: *mut f64, n: usize) -> u32;
+    pub safe fn tasulogi_interval_contains(lo: f64, hi: f64, x: f64) -> u32;
+    pub safe fn tasulogi_interval_sign(lo: f64, hi: f64) -> u32;
+    pub fn tasulogi_interval_sqr(lo: f64, hi: f64, out: *mut f64, n: usize) -> u32;
+    pub fn tasulogi_interval_neg(lo: f64, hi: f64, out: *mut f64, n: usize) -> u32;
+    pub fn tasulogi_interval_hull(al: f64, ah: f64, bl: f64, bh: f64, out: *mut f64, n: usize) -> u32;
+    pub fn tasulogi_interval_add(al: f64, ah: f64, bl: f64, bh: f64, out: *mut f64, n: usize) -> u32;
+    pub fn tasulogi_interval_sub(al: f64, ah: f64, bl: f64, bh: f64, out: *mut f64, n: usize) -> u32;
+    pub fn tasulogi_interval_mul(al: f64, ah: f64, bl: f64, bh: f64, out: *mut f64, n: usize) -> u32;
+    pub fn tasulogi_interval_divide(al: f64, ah: f64, bl: f64, bh: f64, out: *mut f64, n: usize) -> u32;
+}

@@ -1,0 +1,142 @@
+//! What a run has seen: a row per call, the kinds of doubles, and the first case that differs.
+use crate::doubles::KINDS;
+use std::fmt::Write;
+
+/// A call of a module, as a row of the table.
+pub struct Call {
+    pub name: &'static str,
+    /// The answered cases and refusal numbers that a run has to see.
+    pub numbers: &'static [u32],
+    /// Numbers in the source that no input gives.
+    pub idle: &'static [u32],
+}
+
+#[derive(Clone)]
+pub struct Row {
+    pub cases: u64,
+    pub differ: u64,
+    /// Cases that differ in the sign of a zero that the Rust leaves open, and in nothing else.
+    pub zero_signs: u64,
+    /// Exact results looked for in the answered interval, and how many lay outside.
+    pub exact: u64,
+    pub outside: u64,
+    pub numbers: [u64; 100],
+}
+
+impl Row {
+    const EMPTY: Self = Self { cases: 0, differ: 0, zero_signs: 0, exact: 0, outside: 0, numbers: [0; 100] };
+}
+
+/// A case that differs, and where it stands in the run.
+pub struct Difference {
+    pub block: u64,
+    pub case: u64,
+    pub text: String,
+}
+
+pub struct Tally {
+    pub rows: Vec<Row>,
+    pub kinds: [u64; KINDS.len()],
+    pub first: Option<Difference>,
+}
+
+impl Tally {
+    pub fn new(calls: usize) -> Self {
+        Self { rows: vec![Row::EMPTY; calls], kinds: [0; KINDS.len()], first: None }
+    }
+
+    /// Keeps the difference that stands first in the run.
+    pub fn keep(&mut self, d: Difference) {
+        if self.first.as_ref().is_none_or(|f| (d.block, d.case) < (f.block, f.case)) {
+            self.first = Some(d);
+        }
+    }
+
+    pub fn merge(&mut self, o: Self) {
+        for (a, b) in self.rows.iter_mut().zip(&o.rows) {
+            a.cases += b.cases;
+            a.differ += b.differ;
+            a.zero_signs += b.zero_signs;
+            a.exact += b.exact;
+            a.outside += b.outside;
+            for (x, y) in a.numbers.iter_mut().zip(b.numbers) {
+                *x += y;
+            }
+        }
+        for (x, y) in self.kinds.iter_mut().zip(o.kinds) {
+            *x += y;
+        }
+        if let Some(d) = o.first {
+            self.keep(d);
+        }
+    }
+
+    /// What was to be seen and was not, and what no input was to give and one gave.
+    pub fn unmet(&self, calls: &[Call]) -> Vec<String> {
+        let mut lines = Vec::new();
+        for (call, row) in calls.iter().zip(&self.rows) {
+            for &n in call.numbers.iter().filter(|&&n| row.numbers[n as usize] == 0) {
+                lines.push(format!("{}: {n} was never seen", call.name));
+            }
+            for &n in call.idle.iter().filter(|&&n| row.numbers[n as usize] != 0) {
+                lines.push(format!("{}: {n} was seen, and no input was to give it", call.name));
+            }
+        }
+        for (name, _) in KINDS.iter().zip(self.kinds).filter(|k| k.1 == 0) {
+            lines.push(format!("no double of the kind {name} was passed"));
+        }
+        lines
+    }
+
+    pub fn passed(&self) -> u64 {
+        self.rows.iter().map(|r| r.cases - r.differ + r.exact - r.outside).sum()
+    }
+
+    pub fn failed(&self) -> u64 {
+        self.rows.iter().map(|r| r.differ + r.outside).sum()
+    }
+
+    pub fn table(&self, module: &str, calls: &[Call]) -> String {
+        let mut s = format!(
+            "{:<12} {:>12} {:>8} {:>10} {:>9} {:>8}  answers and refusals seen\n",
+            module, "cases", "differ", "zero signs", "exact", "outside"
+        );
+        for (call, row) in calls.iter().zip(&self.rows) {
+            let _ = write!(
+                s,
+                "{:<12} {:>12} {:>8} {:>10} {:>9} {:>8} ",
+                call.name,
+                grouped(row.cases),
+                row.differ,
+                row.zero_signs,
+                grouped(row.exact),
+                row.outside
+            );
+            for (n, &count) in row.numbers.iter().enumerate().filter(|x| *x.1 > 0) {
+                let _ = write!(s, " {n}:{}", grouped(count));
+            }
+            for n in call.idle {
+                let _ = write!(s, " {n}:idle");
+            }
+            s.push('\n');
+        }
+        s.push_str("doubles passed:");
+        for (name, count) in KINDS.iter().zip(self.kinds) {
+            let _ = write!(s, " {name} {}", grouped(count));
+        }
+        s
+    }
+}
+
+/// 1234567 as 1,234,567.
+pub fn grouped(n: u64) -> String {
+    let digits = n.to_string();
+    let mut s = String::new();
+    for (i, c) in digits.chars().enumerate() {
+        if i > 0 && (digits.len() - i).is_multiple_of(3) {
+            s.push(',');
+        }
+        s.push(c);
+    }
+    s
+}

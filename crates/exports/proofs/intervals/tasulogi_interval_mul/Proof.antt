@@ -1,0 +1,53 @@
+use mathlib.Core.Path.{sym, _∙_}
+use Rattle.interval.specs.declared.Interval.{Interval}
+use Rattle.exports.proofs.Branches.{on-both, no-both, ends-of}
+use Rattle.interval.specs.Ops.{mulOf}
+use Rattle.exports.specs.Intervals.{ends}
+use borrow.Author.Needs.{needs}
+use Rattle.exports.proofs.intervals.tasulogi_interval_mul.Statement.{statement}
+use Rattle.exports.proofs.intervals.tasulogi_interval_mul.Tie as tie
+
+pair-requires : tie.Need-pair-requires
+pair-requires c κs = search needs
+
+enum-known-p : tie.Need-enum-known-p
+enum-known-p c = search needs
+
+mul-requires : tie.Need-mul-requires
+mul-requires c κs = search needs
+
+put-requires : tie.Need-put-requires
+put-requires c κs = search needs
+
+enum-told : tie.Need-enum-told
+enum-told c = search needs
+
+refuse-requires : tie.Need-refuse-requires
+refuse-requires c κs = search needs
+
+same-length : tie.Need-same-length
+same-length c = search needs
+
+returns : tie.Need-returns
+returns c = on-both (λ (a b : Interval). ends (mulOf a b)) (sym (c .before .before .before .before .before .before .before .before .pair .ensures) ∙ c .before .before .before .before .before .before .p .given .1) (ends-of (c .before .before .before .mul .ensures) (c .before .before .put .ensures))
+
+same-length-2 : tie.Need-same-length-2
+same-length-2 c = search needs
+
+returns-2 : tie.Need-returns-2
+returns-2 c = no-both (λ (a b : Interval). ends (mulOf a b)) (sym (c .before .before .before .before .before .before .pair .ensures) ∙ c .before .before .before .before .enum-told .given .1) (c .before .before .refuse .ensures)
+
+pub tasulogi-interval-mul-spec : {M : Type 1} → statement M
+tasulogi-interval-mul-spec =
+    tie.close
+    (tie.spec
+    pair-requires
+    enum-known-p
+    mul-requires
+    put-requires
+    enum-told
+    refuse-requires
+    same-length
+    returns
+    same-length-2
+    returns-2)

@@ -1,0 +1,28 @@
+-- What an exported call answers, and from that the number it returns and the run it leaves. Definitions only.
+use Prim.Native.Nat.{ℕ}
+use mathlib.Core.Bool.{cond}
+use mathlib.Core.Path.{_≡_}
+use mathlib.Core.List.{List, _++_}
+use lib.ListN.{length, drop}
+use lib.Dec.{ltb}
+use lib.Ieee.{Float}
+use Rattle.knots.specs.Clear.{zeros}
+
+-- a refusal with its number, or doubles for the front of the lent run
+pub data Answer : Type 0 where
+  refused : ℕ → Answer
+  values : List Float → Answer
+
+-- the number returned where n doubles are lent: 30 says that the answer has no room
+abbrev pub number : Answer → ℕ → ℕ
+number (refused k) n = k
+number (values xs) n = cond (ltb n (length xs)) 30 0
+
+-- the lent run of n doubles afterwards
+abbrev pub run : Answer → ℕ → List Float
+run (refused k) n = zeros n
+run (values xs) n = cond (ltb n (length xs)) (zeros n) (xs ++ drop (length xs) (zeros n))
+
+pub record Leaves (a : Answer) (before : List Float) (after : List Float) (r : ℕ) : Type 0 where
+  pub returned : r ≡ number a (length before)
+  pub left : after ≡ run a (length before)

@@ -1,0 +1,52 @@
+-- The answers of the interval calls: the operation's result where the operands are intervals, else 99. Definitions only.
+use Prim.Native.Nat.{ℕ}
+use mathlib.Core.Bool.{cond}
+use mathlib.Core.List.{[], _∷_}
+use lib.Ieee.{Float}
+use Rattle.interval.specs.declared.Interval.{Interval}
+use Rattle.interval.specs.declared.New.{New}
+use Rattle.interval.specs.declared.New.the-variants.{Made, Nothing}
+use Rattle.interval.specs.declared.Quotient.{Quotient}
+use Rattle.interval.specs.declared.Quotient.the-variants.{Is, HoldsZero, Unbounded}
+use Rattle.interval.specs.declared.Sign.{Sign}
+use Rattle.interval.specs.declared.Sign.the-variants.{Positive, Negative, Zero, Unknown}
+use Rattle.interval.specs.Ops.{containsOf, signOf}
+use Rattle.exports.specs.declared.operands.Both.{Both}
+use Rattle.exports.specs.declared.operands.Both.the-variants.{Are, Nothing as Neither}
+use Rattle.exports.specs.Answer.{Answer, refused, values}
+
+-- the two ends, low before high
+abbrev pub ends : Interval → Answer
+ends i = values (i .lo ∷ i .hi ∷ [])
+
+abbrev pub onNew : New → (Interval → Answer) → Answer
+onNew (Made a) f = f a
+onNew Nothing f = refused 99
+
+abbrev pub bothOf : New → New → Both
+bothOf (Made a) (Made b) = Are a b
+bothOf (Made a) Nothing = Neither
+bothOf Nothing b = Neither
+
+abbrev pub onBoth : Both → (Interval → Interval → Answer) → Answer
+onBoth (Are a b) f = f a b
+onBoth Neither f = refused 99
+
+abbrev pub quotientOf : Quotient → Answer
+quotientOf (Is i) = ends i
+quotientOf HoldsZero = refused 26
+quotientOf Unbounded = refused 28
+
+abbrev pub insideNumber : New → Float → ℕ
+insideNumber (Made a) x = cond (containsOf a x) 1 0
+insideNumber Nothing x = 99
+
+abbrev pub signCase : Sign → ℕ
+signCase Positive = 1
+signCase Negative = 2
+signCase Zero = 3
+signCase Unknown = 0
+
+abbrev pub signNumber : New → ℕ
+signNumber (Made a) = signCase (signOf a)
+signNumber Nothing = 99

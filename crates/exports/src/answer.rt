@@ -1,0 +1,39 @@
+// How an exported call ends: the number it returns, and what it leaves in the lent run.
+use interval::Interval;
+use knots::clear::clear;
+ghost use mathlib.Core.Path.{_≡_};
+ghost use mathlib.Core.List.{_∷_, []};
+ghost use Rattle.exports.specs.Answer.{Leaves, refused, values};
+
+// A refusal: the number is returned, and nothing but +0.0 is left.
+pub fn refuse(out: &mut [f64], number: u32) -> u32
+    ensures { λ r. ⌜ Leaves (refused number) (now (out .entry)) (now (out .exit)) r ⌝ }
+{
+    clear(out);
+    number
+}
+
+// One double, then +0.0; 30 where the run is empty.
+pub fn put_one(out: &mut [f64], x: f64) -> u32
+    ensures { λ r. ⌜ Leaves (values (x ∷ [])) (now (out .entry)) (now (out .exit)) r ⌝ }
+{
+    clear(out);
+    if out.len() < 1 {
+        return 30;
+    }
+    out[0] = x;
+    0
+}
+
+// The two ends, low before high, then +0.0; 30 where the run has no room for both.
+pub fn put(out: &mut [f64], i: Interval) -> u32
+    ensures { λ r. ⌜ Leaves (values (i .lo ∷ i .hi ∷ [])) (now (out .entry)) (now (out .exit)) r ⌝ }
+{
+    clear(out);
+    if out.len() < 2 {
+        return 30;
+    }
+    out[0] = i.lo();
+    out[1] = i.hi();
+    0
+}

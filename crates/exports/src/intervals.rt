@@ -1,0 +1,182 @@
+// Interval arithmetic. Operands are passed by their ends; an answer's ends go into the lent run.
+use crate::answer::put;
+use crate::answer::put_one;
+use crate::answer::refuse;
+use crate::operands::Both;
+use crate::operands::pair;
+use interval::Interval;
+use interval::New;
+use interval::Quotient;
+use interval::Sign;
+ghost use mathlib.Core.Path.{_≡_};
+ghost use mathlib.Core.List.{_∷_, []};
+ghost use Rattle.interval.specs.Ops.{entire, newOf, pointOf, widthOf, hullOf, sqrOf, addOf, subOf, mulOf, negOf, divideOf, signOf};
+ghost use Rattle.exports.specs.Answer.{Leaves, values};
+ghost use Rattle.exports.specs.Intervals.{ends, onNew, onBoth, bothOf, quotientOf, signNumber, insideNumber};
+
+// What is returned where two doubles are no interval: document 01 has no number for it.
+const NO_INTERVAL: u32 = 99;
+
+// The whole line.
+#[no_mangle]
+pub extern "C" fn tasulogi_interval_entire(out: &mut [f64]) -> u32
+    ensures { λ r. ⌜ Leaves (ends entire) (now (out .entry)) (now (out .exit)) r ⌝ }
+{
+    put(out, Interval::entire())
+}
+
+#[no_mangle]
+pub extern "C" fn tasulogi_interval_new(lo: f64, hi: f64, out: &mut [f64]) -> u32
+    ensures { λ r. ⌜ Leaves (onNew (newOf lo hi) ends) (now (out .entry)) (now (out .exit)) r ⌝ }
+{
+    let n = Interval::new(lo, hi);
+    match n {
+        New::Made(a) => put(out, a),
+        New::Nothing => refuse(out, NO_INTERVAL),
+    }
+}
+
+// The interval of one double; of NaN the whole line.
+#[no_mangle]
+pub extern "C" fn tasulogi_interval_point(x: f64, out: &mut [f64]) -> u32
+    ensures { λ r. ⌜ Leaves (ends (pointOf x)) (now (out .entry)) (now (out .exit)) r ⌝ }
+{
+    put(out, Interval::point(x))
+}
+
+// The width, rounded up.
+#[no_mangle]
+pub extern "C" fn tasulogi_interval_width(lo: f64, hi: f64, out: &mut [f64]) -> u32
+    ensures { λ r. ⌜ Leaves (onNew (newOf lo hi) (λ a. values (widthOf a ∷ []))) (now (out .entry)) (now (out .exit)) r ⌝ }
+{
+    let n = Interval::new(lo, hi);
+    match n {
+        New::Made(a) => put_one(out, a.width()),
+        New::Nothing => refuse(out, NO_INTERVAL),
+    }
+}
+
+// 1 inside, 0 outside, 99 no interval.
+#[no_mangle]
+pub extern "C" fn tasulogi_interval_contains(lo: f64, hi: f64, x: f64) -> u32
+    ensures { λ r. ⌜ r ≡ insideNumber (newOf lo hi) x ⌝ }
+{
+    let n = Interval::new(lo, hi);
+    match n {
+        New::Made(a) => { if a.contains(x) { 1 } else { 0 } }
+        New::Nothing => NO_INTERVAL,
+    }
+}
+
+// 1 positive, 2 negative, 3 zero, 0 unknown, 99 no interval.
+#[no_mangle]
+pub extern "C" fn tasulogi_interval_sign(lo: f64, hi: f64) -> u32
+    ensures { λ r. ⌜ r ≡ signNumber (newOf lo hi) ⌝ }
+{
+    let n = Interval::new(lo, hi);
+    match n {
+        New::Made(a) => {
+            let s = a.sign();
+            match s {
+                Sign::Positive => 1,
+                Sign::Negative => 2,
+                Sign::Zero => 3,
+                Sign::Unknown => 0,
+            }
+        }
+        New::Nothing => NO_INTERVAL,
+    }
+}
+
+// The square, which unlike a product is never negative.
+#[no_mangle]
+pub extern "C" fn tasulogi_interval_sqr(lo: f64, hi: f64, out: &mut [f64]) -> u32
+    ensures { λ r. ⌜ Leaves (onNew (newOf lo hi) (λ a. ends (sqrOf a))) (now (out .entry)) (now (out .exit)) r ⌝ }
+{
+    let n = Interval::new(lo, hi);
+    match n {
+        New::Made(a) => put(out, a.sqr()),
+        New::Nothing => refuse(out, NO_INTERVAL),
+    }
+}
+
+#[no_mangle]
+pub extern "C" fn tasulogi_interval_neg(lo: f64, hi: f64, out: &mut [f64]) -> u32
+    ensures { λ r. ⌜ Leaves (onNew (newOf lo hi) (λ a. ends (negOf a))) (now (out .entry)) (now (out .exit)) r ⌝ }
+{
+    let n = Interval::new(lo, hi);
+    match n {
+        New::Made(a) => put(out, a.neg()),
+        New::Nothing => refuse(out, NO_INTERVAL),
+    }
+}
+
+// The least interval with both in it.
+#[no_mangle]
+pub extern "C" fn tasulogi_interval_hull(al: f64, ah: f64, bl: f64, bh: f64, out: &mut [f64]) -> u32
+    ensures { λ r. ⌜ Leaves (onBoth (bothOf (newOf al ah) (newOf bl bh)) (λ a b. ends (hullOf a b))) (now (out .entry)) (now (out .exit)) r ⌝ }
+{
+    let p = pair(al, ah, bl, bh);
+    match p {
+        Both::Are(a, b) => put(out, a.hull(b)),
+        Both::Nothing => refuse(out, NO_INTERVAL),
+    }
+}
+
+#[no_mangle]
+pub extern "C" fn tasulogi_interval_add(al: f64, ah: f64, bl: f64, bh: f64, out: &mut [f64]) -> u32
+    ensures { λ r. ⌜ Leaves (onBoth (bothOf (newOf al ah) (newOf bl bh)) (λ a b. ends (addOf a b))) (now (out .entry)) (now (out .exit)) r ⌝ }
+{
+    let p = pair(al, ah, bl, bh);
+    match p {
+        Both::Are(a, b) => put(out, a.add(b)),
+        Both::Nothing => refuse(out, NO_INTERVAL),
+    }
+}
+
+#[no_mangle]
+pub extern "C" fn tasulogi_interval_sub(al: f64, ah: f64, bl: f64, bh: f64, out: &mut [f64]) -> u32
+    ensures { λ r. ⌜ Leaves (onBoth (bothOf (newOf al ah) (newOf bl bh)) (λ a b. ends (subOf a b))) (now (out .entry)) (now (out .exit)) r ⌝ }
+{
+    let p = pair(al, ah, bl, bh);
+    match p {
+        Both::Are(a, b) => put(out, a.sub(b)),
+        Both::Nothing => refuse(out, NO_INTERVAL),
+    }
+}
+
+#[no_mangle]
+pub extern "C" fn tasulogi_interval_mul(al: f64, ah: f64, bl: f64, bh: f64, out: &mut [f64]) -> u32
+    ensures { λ r. ⌜ Leaves (onBoth (bothOf (newOf al ah) (newOf bl bh)) (λ a b. ends (mulOf a b))) (now (out .entry)) (now (out .exit)) r ⌝ }
+{
+    let p = pair(al, ah, bl, bh);
+    match p {
+        Both::Are(a, b) => put(out, a.mul(b)),
+        Both::Nothing => refuse(out, NO_INTERVAL),
+    }
+}
+
+// 26 where the divisor contains 0; 28 where no quotient can be formed.
+#[no_mangle]
+pub extern "C" fn tasulogi_interval_divide(
+    al: f64,
+    ah: f64,
+    bl: f64,
+    bh: f64,
+    out: &mut [f64],
+) -> u32
+    ensures { λ r. ⌜ Leaves (onBoth (bothOf (newOf al ah) (newOf bl bh)) (λ a b. quotientOf (divideOf a b))) (now (out .entry)) (now (out .exit)) r ⌝ }
+{
+    let p = pair(al, ah, bl, bh);
+    match p {
+        Both::Are(a, b) => {
+            let q = interval::divide(a, b);
+            match q {
+                Quotient::Is(i) => put(out, i),
+                Quotient::HoldsZero => refuse(out, 26),
+                Quotient::Unbounded => refuse(out, 28),
+            }
+        }
+        Both::Nothing => refuse(out, NO_INTERVAL),
+    }
+}

@@ -1,0 +1,5 @@
+// The C face of the libraries: numbers and lent runs in, a number and filled runs out.
+pub mod answer;
+pub mod floats;
+pub mod intervals;
+pub mod operands;
