@@ -11,7 +11,7 @@ use lib.Dec.{T, ltb, leb, eqb}
 use lib.ListN.{length}
 use lib.Ieee.{Float, nan, inf, fin, lt, le}
 use lib.Ieee.Scale.{finite}
-use borrow.Author.Tests.{ltb-false, eqb-true, eqb-false, not-true, not-false}
+use borrow.Author.Tests.{ltb-false, eq-eqb, eqb-true, eqb-false, not-true, not-false}
 use Rattle.doubles.proofs.Enclose.{lower-le}
 use Rattle.doubles.proofs.Value.{val-one}
 use Rattle.doubles.specs.Run.{at}
@@ -41,21 +41,22 @@ use Rattle.bounds.specs.declared.cartesian.BoundAnswer.the-variants as B
 use Rattle.bounds.specs.Net.{orElse, mixJet, mixOf, netOf, refusalLevels, lastBy, deboorOf}
 use Rattle.bounds.specs.Start.{weightsOf, maxOf, minOf, startAt, placeControl, refusalUp, pointAt, placeRefused}
 use Rattle.bounds.specs.Cartesian.{cartesianOf}
-use Rattle.bounds.specs.Range.{weightAt, spanOver, rangeRefusal}
-use Rattle.bounds.specs.Curve.{parameterOf, refuse, netBy, rangeIs, weightsAre, spanBound, boundOf}
+use Rattle.bounds.specs.Range.{weightAt, spanOver, takenSpan, rangeRefusal}
+use Rattle.bounds.specs.Curve.{parameterOf, refuse, netBy, rangeIs, weightsAre, spanBound, boundOf, boundAt}
 use Rattle.bounds.proofs.JetIn.{JetIn, jet-eq, in-one, in-zero}
 use Rattle.bounds.proofs.NetIn.{orElse-0, none, Family, along, across, nowhere, net-in}
 use Rattle.bounds.proofs.WeightIn.{Cut, Cuts, Largest, Least, largest, least, range-in, ControlIn, FinitePoint, place-in, control-in, up-0}
 use Rattle.bounds.proofs.CartesianIn.{Three, Encloses, Boxes, over, cartesian-in, boxes-eq, three-eq}
-use Rattle.bounds.proofs.SpanIn.{SpanValid, span-valid, InSpan, in-span, weight-finite, weight-positive}
+use Rattle.bounds.proofs.SpanIn.{SpanValid, span-valid, TakenSpan, taken-valid, taken-first, InSpan, in-span, weight-finite, weight-positive}
 use Rattle.bounds.specs.Answer.{boundsOf, boundedOf}
-use Rattle.bounds.specs.Holds.{weight, Holding, Holds}
+use Rattle.bounds.specs.Holds.{weight, Holding, HoldsOn, Holds, HoldsValid}
 use Rattle.bounds.specs.declared.answer.NurbsBounds.{NurbsBounds}
 use Rattle.bounds.specs.declared.answer.Bounded.{Bounded}
 use Rattle.bounds.specs.declared.answer.Bounded.the-variants as C
 use Rattle.knots.specs.declared.refusal.Refusal.{Refusal}
-use Rattle.knots.specs.Curve.{countOf, curveRefusal, ValidCurve}
-use Rattle.knots.proofs.Curves.{valid-curve}
+use Rattle.knots.specs.Refusal as R
+use Rattle.knots.specs.Curve.{countOf, anyLong, curveRefusal, ValidCurve}
+use Rattle.knots.proofs.Curves.{valid-curve, none-long}
 use Rattle.doubles.proofs.Tests.{T-of}
 use Rattle.doubles.specs.Run.{valAt}
 use Rattle.bounds.specs.Curve.{unless}
@@ -325,14 +326,47 @@ bound-holds p ks ps ws r lo hi t from upto =
     (λ k. let l = Va .knots .count in
     boxed A (e (X ps)) (e (Y ps)) (e (Z ps)) (span-bound-in p s ks ps ws r lo hi Va (span-valid p (countOf ps) ks lo hi (omega arith) k) t from upto)))
 
--- both promises of bound_curve
-pub both-hold : (p : ℕ) (ks ps ws : List Float) (r : Bool) (lo hi : Float) (A : Bounded) → A ≡ boundOf p ks ps r ws lo hi → (A ≡ boundOf p ks ps r ws lo hi) × Holds p ks ps r ws lo hi A
-both-hold p ks ps ws r lo hi A e = (
-  e,
-  λ t from upto b f.
-      let z = at-t p ks (countOf ps) ws r (spanOver p (countOf ps) ks lo hi) t in
-      point b (z (X ps)) (z (Y ps)) (z (Z ps)) (subst (λ (a : Bounded). Boxed a (z (X ps)) (z (Y ps)) (z (Z ps))) (sym e ∙ f) (bound-holds p ks ps ws r lo hi t from upto)),
-)
+-- the promise on a span, from the boxes of the answer
+pub holds-on : (p s : ℕ) (ks ps ws : List Float) (r : Bool) (lo hi : Float) (A B : Bounded) → A ≡ B
+    → ((t : ℚ) → val lo ≤q t → t ≤q val hi → let e = at-t p ks (countOf ps) ws r s t in Boxed B (e (X ps)) (e (Y ps)) (e (Z ps)))
+    → HoldsOn p s ks ps r ws lo hi A
+holds-on p s ks ps ws r lo hi A B e h t from upto b f =
+    let z = at-t p ks (countOf ps) ws r s t in
+    point b (z (X ps)) (z (Y ps)) (z (Z ps)) (subst (λ (a : Bounded). Boxed a (z (X ps)) (z (Y ps)) (z (Z ps))) (sym e ∙ f) (h t from upto))
   where
     point : (b : NurbsBounds) (x y z : Three) → Boxed (C.Are b) x y z → Holding (b .point) (x .value) (y .value) (z .value)
     point b x y z h = h .0
+
+-- both promises of bound_curve
+pub both-hold : (p : ℕ) (ks ps ws : List Float) (r : Bool) (lo hi : Float) (A : Bounded) → A ≡ boundOf p ks ps r ws lo hi → (A ≡ boundOf p ks ps r ws lo hi) × Holds p ks ps r ws lo hi A
+both-hold p ks ps ws r lo hi A e = (e, holds-on p (spanOver p (countOf ps) ks lo hi) ks ps ws r lo hi A _ e (bound-holds p ks ps ws r lo hi))
+
+-- bounds on a span of a valid curve hold the exact point and its derivatives at each t of the range
+pub step-holds : (p s : ℕ) (ks ps ws : List Float) (r : Bool) (lo hi : Float) → curveRefusal p ks ps r ws .number ≡ 0 → (t : ℚ) → val lo ≤q t → t ≤q val hi →
+    let e = at-t p ks (countOf ps) ws r s t in
+    Boxed (boundAt p s ks ps r ws lo hi) (e (X ps)) (e (Y ps)) (e (Z ps))
+unfolding boundAt
+step-holds p s ks ps ws r lo hi h t from upto = go (anyLong ks ps r ws)
+  where
+    e : (ℕ → ℚ) → Three
+    e = at-t p ks (countOf ps) ws r s t
+
+    rest : Bounded
+    rest = unless (rangeRefusal p (countOf ps) (takenSpan p s ks ps r ws lo hi) lo hi) (boundedOf (spanBound p s ks ps ws r lo hi))
+
+    go : (b : Bool) → Boxed (cond b (C.Refused (R.refuse R.too-long)) rest) (e (X ps)) (e (Y ps)) (e (Z ps))
+    go true = tt
+    go false = unless-in (rangeRefusal p (countOf ps) (takenSpan p s ks ps r ws lo hi) lo hi) (boundedOf (spanBound p s ks ps ws r lo hi)) (e (X ps)) (e (Y ps)) (e (Z ps))
+        (λ k. boxed (spanBound p s ks ps ws r lo hi) (e (X ps)) (e (Y ps)) (e (Z ps))
+        (span-bound-in p s ks ps ws r lo hi (valid-curve p ks ps r ws h) (taken-valid p s ks ps r ws lo hi k .valid) t from upto))
+
+-- both promises of bound_span
+pub step-both : (p s : ℕ) (ks ps ws : List Float) (r : Bool) (lo hi : Float) (A : Bounded) → A ≡ boundAt p s ks ps r ws lo hi → (A ≡ boundAt p s ks ps r ws lo hi) × HoldsValid p s ks ps r ws lo hi A
+step-both p s ks ps ws r lo hi A e = (e, λ h. holds-on p s ks ps ws r lo hi A _ e (step-holds p s ks ps ws r lo hi h))
+
+-- on the span that bound_curve takes, the step's answer for a valid curve is bound_curve's
+pub step-is-bound : (p : ℕ) (ks ps ws : List Float) (r : Bool) (lo hi : Float) → curveRefusal p ks ps r ws .number ≡ 0 → boundAt p (spanOver p (countOf ps) ks lo hi) ks ps r ws lo hi ≡ boundOf p ks ps r ws lo hi
+unfolding boundAt boundOf
+step-is-bound p ks ps ws r lo hi h =
+    let Va = valid-curve p ks ps r ws h in
+    rw (eq-eqb (curveRefusal p ks ps r ws .number) 0 h, none-long ks ps r ws (Va .short), taken-first p ks ps r ws lo hi Va)

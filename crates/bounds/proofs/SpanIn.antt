@@ -1,16 +1,16 @@
 -- What the checks of a range leave: the span taken, exactly, with a fraction of the range inside it. And the weights of a valid curve as fractions. Assumes nothing.
 use mathlib.Core.Path.{_≡_, refl, sym, _∙_, ap, subst}
-use mathlib.Core.Bool.{Bool, true, false, not, _&&_, cond}
+use mathlib.Core.Bool.{Bool, true, false, not, _&&_, _||_, cond, true≢false}
 use mathlib.Core.Logic.{_⊎_, inl, inr}
 use mathlib.Core.List.{List}
 use Prim.Native.Nat.{ℕ, zero, suc, _+_, _-_, _*_, _≤_, _<_}
 use native.Mathlib.Numerals.{add-one}
 use native.Mathlib.Omega.{arith}
-use lib.Dec.{T, ltb, eqb}
+use lib.Dec.{T, ltb, leb, eqb}
 use lib.ListN.{length}
 use lib.Ieee.{Float, lt, le}
 use lib.Ieee.Scale.{finite}
-use borrow.Author.Tests.{ltb-false, eqb-false, not-true, not-false}
+use borrow.Author.Tests.{lt-ltb, ltb-true, ltb-false, le-leb, leb-true, eqb-false, not-true, not-false}
 use Rattle.exact.specs.Rational.{ℚ, q0, _≤q_, _<q_}
 use Rattle.exact.specs.Spline.{Knots}
 use Rattle.exact.proofs.Field.{≤-trans}
@@ -21,11 +21,11 @@ use Rattle.doubles.proofs.Value.{val-lt, val-zero}
 use Rattle.doubles.proofs.Order.{val-leq}
 use Rattle.knots.specs.Refusal.{refuse, accepted, degree-high, range-bad, range-in-no-span}
 use Rattle.knots.specs.Knots.{ValidKnots}
-use Rattle.knots.specs.Curve.{isWeight, ValidControls}
+use Rattle.knots.specs.Curve.{countOf, isWeight, ValidControls, ValidCurve}
 use Rattle.knots.proofs.Refusals.{passed}
 use Rattle.knots.proofs.Below.{and-left, and-right}
 use Rattle.knots.proofs.Fractions.{knots-of}
-use Rattle.bounds.specs.Range.{inSpan, firstFrom, spanOver, rangeRefusal, weightAt}
+use Rattle.bounds.specs.Range.{inSpan, firstFrom, spanOver, hasSpan, takenSpan, rangeRefusal, weightAt}
 
 -- ---- the span that is taken
 pub record Taken (f : ℕ → Bool) (from upto s : ℕ) : Type 0 where
@@ -50,24 +50,134 @@ pub record SpanValid (p n : ℕ) (ks : List Float) (lo hi : Float) (s : ℕ) : T
   pub hi-finite : T (finite hi)
   pub span : Taken (inSpan ks lo hi) p n s
 
-pub span-valid : (p n : ℕ) (ks : List Float) (lo hi : Float) → p ≤ n → rangeRefusal p n (spanOver p n ks lo hi) lo hi .number ≡ 0 → SpanValid p n ks lo hi (spanOver p n ks lo hi)
-unfolding rangeRefusal spanOver
-span-valid p n ks lo hi l h =
+-- what a range that is not refused is, whatever its span s
+pub record RangeValid (p n s : ℕ) (lo hi : Float) : Type 0 where
+  pub small : p ≤ 64
+  pub lo-finite : T (finite lo)
+  pub hi-finite : T (finite hi)
+  pub found : s ≡ n → ⊥
+
+pub range-valid : (p n s : ℕ) (lo hi : Float) → rangeRefusal p n s lo hi .number ≡ 0 → RangeValid p n s lo hi
+unfolding rangeRefusal
+range-valid p n s lo hi h =
     let a = passed (ltb 64 p) (refuse degree-high) _ (λ e. omega arith) h in
     let b = passed (not (finite lo)) (refuse range-bad) _ (λ e. omega arith) (a .1) in
     let c = passed (not (finite hi)) (refuse range-bad) _ (λ e. omega arith) (b .1) in
     let d = passed (lt hi lo) (refuse range-bad) _ (λ e. omega arith) (c .1) in
-    let e = passed (eqb (spanOver p n ks lo hi) n) (refuse range-in-no-span) accepted (λ e. omega arith) (d .1) in
-    let f : p + (n - p) ≡ n = omega arith in
+    let e = passed (eqb s n) (refuse range-in-no-span) accepted (λ e. omega arith) (d .1) in
     record {
       small = ltb-false 64 p (a .0);
       lo-finite = T-of (finite lo) (not-false (finite lo) (b .0));
       hi-finite = T-of (finite hi) (not-false (finite hi) (c .0));
+      found = eqb-false s n (e .0);
+    }
+
+pub span-valid : (p n : ℕ) (ks : List Float) (lo hi : Float) → p ≤ n → rangeRefusal p n (spanOver p n ks lo hi) lo hi .number ≡ 0 → SpanValid p n ks lo hi (spanOver p n ks lo hi)
+unfolding spanOver
+span-valid p n ks lo hi l h =
+    let v = range-valid p n (spanOver p n ks lo hi) lo hi h in
+    let f : p + (n - p) ≡ n = omega arith in
+    record {
+      small = v .small;
+      lo-finite = v .lo-finite;
+      hi-finite = v .hi-finite;
       span = elim (first-is (inSpan ks lo hi) (n - p) p) [
-        | inl x ↦ absurd (eqb-false (spanOver p n ks lo hi) n (e .0) (x ∙ f))
+        | inl x ↦ absurd (v .found (x ∙ f))
         | inr y ↦ subst (λ m. Taken (inSpan ks lo hi) p m (spanOver p n ks lo hi)) f y
       ];
     }
+
+-- the runs have the span
+pub record HasSpan (p s : ℕ) (ks ps : List Float) (r : Bool) (ws : List Float) : Type 0 where
+  pub degree : 0 < p
+  pub first : p ≤ s
+  pub last : s < countOf ps
+  pub room : s + p < length ks
+  pub weights : r ≡ true → s < length ws
+
+pub has-span : (p s : ℕ) (ks ps : List Float) (r : Bool) (ws : List Float) → hasSpan p s ks ps r ws ≡ true → HasSpan p s ks ps r ws
+unfolding hasSpan
+has-span p s ks ps r ws h =
+    let a = and-right (ltb 0 p) _ h in
+    let b = and-right (leb p s) _ a in
+    let c = and-right (ltb s (countOf ps)) _ b in
+    record {
+      degree = ltb-true 0 p (and-left (ltb 0 p) _ h);
+      first = leb-true p s (and-left (leb p s) _ a);
+      last = ltb-true s (countOf ps) (and-left (ltb s (countOf ps)) _ b);
+      room = ltb-true (s + p) (length ks) (and-left (ltb (s + p) (length ks)) _ c);
+      weights = go r (and-right (ltb (s + p) (length ks)) _ c);
+    }
+  where
+    go : (g : Bool) → (not g || ltb s (length ws)) ≡ true → g ≡ true → s < length ws
+    go true e x = ltb-true s (length ws) e
+    go false e x = absurd (true≢false (sym x))
+
+-- a span that is taken is the one that was asked for
+pub record TakenSpan (p s : ℕ) (ks ps : List Float) (r : Bool) (ws : List Float) (lo hi : Float) : Type 0 where
+  pub has : HasSpan p s ks ps r ws
+  pub valid : SpanValid p (countOf ps) ks lo hi s
+
+pub taken-valid : (p s : ℕ) (ks ps : List Float) (r : Bool) (ws : List Float) (lo hi : Float) → rangeRefusal p (countOf ps) (takenSpan p s ks ps r ws lo hi) lo hi .number ≡ 0 → TakenSpan p s ks ps r ws lo hi
+unfolding takenSpan
+taken-valid p s ks ps r ws lo hi h = go (hasSpan p s ks ps r ws && inSpan ks lo hi s) refl (range-valid p (countOf ps) _ lo hi h)
+  where
+    go : (b : Bool) → hasSpan p s ks ps r ws && inSpan ks lo hi s ≡ b → RangeValid p (countOf ps) (cond b s (countOf ps)) lo hi → TakenSpan p s ks ps r ws lo hi
+    go true e v = let H = has-span p s ks ps r ws (and-left (hasSpan p s ks ps r ws) _ e) in
+        record {
+          has = H;
+          valid = record {
+            small = v .small;
+            lo-finite = v .lo-finite;
+            hi-finite = v .hi-finite;
+            span = record { first = H .first; last = H .last; taken = and-right (hasSpan p s ks ps r ws) _ e };
+          };
+        }
+    go false e v = absurd (v .found refl)
+
+-- the other way
+pub span-had : (p s : ℕ) (ks ps : List Float) (r : Bool) (ws : List Float) → HasSpan p s ks ps r ws → hasSpan p s ks ps r ws ≡ true
+unfolding hasSpan
+span-had p s ks ps r ws h =
+    rw (lt-ltb 0 p (h .degree), le-leb p s (h .first), lt-ltb s (countOf ps) (h .last), lt-ltb (s + p) (length ks) (h .room)) (go r (h .weights))
+  where
+    go : (g : Bool) → (g ≡ true → s < length ws) → (not g || ltb s (length ws)) ≡ true
+    go true h = lt-ltb s (length ws) (h refl)
+    go false h = refl
+
+pub taken-had : (p s : ℕ) (ks ps : List Float) (r : Bool) (ws : List Float) (lo hi : Float) → HasSpan p s ks ps r ws → inSpan ks lo hi s ≡ true → takenSpan p s ks ps r ws lo hi ≡ s
+unfolding takenSpan
+taken-had p s ks ps r ws lo hi h e = rw (span-had p s ks ps r ws h, e)
+
+pub taken-none : (p : ℕ) (ks ps : List Float) (r : Bool) (ws : List Float) (lo hi : Float) → takenSpan p (countOf ps) ks ps r ws lo hi ≡ countOf ps
+unfolding takenSpan
+taken-none p ks ps r ws lo hi = go (hasSpan p (countOf ps) ks ps r ws && inSpan ks lo hi (countOf ps))
+  where
+    go : (b : Bool) → cond b (countOf ps) (countOf ps) ≡ countOf ps
+    go true = refl
+    go false = refl
+
+-- the span that bound_curve takes, asked for by its index
+pub taken-first : (p : ℕ) (ks ps : List Float) (r : Bool) (ws : List Float) (lo hi : Float) → ValidCurve p ks ps r ws → takenSpan p (spanOver p (countOf ps) ks lo hi) ks ps r ws lo hi ≡ spanOver p (countOf ps) ks lo hi
+unfolding spanOver
+taken-first p ks ps r ws lo hi Va = go (firstFrom (inSpan ks lo hi) (countOf ps - p) p) (first-is (inSpan ks lo hi) (countOf ps - p) p)
+  where
+    f : p + (countOf ps - p) ≡ countOf ps
+    f = let l = Va .knots .count in omega arith
+
+    go : (s : ℕ) → (s ≡ p + (countOf ps - p)) ⊎ Taken (inSpan ks lo hi) p (p + (countOf ps - p)) s → takenSpan p s ks ps r ws lo hi ≡ s
+    go s (inl x) = subst (λ i. takenSpan p i ks ps r ws lo hi ≡ i) (sym (x ∙ f)) (taken-none p ks ps r ws lo hi)
+    go s (inr y) =
+        let l = y .last in
+        taken-had p s ks ps r ws lo hi
+        (record {
+          degree = Va .knots .degree;
+          first = y .first;
+          last = omega (arith, f, l);
+          room = omega (arith, f, l, Va .knots .long);
+          weights = λ e. omega (arith, f, l, Va .controls .weights e);
+        })
+        (y .taken)
 
 -- ---- a fraction of the range inside it
 pub record InSpan (p n : ℕ) (ks : List Float) (s : ℕ) (t : ℚ) : Type 0 where

@@ -21,12 +21,13 @@ use Rattle.bounds.specs.declared.cartesian.BoundAnswer.the-variants as B
 use Rattle.bounds.specs.Net.{deboorOf}
 use Rattle.bounds.specs.Start.{weightsOf, startAt, placeControl, refusalUp, pointAt}
 use Rattle.bounds.specs.Cartesian.{cartesianOf}
-use Rattle.bounds.specs.Range.{weightAt, spanOver, rangeRefusal}
+use Rattle.bounds.specs.Range.{weightAt, spanOver, takenSpan, rangeRefusal}
 use Rattle.bounds.specs.Answer.{boundedOf}
 use Rattle.bounds.specs.declared.answer.Bounded.{Bounded}
 use Rattle.bounds.specs.declared.answer.Bounded.the-variants.{Refused}
 use Rattle.knots.specs.declared.refusal.Refusal.{Refusal}
-use Rattle.knots.specs.Curve.{countOf, curveRefusal}
+use Rattle.knots.specs.Refusal as R
+use Rattle.knots.specs.Curve.{countOf, anyLong, curveRefusal}
 use lib.Dec.{eqb}
 
 unfoldable pub parameterOf : Interval → Jet
@@ -64,3 +65,10 @@ boundOf p ks ps r ws lo hi =
     unless (curveRefusal p ks ps r ws)
     (unless (rangeRefusal p (countOf ps) (spanOver p (countOf ps) ks lo hi) lo hi)
     (boundedOf (spanBound p (spanOver p (countOf ps) ks lo hi) ks ps ws r lo hi)))
+
+-- the bounds on span s of a curve that was validated before, or the first refusal: 30, 31, 24, 25 where s is no span of the runs that contains the range, then those of the steps
+unfoldable pub boundAt : ℕ → ℕ → List Float → List Float → Bool → List Float → Float → Float → Bounded
+boundAt p s ks ps r ws lo hi =
+    cond (anyLong ks ps r ws) (Refused (R.refuse R.too-long))
+    (unless (rangeRefusal p (countOf ps) (takenSpan p s ks ps r ws lo hi) lo hi)
+    (boundedOf (spanBound p s ks ps ws r lo hi)))

@@ -9,7 +9,7 @@ use Rattle.exact.specs.Spline.{exact}
 use Rattle.doubles.specs.Value.{val}
 use Rattle.doubles.specs.Run.{at, valAt}
 use Rattle.interval.specs.Inside.{Inside}
-use Rattle.knots.specs.Curve.{countOf}
+use Rattle.knots.specs.Curve.{countOf, curveRefusal}
 use Rattle.bounds.specs.Range.{spanOver, weightAt}
 use Rattle.bounds.specs.declared.answer.Triple.{Triple}
 use Rattle.bounds.specs.declared.answer.NurbsBounds.{NurbsBounds}
@@ -37,8 +37,17 @@ pub record Holding (b : Triple) (e f g : ℚ) : Type 0 where
   pub y : Inside (b .y) f
   pub z : Inside (b .z) g
 
-abbrev pub Holds : ℕ → List Float → List Float → Bool → List Float → Float → Float → Bounded → Type 0
-Holds p ks ps r ws lo hi A =
+-- at every fraction of the closed range, on span s
+abbrev pub HoldsOn : ℕ → ℕ → List Float → List Float → Bool → List Float → Float → Float → Bounded → Type 0
+HoldsOn p s ks ps r ws lo hi A =
     (t : ℚ) → val lo ≤q t → t ≤q val hi → (b : NurbsBounds) → A ≡ Are b →
-    let e = pointAt p ks ps r ws (spanOver p (countOf ps) ks lo hi) t in
+    let e = pointAt p ks ps r ws s t in
     Holding (b .point) (e 0) (e 1) (e 2)
+
+-- on the span that bound_curve takes
+abbrev pub Holds : ℕ → List Float → List Float → Bool → List Float → Float → Float → Bounded → Type 0
+Holds p ks ps r ws lo hi = HoldsOn p (spanOver p (countOf ps) ks lo hi) ks ps r ws lo hi
+
+-- on span s of a valid curve
+abbrev pub HoldsValid : ℕ → ℕ → List Float → List Float → Bool → List Float → Float → Float → Bounded → Type 0
+HoldsValid p s ks ps r ws lo hi A = curveRefusal p ks ps r ws .number ≡ 0 → HoldsOn p s ks ps r ws lo hi A

@@ -8,19 +8,22 @@ use crate::net::NetAnswer;
 use crate::net::deboor;
 use crate::range::range_refusal;
 use crate::range::span_over;
+use crate::range::taken_span;
 use crate::start::Weights;
 use crate::start::point_at;
 use crate::start::start;
 use crate::start::weights_of;
 use interval::Interval;
 use interval::New;
+use knots::curve::any_long;
 use knots::curve::curve_refusal;
+use knots::refusal::refuse;
 ghost use mathlib.Core.Path.{_≡_};
 ghost use mathlib.Core.Bool.{true};
 ghost use Prim.Native.Nat.{_+_, _*_, _≤_, _<_};
 ghost use lib.ListN.{length};
-ghost use Rattle.bounds.specs.Curve.{parameterOf, boundOf, spanBound};
-ghost use Rattle.bounds.specs.Holds.{Holds};
+ghost use Rattle.bounds.specs.Curve.{parameterOf, boundOf, boundAt, spanBound};
+ghost use Rattle.bounds.specs.Holds.{Holds, HoldsValid};
 
 // The parameter as a jet.
 pub fn parameter(range: Interval) -> Jet
@@ -97,4 +100,30 @@ pub fn bound_curve(
         return Bounded::Refused(outside);
     }
     answer_of(on_span(degree, s, knots, points, weights, rational, lo, hi))
+}
+
+// The bounds on a span of a curve that was validated before: no number but the span's own is read, so that a walk over all spans validates once.
+pub fn bound_span(
+    degree: usize,
+    span: usize,
+    knots: &[f64],
+    points: &[f64],
+    rational: bool,
+    weights: &[f64],
+    lo: f64,
+    hi: f64,
+) -> Bounded
+    ensures { λ r. ⌜ r ≡ boundAt degree span (now (knots .entry)) (now (points .entry)) rational (now (weights .entry)) lo hi ⌝ }
+    ensures { λ r. ⌜ HoldsValid degree span (now (knots .entry)) (now (points .entry)) rational (now (weights .entry)) lo hi r ⌝ }
+{
+    if any_long(knots, points, rational, weights) {
+        return Bounded::Refused(refuse(30));
+    }
+    let count = points.len() / 3;
+    let s = taken_span(degree, span, knots, points, rational, weights, lo, hi);
+    let outside = range_refusal(degree, count, s, lo, hi);
+    if outside.number != 0 {
+        return Bounded::Refused(outside);
+    }
+    answer_of(on_span(degree, span, knots, points, weights, rational, lo, hi))
 }
