@@ -10,3 +10,4 @@ pub mod Derivs
 pub mod AllDers
 pub mod Factors
 pub mod Whole
+pub mod Worked

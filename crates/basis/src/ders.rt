@@ -292,14 +292,7 @@ fn in_reach(m: usize, p: usize, n: usize, knots: &[f64], span: usize) -> bool
 
 // The basis functions of a span and their derivatives up to order n, at most 2, into a run of three rows of 65 numbers.
 // On any other input the run is +0.0.
-pub fn basis_derivatives(
-    span: usize,
-    u: f64,
-    p: usize,
-    n: usize,
-    knots: &[f64],
-    ders: &mut [f64],
-)
+pub fn basis_derivatives(span: usize, u: f64, p: usize, n: usize, knots: &[f64], ders: &mut [f64])
     ensures { λ _. ⌜ now (ders .exit) ≡ basisTable (length (now (ders .entry))) p n (now (knots .entry)) span u ⌝ }
 {
     let room = ders.len();

@@ -1,13 +1,13 @@
-use Prim.Native.Nat.{ℕ, _+_, _-_, _*_, _≤_, _<_}
-use mathlib.Core.Path.{_≡_, refl, sym, _∙_, ap, subst}
-use mathlib.Core.List.{List}
+-- `basis::basis::column` meets its contract.
+-- Assumes nothing.
+use Prim.Native.Nat.{ℕ, _+_, _-_, _*_}
+use mathlib.Core.Path.{_≡_, refl, subst}
 use native.Mathlib.Omega.{arith}
 use denote.Ref.{now}
-use lib.ListN.{length, set, length-set}
-use lib.Ieee.{Float, binary64, add}
+use lib.ListN.{length-set}
+use lib.Ieee.{binary64, add}
 use borrow.Author.Needs.{needs}
 use Rattle.doubles.specs.Run.{at}
-use Rattle.basis.specs.Basis.{ColumnDone}
 use Rattle.basis.proofs.Columns.{InColumn, column-start, column-step, column-end}
 use Rattle.basis.proofs.basis.column.Statement.{statement}
 use Rattle.basis.proofs.basis.column.Tie as tie

@@ -1,5 +1,6 @@
-use Prim.Native.Nat.{ℕ, _+_, _≤_, _<_}
-use mathlib.Core.Path.{_≡_, sym, _∙_}
+-- `basis::ders::basis_derivatives` meets its contract.
+-- Assumes nothing.
+use mathlib.Core.Path.{sym, _∙_}
 use native.Mathlib.Omega.{arith}
 use denote.Ref.{now}
 use lib.ListN.{length}
@@ -8,13 +9,6 @@ use Rattle.basis.proofs.Whole.{reached, answer-none, answer-some, clear
 use borrow.Author.Needs.{needs}
 use Rattle.basis.proofs.ders.basis_derivatives.Statement.{statement}
 use Rattle.basis.proofs.ders.basis_derivatives.Tie as tie
-use Rattle.basis.proofs.ders.basis_derivatives.Reads as reads
-use Rattle.basis.proofs.ders.basis_derivatives.Lts as lts
-use Rattle.basis.proofs.ders.in_reach.Reads as in-reach-reads
-use Rattle.basis.proofs.ders.large_derivatives.Reads as large-derivatives-reads
-use Rattle.basis.proofs.ders.middle_derivatives.Reads as middle-derivatives-reads
-use Rattle.basis.proofs.ders.small_derivatives.Reads as small-derivatives-reads
-use Rattle.knots.proofs.clear.clear.Reads as clear-reads
 
 clear-requires : tie.Need-clear-requires
 clear-requires c κs = search needs

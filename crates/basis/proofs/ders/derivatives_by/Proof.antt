@@ -1,6 +1,7 @@
+-- `basis::ders::derivatives_by` meets its contract.
+-- Assumes nothing.
 use borrow.Author.Needs.{needs}
-use Prim.Native.Nat.{ℕ, _+_, _-_, _*_, _^_, _≤_, _<_}
-use mathlib.Core.Path.{_≡_, refl, sym, _∙_, ap, subst}
+use mathlib.Core.Path.{ap}
 use mathlib.Core.Logic.{inl, inr}
 use native.Mathlib.Omega.{arith}
 use denote.Ref.{now}
@@ -9,11 +10,6 @@ use Rattle.basis.specs.Basis.{leftOf, rightOf}
 use Rattle.basis.proofs.Factors.{done-none, done-one, done-two}
 use Rattle.basis.proofs.ders.derivatives_by.Statement.{statement}
 use Rattle.basis.proofs.ders.derivatives_by.Tie as tie
-use Rattle.basis.proofs.ders.derivatives_by.Reads as reads
-use Rattle.basis.proofs.ders.derivatives_by.Lts as lts
-use Rattle.basis.proofs.ders.degree_as_double.Reads as degree-as-double-reads
-use Rattle.basis.proofs.ders.raw_derivatives.Reads as raw-derivatives-reads
-use Rattle.basis.proofs.ders.scale_row.Reads as scale-row-reads
 
 raw-derivatives-requires : tie.Need-raw-derivatives-requires
 raw-derivatives-requires c κs = search needs

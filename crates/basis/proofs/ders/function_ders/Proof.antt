@@ -1,20 +1,17 @@
-use Prim.Native.Nat.{ℕ, _+_, _-_, _*_, _^_, _≤_, _<_}
-use mathlib.Core.Path.{_≡_, refl, sym, _∙_, ap, subst}
+-- `basis::ders::function_ders` meets its contract.
+-- Assumes nothing.
+use Prim.Native.Nat.{_+_}
+use mathlib.Core.Path.{refl}
 use mathlib.Core.Logic.{inl, inr}
 use native.Mathlib.Omega.{arith}
 use denote.Ref.{now}
-use lib.ListN.{length, set, length-set, replicate}
-use lib.Ieee.{Float, binary64, mul}
+use lib.ListN.{set, length-set, replicate}
 use borrow.Author.Needs.{needs}
-use Rattle.doubles.specs.Run.{at}
 use Rattle.basis.specs.Floats.{floats}
-use Rattle.basis.specs.Basis.{cell, leftOf, rightOf}
+use Rattle.basis.specs.Basis.{cell}
 use Rattle.basis.proofs.Derivs.{first-is, second-is, ders-none, ders-one, ders-two}
 use Rattle.basis.proofs.ders.function_ders.Statement.{statement}
 use Rattle.basis.proofs.ders.function_ders.Tie as tie
-use Rattle.basis.proofs.ders.function_ders.Reads as reads
-use Rattle.basis.proofs.ders.function_ders.Lts as lts
-use Rattle.basis.proofs.ders.row.Reads as row-reads
 
 returns : tie.Need-returns
 returns c =

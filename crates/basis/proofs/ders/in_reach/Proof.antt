@@ -1,4 +1,6 @@
-use Prim.Native.Nat.{_+_, _-_, _≤_}
+-- `basis::ders::in_reach` meets its contract.
+-- Assumes nothing.
+use Prim.Native.Nat.{_+_}
 use native.Mathlib.Omega.{arith}
 use denote.Ref.{now}
 use lib.ListN.{length}
@@ -7,8 +9,6 @@ use borrow.Author.Tests.{lt-ltb, le-ltb, lt-leb, le-leb}
 use Rattle.basis.specs.Ders.{inReach}
 use Rattle.basis.proofs.ders.in_reach.Statement.{statement}
 use Rattle.basis.proofs.ders.in_reach.Tie as tie
-use Rattle.basis.proofs.ders.in_reach.Reads as reads
-use Rattle.basis.proofs.ders.in_reach.Lts as lts
 
 returns : tie.Need-returns
 unfolding inReach

@@ -1,21 +1,15 @@
-use Prim.Native.Nat.{ℕ, _+_, _-_, _*_, _^_, _≤_, _<_}
-use mathlib.Core.Path.{_≡_, refl, sym, _∙_, ap, subst}
-use mathlib.Core.Logic.{inl, inr}
+-- `basis::ders::raw_derivatives` meets its contract.
+-- Assumes nothing.
+use Prim.Native.Nat.{ℕ, _+_, _-_, _≤_}
+use mathlib.Core.Path.{_≡_, _∙_, subst}
 use native.Mathlib.Omega.{arith}
 use denote.Ref.{now}
-use lib.ListN.{length, set, length-set, replicate}
-use lib.Ieee.{Float, binary64, mul}
+use lib.ListN.{length-set}
 use borrow.Author.Needs.{needs}
-use Rattle.doubles.specs.Run.{at}
-use Rattle.basis.specs.Floats.{floats}
 use Rattle.basis.specs.Basis.{cell, leftOf, rightOf}
 use Rattle.basis.proofs.AllDers.{InDers, ders-start, ders-more, ders-end}
 use Rattle.basis.proofs.ders.raw_derivatives.Statement.{statement}
 use Rattle.basis.proofs.ders.raw_derivatives.Tie as tie
-use Rattle.basis.proofs.ders.raw_derivatives.Reads as reads
-use Rattle.basis.proofs.ders.raw_derivatives.Lts as lts
-use Rattle.basis.proofs.basis.table.Reads as table-reads
-use Rattle.basis.proofs.ders.function_ders.Reads as function-ders-reads
 
 abbrev Inv-loop : tie.InvT-loop
 Inv-loop span u p n knots ndu ders₀ r₀ ders r = (r ≤ p + 1) × InDers (cell ndu) p n ders₀ ders r

@@ -1,19 +1,13 @@
-use Prim.Native.Nat.{ℕ, _+_, _-_, _*_, _≤_, _<_, min, max}
-use mathlib.Core.Path.{_≡_, refl, sym, _∙_, ap, subst}
-use mathlib.Core.List.{List}
-use native.Mathlib.Omega.{arith}
+-- `basis::ders::row` meets its contract.
+-- Assumes nothing.
+use mathlib.Core.Path.{refl}
 use denote.Ref.{now}
-use lib.ListN.{length, set, length-set}
-use lib.Ieee.{Float, nan}
 use borrow.Author.Needs.{needs}
 use Rattle.doubles.specs.Run.{at}
 use Rattle.basis.specs.Basis.{cell}
-use Rattle.basis.specs.Ders.{endOf}
 use Rattle.basis.proofs.Rows2.{row-short, row-whole}
 use Rattle.basis.proofs.ders.row.Statement.{statement}
 use Rattle.basis.proofs.ders.row.Tie as tie
-use Rattle.exact.specs.Scheme.{coefOf}
-use Rattle.basis.specs.Floats.{floats}
 
 row-start-requires : tie.Need-row-start-requires
 row-start-requires c κs = search needs

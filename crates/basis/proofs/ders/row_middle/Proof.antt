@@ -1,19 +1,15 @@
-use Prim.Native.Nat.{ℕ, _+_, _-_, _*_, _≤_, _<_, min, max}
-use mathlib.Core.Path.{_≡_, refl, sym, _∙_, ap, subst}
-use mathlib.Core.List.{List}
+-- `basis::ders::row_middle` meets its contract.
+-- Assumes nothing.
+use Prim.Native.Nat.{_+_, _-_}
+use mathlib.Core.Path.{_≡_, refl}
 use native.Mathlib.Omega.{arith}
 use denote.Ref.{now}
-use lib.ListN.{length, set, length-set}
-use lib.Seq.{getD-set-same}
-use lib.Ieee.{Float, nan}
 use borrow.Author.Needs.{needs}
 use Rattle.doubles.specs.Run.{at}
 use Rattle.basis.specs.Basis.{cell}
-use Rattle.basis.proofs.Rows2.{Places, places, InMiddle, middle-start, middle-step, middle-end, row-short, row-whole, start-coef, start-none, start-some}
+use Rattle.basis.proofs.Rows2.{Places, places, InMiddle, middle-start, middle-step, middle-end}
 use Rattle.basis.proofs.ders.row_middle.Statement.{statement}
 use Rattle.basis.proofs.ders.row_middle.Tie as tie
-use Rattle.exact.specs.Scheme.{coefOf}
-use Rattle.basis.specs.Floats.{floats}
 
 abbrev Inv-loop : tie.InvT-loop
 Inv-loop r k p s ndu from to₀ pk end d₀ j₀ to d j = (pk + k ≡ p) × Places p r k j₀ end × InMiddle (cell ndu) p r k (at from) j₀ end to₀ s to d j

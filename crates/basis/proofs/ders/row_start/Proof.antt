@@ -1,19 +1,18 @@
-use Prim.Native.Nat.{ℕ, _+_, _-_, _*_, _≤_, _<_, min, max}
-use mathlib.Core.Path.{_≡_, refl, sym, _∙_, ap, subst}
-use mathlib.Core.List.{List}
+-- `basis::ders::row_start` meets its contract.
+-- Assumes nothing.
+use Prim.Native.Nat.{_+_, _-_}
+use mathlib.Core.Path.{_≡_, _∙_}
 use native.Mathlib.Omega.{arith}
 use denote.Ref.{now}
-use lib.ListN.{length, set, length-set}
+use lib.ListN.{length-set}
 use lib.Seq.{getD-set-same}
-use lib.Ieee.{Float, nan}
+use lib.Ieee.{nan}
 use borrow.Author.Needs.{needs}
 use Rattle.doubles.specs.Run.{at}
 use Rattle.basis.specs.Basis.{cell}
-use Rattle.basis.proofs.Rows2.{InMiddle, middle-start, middle-step, middle-end, row-short, row-whole, start-coef, start-none, start-some}
+use Rattle.basis.proofs.Rows2.{start-coef, start-none, start-some}
 use Rattle.basis.proofs.ders.row_start.Statement.{statement}
 use Rattle.basis.proofs.ders.row_start.Tie as tie
-use Rattle.exact.specs.Scheme.{coefOf}
-use Rattle.basis.specs.Floats.{floats}
 
 returns : tie.Need-returns
 returns c =

@@ -1,19 +1,13 @@
-use Prim.Native.Nat.{ℕ, _+_, _-_, _*_, _^_, _≤_, _<_}
-use mathlib.Core.Path.{_≡_, refl, sym, _∙_, ap, subst}
-use mathlib.Core.Logic.{inl, inr}
+-- `basis::ders::scale_row` meets its contract.
+-- Assumes nothing.
+use Prim.Native.Nat.{ℕ, _+_, _-_, _≤_}
+use mathlib.Core.Path.{_≡_, subst}
 use native.Mathlib.Omega.{arith}
 use denote.Ref.{now}
-use lib.ListN.{length, set, length-set, replicate}
-use lib.Ieee.{Float, binary64, mul}
 use borrow.Author.Needs.{needs}
-use Rattle.doubles.specs.Run.{at}
-use Rattle.basis.specs.Floats.{floats}
-use Rattle.basis.specs.Basis.{cell, leftOf, rightOf}
 use Rattle.basis.proofs.Factors.{InScale, scale-start, scale-more, scale-end}
 use Rattle.basis.proofs.ders.scale_row.Statement.{statement}
 use Rattle.basis.proofs.ders.scale_row.Tie as tie
-use Rattle.basis.proofs.ders.scale_row.Reads as reads
-use Rattle.basis.proofs.ders.scale_row.Lts as lts
 
 abbrev Inv-loop : tie.InvT-loop
 Inv-loop k p f ders₀ j₀ ders j = (j ≤ p + 1) × InScale k p f ders₀ ders j

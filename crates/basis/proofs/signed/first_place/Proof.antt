@@ -1,14 +1,14 @@
-use Prim.Native.Nat.{ℕ, suc, _+_, _-_, _≤_, _<_, max}
-use mathlib.Core.Path.{_≡_, refl, sym, _∙_, ap, subst}
-use mathlib.Core.Logic.{_⊎_, inl, inr}
+-- `basis::signed::first_place` meets its contract.
+-- Assumes nothing.
+use Prim.Native.Nat.{_+_, _-_, _≤_, _<_}
+use mathlib.Core.Path.{sym, _∙_, subst}
 use native.Mathlib.Omega.{arith}
-use lib.IntN.{ℤ, pos, negsuc, _-ℤ_}
+use lib.IntN.{ℤ}
 use mir.Syntax.{w64}
-use mir.Val.{SFits, ofZ, toZ}
+use mir.Val.{SFits}
 use borrow.Author.Needs.{needs}
 use Rattle.basis.specs.Ders.{firstOf}
-use Rattle.basis.proofs.Cases.{lt-or-ge}
-use Rattle.basis.proofs.Signeds.{start-fits, back, place, sfits-pos, holds, cast-back, cast-is, low-place, high-place, negated}
+use Rattle.basis.proofs.Signeds.{start-fits, sfits-pos, cast-back, cast-is, low-place, high-place, negated}
 use Rattle.basis.proofs.signed.first_place.Statement.{statement}
 use Rattle.basis.proofs.signed.first_place.Tie as tie
 

@@ -1,13 +1,13 @@
-use Prim.Native.Nat.{ℕ, suc, _+_, _-_, _≤_, _<_, max}
-use mathlib.Core.Path.{_≡_, refl, sym, _∙_, ap, subst}
-use mathlib.Core.Logic.{_⊎_, inl, inr}
+-- `basis::signed::shifted` meets its contract.
+-- Assumes nothing.
+use Prim.Native.Nat.{_+_, _-_}
+use mathlib.Core.Path.{sym, subst}
 use native.Mathlib.Omega.{arith}
-use lib.IntN.{ℤ, pos, negsuc, _-ℤ_}
+use lib.IntN.{ℤ}
 use mir.Syntax.{w64}
-use mir.Val.{SFits, ofZ, toZ}
+use mir.Val.{SFits}
 use borrow.Author.Needs.{needs}
-use Rattle.basis.proofs.Cases.{lt-or-ge}
-use Rattle.basis.proofs.Signeds.{start-fits, back, place, sfits-pos, holds, cast-back, cast-is, start-up, start-down}
+use Rattle.basis.proofs.Signeds.{start-fits, place, sfits-pos, cast-back, cast-is}
 use Rattle.basis.proofs.signed.shifted.Statement.{statement}
 use Rattle.basis.proofs.signed.shifted.Tie as tie
 
