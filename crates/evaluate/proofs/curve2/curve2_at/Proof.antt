@@ -1,0 +1,79 @@
+-- src/curve2.rt:80:45
+use mathlib.Core.Path.{refl}
+use native.Mathlib.Omega.{arith}
+use denote.Ref.{now}
+use Rattle.basis.proofs.Whole.{Reach}
+use Rattle.evaluate.proofs.Curves.{curve2-is}
+use borrow.Author.Needs.{needs}
+use Rattle.evaluate.proofs.curve2.curve2_at.Statement.{statement}
+use Rattle.evaluate.proofs.curve2.curve2_at.Tie as tie
+
+slice-aggregate-basis-derivatives : tie.Need-slice-aggregate-basis-derivatives
+slice-aggregate-basis-derivatives c = search needs
+
+-- src/curve2.rt:80:5
+basis-derivatives-requires : tie.Need-basis-derivatives-requires
+basis-derivatives-requires c κs = search needs
+
+-- src/curve2.rt:81:17
+sub-first : tie.Need-sub-first
+sub-first c = search needs
+
+-- src/curve2.rt:82:52
+add-scale-at : tie.Need-add-scale-at
+add-scale-at c = search needs
+
+-- src/curve2.rt:82:9
+scale-at-requires : tie.Need-scale-at-requires
+scale-at-requires c κs = λ g. let h = c .before .before .before .before .before .before .pre .1 .1 .1 .1 .1 g in omega arith
+
+-- src/curve2.rt:83:9
+point-at-requires : tie.Need-point-at-requires
+point-at-requires c κs = search needs
+
+-- src/curve2.rt:84:9
+row-sums-requires : tie.Need-row-sums-requires
+row-sums-requires c κs =
+    let q = c .before .before .before .before .before .before .before .before .before .pre in
+    (omega arith, (omega arith, (omega arith, (λ g. let h = q .1 .1 .1 .1 .1 g in omega arith))))
+
+-- src/curve2.rt:85:9
+row-sums-requires-2 : tie.Need-row-sums-requires-2
+row-sums-requires-2 c κs =
+    let q = c .before .before .before .before .before .before .before .before .before .before .before .pre in
+    (omega arith, (omega arith, (omega arith, (λ g. let h = q .1 .1 .1 .1 .1 g in omega arith))))
+
+-- src/curve2.rt:86:9
+row-sums-requires-3 : tie.Need-row-sums-requires-3
+row-sums-requires-3 c κs =
+    let q = c .before .before .before .before .before .before .before .before .before .before .before .before .before .pre in
+    (omega arith, (omega arith, (omega arith, (λ g. let h = q .1 .1 .1 .1 .1 g in omega arith))))
+
+-- src/curve2.rt:87:5
+quotient2-of-requires : tie.Need-quotient2-of-requires
+quotient2-of-requires c κs = search needs
+
+-- src/curve2.rt:62:1
+returns : tie.Need-returns
+returns c =
+    let a = c .before .before .before .before .before .before .before .before .before .before .before .before .before .before .before .args in
+    let q = c .before .before .before .before .before .before .before .before .before .before .before .before .before .before .before .pre in
+    let reach : Reach 195 (a .p) 2 (now (a .knots)) (a .span) = record { degree = q .0; high = q .1 .0; orders = omega arith; low = q .1 .1 .0; long = q .1 .1 .1 .0; room = refl } in
+    curve2-is (a .p) 2 (now (a .knots)) (now (a .points)) (a .rational) (now (a .weights)) (a .span) (a .u) reach _ (c .before .before .before .before .before .before .before .before .before .before .basis-derivatives .ensures) _ (c .before .before .before .before .before .before .before .before .scale-at .ensures)
+    (omega arith) _ _ _ _ _ (c .before .before .before .before .before .before .before .point-at .ensures) (c .before .before .before .before .before .row-sums .ensures) (c .before .before .before .row-sums2 .ensures) (c .before .row-sums3 .ensures) (c .quotient2-of .ensures)
+
+pub curve2-at-spec : {M : Type 1} → statement M
+curve2-at-spec =
+    tie.close
+    (tie.spec
+    slice-aggregate-basis-derivatives
+    basis-derivatives-requires
+    sub-first
+    add-scale-at
+    scale-at-requires
+    point-at-requires
+    row-sums-requires
+    row-sums-requires-2
+    row-sums-requires-3
+    quotient2-of-requires
+    returns)

@@ -1,0 +1,71 @@
+-- src/curve2.rt:116:9
+use mathlib.Core.Path.{_≡_, sym, _∙_, ap, subst}
+use denote.Ref.{now}
+use Rattle.knots.specs.declared.refusal.Refusal.{Refusal}
+use Rattle.evaluate.specs.Curve.{looked, stepRefusal}
+use Rattle.evaluate.proofs.Steps.{step-open, InRuns, in-runs}
+use Rattle.evaluate.proofs.Curves.{at2-refused, at2-answered, at2-degenerate}
+use Rattle.evaluate.specs.declared.curve2.CurveAnswer2.the-variants.{Refused}
+use borrow.Author.Needs.{needs}
+use Rattle.evaluate.proofs.curve2.eval2_at.Statement.{statement}
+use Rattle.evaluate.proofs.curve2.eval2_at.Tie as tie
+
+step-refusal-requires : tie.Need-step-refusal-requires
+step-refusal-requires c κs = search needs
+
+-- src/curve2.rt:118:9
+returns : tie.Need-returns
+returns c = let a = c .before .before .before .before .before .before .args in at2-refused (a .degree) (now (a .knots)) (now (a .points)) (a .rational) (now (a .weights)) (a .t) _ (c .if1 .taken) (c .before .before .step-refusal .ensures)
+
+-- src/curve2.rt:121:9
+span-of-requires : tie.Need-span-of-requires
+span-of-requires c κs = search needs
+
+-- src/curve2.rt:122:9
+clamp-requires : tie.Need-clamp-requires
+clamp-requires c κs = search needs
+
+-- src/curve2.rt:123:9
+curve2-at-requires : tie.Need-curve2-at-requires
+curve2-at-requires c κs =
+    let a = c .before .before .before .before .before .before .before .before .args in
+    let none : stepRefusal (a .degree) (now (a .knots)) (now (a .points)) (a .rational) (now (a .weights)) (a .t) .number ≡ 0 = sym (ap (λ (r : Refusal). r .number) (c .before .before .before .before .step-refusal .ensures)) ∙ c .before .before .if1 .left in
+    let o = step-open (a .degree) (now (a .knots)) (now (a .points)) (a .rational) (now (a .weights)) (a .t) none in
+    let s = c .before .span-of .ensures .found in
+    let i = subst (InRuns (a .degree) (now (a .knots)) (now (a .points)) (a .rational) (now (a .weights))) (sym s) (in-runs (a .degree) (now (a .knots)) (now (a .points)) (a .rational) (now (a .weights)) (looked (a .degree) (now (a .knots)) (now (a .points)) (a .t)) (o .shape)) in
+    (o .shape .degree, (o .high, (i .from, (i .knots, (i .points, i .weights)))))
+
+-- src/curve2.rt:124:8
+finite2-of-requires : tie.Need-finite2-of-requires
+finite2-of-requires c κs = search needs
+
+-- src/curve2.rt:125:9
+returns-2 : tie.Need-returns-2
+returns-2 c =
+    let a = c .before .before .before .before .before .before .before .before .before .before .before .args in
+    at2-answered (a .degree) (now (a .knots)) (now (a .points)) (a .rational) (now (a .weights)) (a .t) (c .before .before .before .before .before .before .before .step-refusal .result) (c .before .before .before .before .before .before .before .step-refusal .ensures) (c .before .before .before .before .before .if1 .left) _ _ (c .before .before .before .before .span-of .ensures .found) (c .before .before .before .clamp .ensures) _ (c .before .before .curve2-at .ensures) (sym (c .before .finite2-of .ensures) ∙ c .if2 .taken)
+
+-- src/curve2.rt:127:27
+refuse-requires : tie.Need-refuse-requires
+refuse-requires c κs = search needs
+
+-- src/curve2.rt:106:1
+returns-3 : tie.Need-returns-3
+returns-3 c =
+    let a = c .before .before .before .before .before .before .before .before .before .before .before .before .args in
+    ap Refused (c .refuse .ensures)
+    ∙ at2-degenerate (a .degree) (now (a .knots)) (now (a .points)) (a .rational) (now (a .weights)) (a .t) (c .before .before .before .before .before .before .before .before .step-refusal .result) (c .before .before .before .before .before .before .before .before .step-refusal .ensures) (c .before .before .before .before .before .before .if1 .left) _ _ (c .before .before .before .before .before .span-of .ensures .found) (c .before .before .before .before .clamp .ensures) _ (c .before .before .before .curve2-at .ensures) (sym (c .before .before .finite2-of .ensures) ∙ c .before .if2 .left)
+
+pub eval2-at-spec : {M : Type 1} → statement M
+eval2-at-spec =
+    tie.close
+    (tie.spec
+    step-refusal-requires
+    returns
+    span-of-requires
+    clamp-requires
+    curve2-at-requires
+    finite2-of-requires
+    returns-2
+    refuse-requires
+    returns-3)

@@ -1,0 +1,3 @@
+pub mod Controls
+pub mod Curve
+pub mod Curve2

@@ -1,0 +1,5 @@
+// Points and derivatives of curves and surfaces, reversal, isoparametric curves.
+mod controls;
+pub mod curve;
+pub mod curve2;
+pub mod vector;
