@@ -1,3 +1,4 @@
 pub mod Sums
+pub mod Searches
 pub mod Steps
 pub mod Curves

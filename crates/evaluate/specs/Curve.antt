@@ -1,19 +1,18 @@
 -- The point and the first derivative of a curve, and the answers of `eval` and of its step `eval_at`.
 -- Assumes nothing.
-use Prim.Native.Nat.{ℕ, _+_, _-_, _%_}
-use mathlib.Core.Bool.{Bool, false, not, _&&_, cond}
+use Prim.Native.Nat.{ℕ, _+_, _-_}
+use mathlib.Core.Bool.{Bool, false, cond}
 use mathlib.Core.List.{List}
-use lib.ListN.{length}
-use lib.Dec.{ltb, leb, eqb}
+use lib.Dec.{eqb}
 use lib.Ieee.{Float, binary64, add, sub, mul, div}
-use lib.Ieee.Scale.{finite}
 use Rattle.exact.specs.Scheme.{dersOf}
-use Rattle.knots.specs.Refusal.{refuse, accepted, orElse, degree-zero, few-points, knot-count, weight-count, parameter-not-finite, degree-high, points-uneven}
+use Rattle.knots.specs.Refusal.{orElse}
 use Rattle.knots.specs.Span.{clamped, spanOf, searched}
 use Rattle.knots.specs.Curve.{countOf, curveRefusal}
 use Rattle.knots.specs.declared.refusal.Refusal.{Refusal}
 use Rattle.basis.specs.Floats.{floats}
 use Rattle.basis.specs.Basis.{leftOf, rightOf}
+use Rattle.evaluate.specs.Shape.{degreeRefusal, finiteRefusal, curveShape}
 use Rattle.evaluate.specs.Controls.{pointOf, scaleOf, rowSums}
 use Rattle.evaluate.specs.declared.vector.Vector.{Vector}
 use Rattle.evaluate.specs.declared.controls.Sums.{Sums}
@@ -49,24 +48,11 @@ module _ (p : ℕ) (ks ps : List Float) (g : Bool) (ws : List Float) where
 -- ---- refusals
 -- 31, 12
 unfoldable pub parameterRefusal : ℕ → Float → Refusal
-parameterRefusal p t = cond (ltb 64 p) (refuse degree-high) (cond (not (finite t)) (refuse parameter-not-finite) accepted)
-
--- weights are given, and not one for each of n points
-unfoldable pub lacksWeights : ℕ → Bool → List Float → Bool
-lacksWeights n g ws = g && not (eqb (length ws) n)
-
--- what the lengths of the runs show: 32, 1, 2, 3, 9
-unfoldable pub shapeRefusal : ℕ → List Float → List Float → Bool → List Float → Refusal
-shapeRefusal p ks ps g ws =
-    cond (not (eqb (length ps % 3) 0)) (refuse points-uneven)
-    (cond (eqb p 0) (refuse degree-zero)
-    (cond (leb (countOf ps) p) (refuse few-points)
-    (cond (not (eqb (length ks) (countOf ps + p + 1))) (refuse knot-count)
-    (cond (lacksWeights (countOf ps) g ws) (refuse weight-count) accepted))))
+parameterRefusal p t = orElse (degreeRefusal p) (finiteRefusal t)
 
 -- of a step on a curve that was validated before, and of an evaluation
 unfoldable pub stepRefusal : ℕ → List Float → List Float → Bool → List Float → Float → Refusal
-stepRefusal p ks ps g ws t = orElse (shapeRefusal p ks ps g ws) (parameterRefusal p t)
+stepRefusal p ks ps g ws t = orElse (curveShape p ks ps g ws) (parameterRefusal p t)
 
 unfoldable pub evalRefusal : ℕ → List Float → List Float → Bool → List Float → Float → Refusal
 evalRefusal p ks ps g ws t = orElse (curveRefusal p ks ps g ws) (parameterRefusal p t)

@@ -1,3 +1,4 @@
+pub mod Shape
 pub mod Controls
 pub mod Curve
 pub mod Curve2

@@ -3,20 +3,20 @@ use crate::controls::Sums;
 use crate::controls::point_at;
 use crate::controls::row_sums;
 use crate::controls::scale_at;
+use crate::shape::curve_shape;
+use crate::shape::degree_refusal;
+use crate::shape::finite_refusal;
 use crate::vector::Vector;
 use basis::ders::basis_derivatives;
-use interval::float::is_finite;
 use knots::curve::curve_refusal;
-use knots::limits::is_sum;
 use knots::refusal::Refusal;
-use knots::refusal::refuse;
 use knots::span::clamp;
 use knots::span::span_of;
 ghost use mathlib.Core.Path.{_≡_};
 ghost use mathlib.Core.Bool.{true};
 ghost use Prim.Native.Nat.{_+_, _*_, _<_, _≤_};
 ghost use lib.ListN.{length};
-ghost use Rattle.evaluate.specs.Curve.{lacksWeights, parameterRefusal, shapeRefusal, evalRefusal, stepRefusal, quotient, curveOf, evalAtOf, evalOf};
+ghost use Rattle.evaluate.specs.Curve.{parameterRefusal, evalRefusal, stepRefusal, quotient, curveOf, evalAtOf, evalOf};
 
 pub struct CurveDerivs {
     pub point: Vector,
@@ -80,53 +80,11 @@ fn curve_at(
 pub fn parameter_refusal(degree: usize, t: f64) -> Refusal
     ensures { λ r. ⌜ r ≡ parameterRefusal degree t ⌝ }
 {
-    if degree > 64 {
-        return refuse(31);
+    let refusal = degree_refusal(degree);
+    if refusal.number != 0 {
+        return refusal;
     }
-    if !is_finite(t) {
-        return refuse(12);
-    }
-    refuse(0)
-}
-
-// Weights are given, and not one for each point.
-fn lacks_weights(count: usize, rational: bool, weights: &[f64]) -> bool
-    ensures { λ r. ⌜ r ≡ lacksWeights count rational (now (weights .entry)) ⌝ }
-{
-    if rational {
-        weights.len() != count
-    } else {
-        false
-    }
-}
-
-// The refusals that the lengths of the runs show: 32, 1, 2, 3, 9. No number of a run is read.
-pub fn shape_refusal(
-    degree: usize,
-    knots: &[f64],
-    points: &[f64],
-    rational: bool,
-    weights: &[f64],
-) -> Refusal
-    ensures { λ r. ⌜ r ≡ shapeRefusal degree (now (knots .entry)) (now (points .entry)) rational (now (weights .entry)) ⌝ }
-{
-    if points.len() % 3 != 0 {
-        return refuse(32);
-    }
-    let count = points.len() / 3;
-    if degree == 0 {
-        return refuse(1);
-    }
-    if count <= degree {
-        return refuse(2);
-    }
-    if !is_sum(knots.len(), count, degree) {
-        return refuse(3);
-    }
-    if lacks_weights(count, rational, weights) {
-        return refuse(9);
-    }
-    refuse(0)
+    finite_refusal(t)
 }
 
 // The refusal of a step on a curve that was validated before: the runs' lengths, 31, 12.
@@ -140,7 +98,7 @@ pub fn step_refusal(
 ) -> Refusal
     ensures { λ r. ⌜ r ≡ stepRefusal degree (now (knots .entry)) (now (points .entry)) rational (now (weights .entry)) t ⌝ }
 {
-    let refusal = shape_refusal(degree, knots, points, rational, weights);
+    let refusal = curve_shape(degree, knots, points, rational, weights);
     if refusal.number != 0 {
         return refusal;
     }

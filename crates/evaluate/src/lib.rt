@@ -2,4 +2,5 @@
 mod controls;
 pub mod curve;
 pub mod curve2;
+pub mod shape;
 pub mod vector;

@@ -1,42 +1,49 @@
--- src/curve.rt:175:9
 use mathlib.Core.Path.{_≡_, sym, _∙_, ap, subst}
 use denote.Ref.{now}
 use Rattle.knots.specs.declared.refusal.Refusal.{Refusal}
+use Rattle.knots.specs.Curve.{countOf}
 use Rattle.evaluate.specs.Curve.{looked, stepRefusal}
-use Rattle.evaluate.proofs.Steps.{step-open, InRuns, in-runs}
+use Rattle.evaluate.proofs.Steps.{step-open, Found, found, points-reach, weights-reach}
 use Rattle.evaluate.proofs.Curves.{at-refused, at-answered}
 use borrow.Author.Needs.{needs}
 use Rattle.evaluate.proofs.curve.eval_at.Statement.{statement}
 use Rattle.evaluate.proofs.curve.eval_at.Tie as tie
+use Rattle.evaluate.proofs.curve.eval_at.Reads as reads
+use Rattle.evaluate.proofs.curve.eval_at.Lts as lts
+use Rattle.evaluate.proofs.curve.curve_at.Reads as curve-at-reads
+use Rattle.evaluate.proofs.curve.step_refusal.Reads as step-refusal-reads
+use Rattle.knots.proofs.span.clamp.Reads as clamp-reads
+use Rattle.knots.proofs.span.span_of.Reads as span-of-reads
 
+-- src/curve.rt:137:9
 step-refusal-requires : tie.Need-step-refusal-requires
 step-refusal-requires c κs = search needs
 
--- src/curve.rt:177:9
+-- src/curve.rt:139:9
 returns : tie.Need-returns
 returns c = let a = c .before .before .before .before .before .before .args in at-refused (a .degree) (now (a .knots)) (now (a .points)) (a .rational) (now (a .weights)) (a .t) _ (c .if1 .taken) (c .before .before .step-refusal .ensures)
 
--- src/curve.rt:180:9
+-- src/curve.rt:142:9
 span-of-requires : tie.Need-span-of-requires
 span-of-requires c κs = search needs
 
--- src/curve.rt:181:9
+-- src/curve.rt:143:9
 clamp-requires : tie.Need-clamp-requires
 clamp-requires c κs = search needs
 
--- src/curve.rt:182:21
+-- src/curve.rt:144:21
 curve-at-requires : tie.Need-curve-at-requires
-curve-at-requires c κs =
+curve-at-requires c κs = 
     let a = c .before .before .before .before .before .before .before .before .args in
     let none : stepRefusal (a .degree) (now (a .knots)) (now (a .points)) (a .rational) (now (a .weights)) (a .t) .number ≡ 0 = sym (ap (λ (r : Refusal). r .number) (c .before .before .before .before .step-refusal .ensures)) ∙ c .before .before .if1 .left in
     let o = step-open (a .degree) (now (a .knots)) (now (a .points)) (a .rational) (now (a .weights)) (a .t) none in
-    let s = c .before .span-of .ensures .found in
-    let i = subst (InRuns (a .degree) (now (a .knots)) (now (a .points)) (a .rational) (now (a .weights))) (sym s) (in-runs (a .degree) (now (a .knots)) (now (a .points)) (a .rational) (now (a .weights)) (looked (a .degree) (now (a .knots)) (now (a .points)) (a .t)) (o .shape)) in
-    (o .shape .degree, (o .high, (i .from, (i .knots, (i .points, i .weights)))))
+    let n = countOf (now (a .points)) in
+    let f = subst (Found (a .degree) n (now (a .knots))) (sym (c .before .span-of .ensures .found)) (found (a .degree) n (now (a .knots)) (o .shape .knots) (looked (a .degree) (now (a .knots)) (now (a .points)) (a .t))) in
+    (o .shape .knots .degree, (o .high, (f .from, (f .reach, (points-reach (a .degree) (now (a .knots)) (now (a .points)) (a .rational) (now (a .weights)) (a .t) o _ f, weights-reach (a .degree) (now (a .knots)) (now (a .points)) (a .rational) (now (a .weights)) (a .t) o _ f)))))
 
--- src/curve.rt:165:1
+-- src/curve.rt:127:1
 returns-2 : tie.Need-returns-2
-returns-2 c =
+returns-2 c = 
     let a = c .before .before .before .before .before .before .before .before .before .args in
     at-answered (a .degree) (now (a .knots)) (now (a .points)) (a .rational) (now (a .weights)) (a .t) (c .before .before .before .before .before .step-refusal .result) (c .before .before .before .before .before .step-refusal .ensures) (c .before .before .before .if1 .left) _ _ (c .before .before .span-of .ensures .found) (c .before .clamp .ensures) _ (c .curve-at .ensures)
 

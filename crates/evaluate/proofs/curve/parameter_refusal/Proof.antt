@@ -1,44 +1,32 @@
--- `evaluate::curve::parameter_refusal` meets its contract.
--- Assumes nothing.
-use mathlib.Core.Path.{sym, _∙_}
-use borrow.Author.Tests.{not-true, not-false, lt-ltb, le-ltb}
+use mathlib.Core.Path.{_≡_, sym, _∙_, ap, subst}
+use Rattle.knots.proofs.Refusals.{stop, skip}
 use Rattle.evaluate.specs.Curve.{parameterRefusal}
 use borrow.Author.Needs.{needs}
 use Rattle.evaluate.proofs.curve.parameter_refusal.Statement.{statement}
 use Rattle.evaluate.proofs.curve.parameter_refusal.Tie as tie
+use Rattle.evaluate.proofs.curve.parameter_refusal.Reads as reads
+use Rattle.evaluate.proofs.curve.parameter_refusal.Lts as lts
+use Rattle.evaluate.proofs.shape.degree_refusal.Reads as degree-refusal-reads
+use Rattle.evaluate.proofs.shape.finite_refusal.Reads as finite-refusal-reads
 
-refuse-requires : tie.Need-refuse-requires
-refuse-requires c κs = search needs
+-- src/curve.rt:83:9
+degree-refusal-requires : tie.Need-degree-refusal-requires
+degree-refusal-requires c κs = search needs
 
+-- src/curve.rt:85:9
 returns : tie.Need-returns
 unfolding parameterRefusal
-returns c = simp (lt-ltb 64 _ (c .before .if1 .taken)) (c .refuse .ensures)
+returns c = simp (stop (c .before .before .degree-refusal .ensures) (c .if1 .taken)) (c .before .before .degree-refusal .ensures)
 
-is-finite-requires : tie.Need-is-finite-requires
-is-finite-requires c κs = search needs
+-- src/curve.rt:87:5
+finite-refusal-requires : tie.Need-finite-refusal-requires
+finite-refusal-requires c κs = search needs
 
-refuse-requires-2 : tie.Need-refuse-requires-2
-refuse-requires-2 c κs = search needs
-
+-- src/curve.rt:80:1
 returns-2 : tie.Need-returns-2
 unfolding parameterRefusal
-returns-2 c = simp (le-ltb 64 _ (c .before .before .before .if1 .left), sym (c .before .before .is-finite .ensures) ∙ not-true _ (c .before .if2 .taken)) (c .refuse2 .ensures)
-
-refuse-requires-3 : tie.Need-refuse-requires-3
-refuse-requires-3 c κs = search needs
-
-returns-3 : tie.Need-returns-3
-unfolding parameterRefusal
-returns-3 c = simp (le-ltb 64 _ (c .before .before .before .if1 .left), sym (c .before .before .is-finite .ensures) ∙ not-false _ (c .before .if2 .left)) (c .refuse3 .ensures)
+returns-2 c = simp (skip (c .before .before .before .degree-refusal .ensures) (c .before .if1 .left)) (c .finite-refusal .ensures)
 
 pub parameter-refusal-spec : {M : Type 1} → statement M
 parameter-refusal-spec =
-    tie.close
-    (tie.spec
-    refuse-requires
-    returns
-    is-finite-requires
-    refuse-requires-2
-    returns-2
-    refuse-requires-3
-    returns-3)
+    tie.close (tie.spec degree-refusal-requires returns finite-refusal-requires returns-2)

@@ -1,25 +1,32 @@
--- `evaluate::curve::step_refusal` meets its contract.
--- Assumes nothing.
+use mathlib.Core.Path.{_≡_, sym, _∙_, ap, subst}
 use Rattle.knots.proofs.Refusals.{stop, skip}
 use Rattle.evaluate.specs.Curve.{stepRefusal}
 use borrow.Author.Needs.{needs}
 use Rattle.evaluate.proofs.curve.step_refusal.Statement.{statement}
 use Rattle.evaluate.proofs.curve.step_refusal.Tie as tie
+use Rattle.evaluate.proofs.curve.step_refusal.Reads as reads
+use Rattle.evaluate.proofs.curve.step_refusal.Lts as lts
+use Rattle.evaluate.proofs.curve.parameter_refusal.Reads as parameter-refusal-reads
+use Rattle.evaluate.proofs.shape.curve_shape.Reads as curve-shape-reads
 
-shape-refusal-requires : tie.Need-shape-refusal-requires
-shape-refusal-requires c κs = search needs
+-- src/curve.rt:101:9
+curve-shape-requires : tie.Need-curve-shape-requires
+curve-shape-requires c κs = search needs
 
+-- src/curve.rt:103:9
 returns : tie.Need-returns
 unfolding stepRefusal
-returns c = simp (stop (c .before .before .shape-refusal .ensures) (c .if1 .taken)) (c .before .before .shape-refusal .ensures)
+returns c = simp (stop (c .before .before .curve-shape .ensures) (c .if1 .taken)) (c .before .before .curve-shape .ensures)
 
+-- src/curve.rt:105:5
 parameter-refusal-requires : tie.Need-parameter-refusal-requires
 parameter-refusal-requires c κs = search needs
 
+-- src/curve.rt:91:1
 returns-2 : tie.Need-returns-2
 unfolding stepRefusal
-returns-2 c = simp (skip (c .before .before .before .shape-refusal .ensures) (c .before .if1 .left)) (c .parameter-refusal .ensures)
+returns-2 c = simp (skip (c .before .before .before .curve-shape .ensures) (c .before .if1 .left)) (c .parameter-refusal .ensures)
 
 pub step-refusal-spec : {M : Type 1} → statement M
 step-refusal-spec =
-    tie.close (tie.spec shape-refusal-requires returns parameter-refusal-requires returns-2)
+    tie.close (tie.spec curve-shape-requires returns parameter-refusal-requires returns-2)

@@ -1,0 +1,50 @@
+use mathlib.Core.Path.{_≡_, sym, _∙_, ap, subst}
+use borrow.Author.Tests.{not-true, not-false, lt-ltb, le-ltb, le-leb, lt-leb, eq-eqb, ne-eqb}
+use Rattle.knots.proofs.Refusals.{stop, skip}
+use Rattle.evaluate.specs.Shape.{curveShape}
+use borrow.Author.Needs.{needs}
+use Rattle.evaluate.proofs.shape.curve_shape.Statement.{statement}
+use Rattle.evaluate.proofs.shape.curve_shape.Tie as tie
+use Rattle.evaluate.proofs.shape.curve_shape.Reads as reads
+use Rattle.evaluate.proofs.shape.curve_shape.Lts as lts
+use Rattle.evaluate.proofs.shape.knot_shape.Reads as knot-shape-reads
+use Rattle.evaluate.proofs.shape.weight_shape.Reads as weight-shape-reads
+use Rattle.knots.proofs.refusal.refuse.Reads as refuse-reads
+
+-- src/shape.rt:71:9
+refuse-requires : tie.Need-refuse-requires
+refuse-requires c κs = search needs
+
+-- src/shape.rt:71:9
+returns : tie.Need-returns
+unfolding curveShape
+returns c = simp (ne-eqb _ 0 (c .before .if1 .taken)) (c .refuse .ensures)
+
+-- src/shape.rt:74:9
+knot-shape-requires : tie.Need-knot-shape-requires
+knot-shape-requires c κs = search needs
+
+-- src/shape.rt:76:9
+returns-2 : tie.Need-returns-2
+unfolding curveShape
+returns-2 c = simp (eq-eqb _ 0 (c .before .before .before .if1 .left), stop (c .before .before .knot-shape .ensures) (c .if2 .taken)) (c .before .before .knot-shape .ensures)
+
+-- src/shape.rt:78:5
+weight-shape-requires : tie.Need-weight-shape-requires
+weight-shape-requires c κs = search needs
+
+-- src/shape.rt:61:1
+returns-3 : tie.Need-returns-3
+unfolding curveShape
+returns-3 c = simp (eq-eqb _ 0 (c .before .before .before .before .if1 .left), skip (c .before .before .before .knot-shape .ensures) (c .before .if2 .left)) (c .weight-shape .ensures)
+
+pub curve-shape-spec : {M : Type 1} → statement M
+curve-shape-spec =
+    tie.close
+    (tie.spec
+    refuse-requires
+    returns
+    knot-shape-requires
+    returns-2
+    weight-shape-requires
+    returns-3)

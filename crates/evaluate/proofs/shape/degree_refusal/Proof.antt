@@ -1,0 +1,30 @@
+use mathlib.Core.Path.{_≡_, sym, _∙_, ap, subst}
+use borrow.Author.Tests.{not-true, not-false, lt-ltb, le-ltb, le-leb, lt-leb, eq-eqb, ne-eqb}
+use Rattle.evaluate.specs.Shape.{degreeRefusal}
+use borrow.Author.Needs.{needs}
+use Rattle.evaluate.proofs.shape.degree_refusal.Statement.{statement}
+use Rattle.evaluate.proofs.shape.degree_refusal.Tie as tie
+use Rattle.evaluate.proofs.shape.degree_refusal.Reads as reads
+use Rattle.evaluate.proofs.shape.degree_refusal.Lts as lts
+use Rattle.knots.proofs.refusal.refuse.Reads as refuse-reads
+
+-- src/shape.rt:16:9
+refuse-requires : tie.Need-refuse-requires
+refuse-requires c κs = search needs
+
+-- src/shape.rt:16:9
+returns : tie.Need-returns
+unfolding degreeRefusal
+returns c = simp (lt-ltb 64 _ (c .before .if1 .taken)) (c .refuse .ensures)
+
+-- src/shape.rt:18:5
+refuse-requires-2 : tie.Need-refuse-requires-2
+refuse-requires-2 c κs = search needs
+
+-- src/shape.rt:12:1
+returns-2 : tie.Need-returns-2
+unfolding degreeRefusal
+returns-2 c = simp (le-ltb 64 _ (c .before .if1 .left)) (c .refuse2 .ensures)
+
+pub degree-refusal-spec : {M : Type 1} → statement M
+degree-refusal-spec = tie.close (tie.spec refuse-requires returns refuse-requires-2 returns-2)

@@ -1,0 +1,35 @@
+use mathlib.Core.Path.{_≡_, sym, _∙_, ap, subst}
+use Rattle.evaluate.specs.Shape.{finiteRefusal}
+use borrow.Author.Needs.{needs}
+use Rattle.evaluate.proofs.shape.finite_refusal.Statement.{statement}
+use Rattle.evaluate.proofs.shape.finite_refusal.Tie as tie
+use Rattle.evaluate.proofs.shape.finite_refusal.Reads as reads
+use Rattle.evaluate.proofs.shape.finite_refusal.Lts as lts
+use Rattle.interval.proofs.float.is_finite.Reads as is-finite-reads
+use Rattle.knots.proofs.refusal.refuse.Reads as refuse-reads
+
+-- src/shape.rt:25:8
+is-finite-requires : tie.Need-is-finite-requires
+is-finite-requires c κs = search needs
+
+-- src/shape.rt:26:9
+refuse-requires : tie.Need-refuse-requires
+refuse-requires c κs = search needs
+
+-- src/shape.rt:26:9
+returns : tie.Need-returns
+unfolding finiteRefusal
+returns c = simp (sym (c .before .before .is-finite .ensures) ∙ c .before .if1 .taken) (c .refuse .ensures)
+
+-- src/shape.rt:28:5
+refuse-requires-2 : tie.Need-refuse-requires-2
+refuse-requires-2 c κs = search needs
+
+-- src/shape.rt:22:1
+returns-2 : tie.Need-returns-2
+unfolding finiteRefusal
+returns-2 c = simp (sym (c .before .before .is-finite .ensures) ∙ c .before .if1 .left) (c .refuse2 .ensures)
+
+pub finite-refusal-spec : {M : Type 1} → statement M
+finite-refusal-spec =
+    tie.close (tie.spec is-finite-requires refuse-requires returns refuse-requires-2 returns-2)
