@@ -2,3 +2,5 @@ pub mod Sums
 pub mod Searches
 pub mod Steps
 pub mod Curves
+pub mod Nets
+pub mod Surfaces

@@ -2,3 +2,4 @@ pub mod Shape
 pub mod Controls
 pub mod Curve
 pub mod Curve2
+pub mod Surface

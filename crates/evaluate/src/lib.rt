@@ -2,5 +2,7 @@
 mod controls;
 pub mod curve;
 pub mod curve2;
+mod net;
 pub mod shape;
+pub mod surface;
 pub mod vector;

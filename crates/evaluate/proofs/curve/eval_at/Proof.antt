@@ -1,3 +1,4 @@
+-- src/curve.rt:137:9
 use mathlib.Core.Path.{_≡_, sym, _∙_, ap, subst}
 use denote.Ref.{now}
 use Rattle.knots.specs.declared.refusal.Refusal.{Refusal}
@@ -8,14 +9,7 @@ use Rattle.evaluate.proofs.Curves.{at-refused, at-answered}
 use borrow.Author.Needs.{needs}
 use Rattle.evaluate.proofs.curve.eval_at.Statement.{statement}
 use Rattle.evaluate.proofs.curve.eval_at.Tie as tie
-use Rattle.evaluate.proofs.curve.eval_at.Reads as reads
-use Rattle.evaluate.proofs.curve.eval_at.Lts as lts
-use Rattle.evaluate.proofs.curve.curve_at.Reads as curve-at-reads
-use Rattle.evaluate.proofs.curve.step_refusal.Reads as step-refusal-reads
-use Rattle.knots.proofs.span.clamp.Reads as clamp-reads
-use Rattle.knots.proofs.span.span_of.Reads as span-of-reads
 
--- src/curve.rt:137:9
 step-refusal-requires : tie.Need-step-refusal-requires
 step-refusal-requires c κs = search needs
 
@@ -33,7 +27,7 @@ clamp-requires c κs = search needs
 
 -- src/curve.rt:144:21
 curve-at-requires : tie.Need-curve-at-requires
-curve-at-requires c κs = 
+curve-at-requires c κs =
     let a = c .before .before .before .before .before .before .before .before .args in
     let none : stepRefusal (a .degree) (now (a .knots)) (now (a .points)) (a .rational) (now (a .weights)) (a .t) .number ≡ 0 = sym (ap (λ (r : Refusal). r .number) (c .before .before .before .before .step-refusal .ensures)) ∙ c .before .before .if1 .left in
     let o = step-open (a .degree) (now (a .knots)) (now (a .points)) (a .rational) (now (a .weights)) (a .t) none in
@@ -43,7 +37,7 @@ curve-at-requires c κs =
 
 -- src/curve.rt:127:1
 returns-2 : tie.Need-returns-2
-returns-2 c = 
+returns-2 c =
     let a = c .before .before .before .before .before .before .before .before .before .args in
     at-answered (a .degree) (now (a .knots)) (now (a .points)) (a .rational) (now (a .weights)) (a .t) (c .before .before .before .before .before .step-refusal .result) (c .before .before .before .before .before .step-refusal .ensures) (c .before .before .before .if1 .left) _ _ (c .before .before .span-of .ensures .found) (c .before .clamp .ensures) _ (c .curve-at .ensures)
 

@@ -1,15 +1,10 @@
-use mathlib.Core.Path.{_≡_, sym, _∙_, ap, subst}
+-- src/curve.rt:83:9
 use Rattle.knots.proofs.Refusals.{stop, skip}
 use Rattle.evaluate.specs.Curve.{parameterRefusal}
 use borrow.Author.Needs.{needs}
 use Rattle.evaluate.proofs.curve.parameter_refusal.Statement.{statement}
 use Rattle.evaluate.proofs.curve.parameter_refusal.Tie as tie
-use Rattle.evaluate.proofs.curve.parameter_refusal.Reads as reads
-use Rattle.evaluate.proofs.curve.parameter_refusal.Lts as lts
-use Rattle.evaluate.proofs.shape.degree_refusal.Reads as degree-refusal-reads
-use Rattle.evaluate.proofs.shape.finite_refusal.Reads as finite-refusal-reads
 
--- src/curve.rt:83:9
 degree-refusal-requires : tie.Need-degree-refusal-requires
 degree-refusal-requires c κs = search needs
 

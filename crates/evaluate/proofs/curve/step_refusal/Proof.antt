@@ -1,15 +1,10 @@
-use mathlib.Core.Path.{_≡_, sym, _∙_, ap, subst}
+-- src/curve.rt:101:9
 use Rattle.knots.proofs.Refusals.{stop, skip}
 use Rattle.evaluate.specs.Curve.{stepRefusal}
 use borrow.Author.Needs.{needs}
 use Rattle.evaluate.proofs.curve.step_refusal.Statement.{statement}
 use Rattle.evaluate.proofs.curve.step_refusal.Tie as tie
-use Rattle.evaluate.proofs.curve.step_refusal.Reads as reads
-use Rattle.evaluate.proofs.curve.step_refusal.Lts as lts
-use Rattle.evaluate.proofs.curve.parameter_refusal.Reads as parameter-refusal-reads
-use Rattle.evaluate.proofs.shape.curve_shape.Reads as curve-shape-reads
 
--- src/curve.rt:101:9
 curve-shape-requires : tie.Need-curve-shape-requires
 curve-shape-requires c κs = search needs
 

@@ -1,3 +1,4 @@
+-- src/curve2.rt:116:9
 use mathlib.Core.Path.{_≡_, sym, _∙_, ap, subst}
 use denote.Ref.{now}
 use Rattle.knots.specs.declared.refusal.Refusal.{Refusal}
@@ -9,16 +10,7 @@ use Rattle.evaluate.specs.declared.curve2.CurveAnswer2.the-variants.{Ref
 use borrow.Author.Needs.{needs}
 use Rattle.evaluate.proofs.curve2.eval2_at.Statement.{statement}
 use Rattle.evaluate.proofs.curve2.eval2_at.Tie as tie
-use Rattle.evaluate.proofs.curve2.eval2_at.Reads as reads
-use Rattle.evaluate.proofs.curve2.eval2_at.Lts as lts
-use Rattle.evaluate.proofs.curve2.curve2_at.Reads as curve2-at-reads
-use Rattle.evaluate.proofs.curve2.finite2_of.Reads as finite2-of-reads
-use Rattle.evaluate.proofs.curve.step_refusal.Reads as step-refusal-reads
-use Rattle.knots.proofs.refusal.refuse.Reads as refuse-reads
-use Rattle.knots.proofs.span.clamp.Reads as clamp-reads
-use Rattle.knots.proofs.span.span_of.Reads as span-of-reads
 
--- src/curve2.rt:116:9
 step-refusal-requires : tie.Need-step-refusal-requires
 step-refusal-requires c κs = search needs
 
@@ -36,7 +28,7 @@ clamp-requires c κs = search needs
 
 -- src/curve2.rt:123:9
 curve2-at-requires : tie.Need-curve2-at-requires
-curve2-at-requires c κs = 
+curve2-at-requires c κs =
     let a = c .before .before .before .before .before .before .before .before .args in
     let none : stepRefusal (a .degree) (now (a .knots)) (now (a .points)) (a .rational) (now (a .weights)) (a .t) .number ≡ 0 = sym (ap (λ (r : Refusal). r .number) (c .before .before .before .before .step-refusal .ensures)) ∙ c .before .before .if1 .left in
     let o = step-open (a .degree) (now (a .knots)) (now (a .points)) (a .rational) (now (a .weights)) (a .t) none in
@@ -50,7 +42,7 @@ finite2-of-requires c κs = search needs
 
 -- src/curve2.rt:125:9
 returns-2 : tie.Need-returns-2
-returns-2 c = 
+returns-2 c =
     let a = c .before .before .before .before .before .before .before .before .before .before .before .args in
     at2-answered (a .degree) (now (a .knots)) (now (a .points)) (a .rational) (now (a .weights)) (a .t) (c .before .before .before .before .before .before .before .step-refusal .result) (c .before .before .before .before .before .before .before .step-refusal .ensures) (c .before .before .before .before .before .if1 .left) _ _ (c .before .before .before .before .span-of .ensures .found) (c .before .before .before .clamp .ensures) _ (c .before .before .curve2-at .ensures) (sym (c .before .finite2-of .ensures) ∙ c .if2 .taken)
 
@@ -60,7 +52,7 @@ refuse-requires c κs = search needs
 
 -- src/curve2.rt:106:1
 returns-3 : tie.Need-returns-3
-returns-3 c = 
+returns-3 c =
     let a = c .before .before .before .before .before .before .before .before .before .before .before .before .args in
     ap Refused (c .refuse .ensures)
     ∙ at2-degenerate (a .degree) (now (a .knots)) (now (a .points)) (a .rational) (now (a .weights)) (a .t) (c .before .before .before .before .before .before .before .before .step-refusal .result) (c .before .before .before .before .before .before .before .before .step-refusal .ensures) (c .before .before .before .before .before .before .if1 .left) _ _ (c .before .before .before .before .before .span-of .ensures .found) (c .before .before .before .before .clamp .ensures) _ (c .before .before .before .curve2-at .ensures) (sym (c .before .before .finite2-of .ensures) ∙ c .before .if2 .left)

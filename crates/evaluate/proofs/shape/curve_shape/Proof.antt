@@ -1,17 +1,11 @@
-use mathlib.Core.Path.{_≡_, sym, _∙_, ap, subst}
-use borrow.Author.Tests.{not-true, not-false, lt-ltb, le-ltb, le-leb, lt-leb, eq-eqb, ne-eqb}
+-- src/shape.rt:71:9
+use borrow.Author.Tests.{eq-eqb, ne-eqb}
 use Rattle.knots.proofs.Refusals.{stop, skip}
 use Rattle.evaluate.specs.Shape.{curveShape}
 use borrow.Author.Needs.{needs}
 use Rattle.evaluate.proofs.shape.curve_shape.Statement.{statement}
 use Rattle.evaluate.proofs.shape.curve_shape.Tie as tie
-use Rattle.evaluate.proofs.shape.curve_shape.Reads as reads
-use Rattle.evaluate.proofs.shape.curve_shape.Lts as lts
-use Rattle.evaluate.proofs.shape.knot_shape.Reads as knot-shape-reads
-use Rattle.evaluate.proofs.shape.weight_shape.Reads as weight-shape-reads
-use Rattle.knots.proofs.refusal.refuse.Reads as refuse-reads
 
--- src/shape.rt:71:9
 refuse-requires : tie.Need-refuse-requires
 refuse-requires c κs = search needs
 

@@ -1,14 +1,10 @@
-use mathlib.Core.Path.{_≡_, sym, _∙_, ap, subst}
-use borrow.Author.Tests.{not-true, not-false, lt-ltb, le-ltb, le-leb, lt-leb, eq-eqb, ne-eqb}
+-- src/shape.rt:16:9
+use borrow.Author.Tests.{lt-ltb, le-ltb}
 use Rattle.evaluate.specs.Shape.{degreeRefusal}
 use borrow.Author.Needs.{needs}
 use Rattle.evaluate.proofs.shape.degree_refusal.Statement.{statement}
 use Rattle.evaluate.proofs.shape.degree_refusal.Tie as tie
-use Rattle.evaluate.proofs.shape.degree_refusal.Reads as reads
-use Rattle.evaluate.proofs.shape.degree_refusal.Lts as lts
-use Rattle.knots.proofs.refusal.refuse.Reads as refuse-reads
 
--- src/shape.rt:16:9
 refuse-requires : tie.Need-refuse-requires
 refuse-requires c κs = search needs
 

@@ -1,14 +1,10 @@
-use mathlib.Core.Path.{_≡_, sym, _∙_, ap, subst}
+-- src/shape.rt:25:8
+use mathlib.Core.Path.{sym, _∙_}
 use Rattle.evaluate.specs.Shape.{finiteRefusal}
 use borrow.Author.Needs.{needs}
 use Rattle.evaluate.proofs.shape.finite_refusal.Statement.{statement}
 use Rattle.evaluate.proofs.shape.finite_refusal.Tie as tie
-use Rattle.evaluate.proofs.shape.finite_refusal.Reads as reads
-use Rattle.evaluate.proofs.shape.finite_refusal.Lts as lts
-use Rattle.interval.proofs.float.is_finite.Reads as is-finite-reads
-use Rattle.knots.proofs.refusal.refuse.Reads as refuse-reads
 
--- src/shape.rt:25:8
 is-finite-requires : tie.Need-is-finite-requires
 is-finite-requires c κs = search needs
 

@@ -1,15 +1,11 @@
-use mathlib.Core.Path.{_≡_, sym, _∙_, ap, subst}
-use borrow.Author.Tests.{not-true, not-false, lt-ltb, le-ltb, le-leb, lt-leb, eq-eqb, ne-eqb}
+-- src/shape.rt:49:9
+use mathlib.Core.Path.{sym, _∙_}
+use borrow.Author.Tests.{not-true, not-false, le-leb, lt-leb, eq-eqb, ne-eqb}
 use Rattle.evaluate.specs.Shape.{knotShape}
 use borrow.Author.Needs.{needs}
 use Rattle.evaluate.proofs.shape.knot_shape.Statement.{statement}
 use Rattle.evaluate.proofs.shape.knot_shape.Tie as tie
-use Rattle.evaluate.proofs.shape.knot_shape.Reads as reads
-use Rattle.evaluate.proofs.shape.knot_shape.Lts as lts
-use Rattle.knots.proofs.limits.is_sum.Reads as is-sum-reads
-use Rattle.knots.proofs.refusal.refuse.Reads as refuse-reads
 
--- src/shape.rt:49:9
 refuse-requires : tie.Need-refuse-requires
 refuse-requires c κs = search needs
 

@@ -1,20 +1,13 @@
-use mathlib.Core.Path.{_≡_, sym, _∙_, ap, subst}
-use borrow.Author.Tests.{not-true, not-false, lt-ltb, le-ltb, le-leb, lt-leb, eq-eqb, ne-eqb}
+-- src/shape.rt:96:9
+use mathlib.Core.Path.{sym, _∙_, ap}
+use borrow.Author.Tests.{not-true, not-false, eq-eqb, ne-eqb}
 use Rattle.knots.proofs.Refusals.{stop, skip}
 use Rattle.knots.specs.Refusal.{along}
 use Rattle.evaluate.specs.Shape.{surfaceShape}
 use borrow.Author.Needs.{needs}
 use Rattle.evaluate.proofs.shape.surface_shape.Statement.{statement}
 use Rattle.evaluate.proofs.shape.surface_shape.Tie as tie
-use Rattle.evaluate.proofs.shape.surface_shape.Reads as reads
-use Rattle.evaluate.proofs.shape.surface_shape.Lts as lts
-use Rattle.evaluate.proofs.shape.knot_shape.Reads as knot-shape-reads
-use Rattle.evaluate.proofs.shape.weight_shape.Reads as weight-shape-reads
-use Rattle.knots.proofs.limits.is_product.Reads as is-product-reads
-use Rattle.knots.proofs.refusal.refuse.Reads as refuse-reads
-use Rattle.knots.proofs.refusal.refuse_along.Reads as refuse-along-reads
 
--- src/shape.rt:96:9
 refuse-requires : tie.Need-refuse-requires
 refuse-requires c κs = search needs
 

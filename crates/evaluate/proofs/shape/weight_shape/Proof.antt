@@ -1,14 +1,10 @@
-use mathlib.Core.Path.{_≡_, sym, _∙_, ap, subst}
-use borrow.Author.Tests.{not-true, not-false, lt-ltb, le-ltb, le-leb, lt-leb, eq-eqb, ne-eqb}
+-- src/shape.rt:36:9
+use borrow.Author.Tests.{not-true, not-false, eq-eqb, ne-eqb}
 use Rattle.evaluate.specs.Shape.{weightShape}
 use borrow.Author.Needs.{needs}
 use Rattle.evaluate.proofs.shape.weight_shape.Statement.{statement}
 use Rattle.evaluate.proofs.shape.weight_shape.Tie as tie
-use Rattle.evaluate.proofs.shape.weight_shape.Reads as reads
-use Rattle.evaluate.proofs.shape.weight_shape.Lts as lts
-use Rattle.knots.proofs.refusal.refuse.Reads as refuse-reads
 
--- src/shape.rt:36:9
 refuse-requires : tie.Need-refuse-requires
 refuse-requires c κs = search needs
 
