@@ -4,3 +4,5 @@ pub mod Steps
 pub mod Curves
 pub mod Nets
 pub mod Surfaces
+pub mod Overlays
+pub mod Reverses

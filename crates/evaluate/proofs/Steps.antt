@@ -10,13 +10,13 @@ use lib.Dec.{leb, ltb, eqb}
 use lib.Ieee.{Float}
 use lib.Ieee.Scale.{finite}
 use borrow.Author.Tests.{ltb-false, leb-false, lt-leb, le-ltb, eqb-true, eqb-false, eq-eqb, ne-eqb, not-false}
-use Rattle.knots.specs.Refusal.{refuse, accepted, along, degree-zero, few-points, knot-count, weight-count, net-size, parameter-not-finite, degree-high, points-uneven}
+use Rattle.knots.specs.Refusal.{refuse, accepted, along, degree-zero, few-points, knot-count, weight-count, net-size, parameter-not-finite, too-long, degree-high, points-uneven}
 use Rattle.knots.specs.Knots.{ValidKnots}
 use Rattle.knots.specs.Curve.{countOf, curveRefusal, ValidCurve}
 use Rattle.knots.specs.Span.{searched, spanOf}
 use Rattle.knots.proofs.Refusals.{passed, orElse-none}
 use Rattle.knots.proofs.Curves.{thirds, valid-curve}
-use Rattle.evaluate.specs.Shape.{degreeRefusal, finiteRefusal, weightShape, knotShape, curveShape}
+use Rattle.evaluate.specs.Shape.{degreeRefusal, finiteRefusal, roomRefusal, weightShape, knotShape, curveShape}
 use Rattle.evaluate.specs.Curve.{parameterRefusal, stepRefusal, evalRefusal, looked}
 use Rattle.evaluate.proofs.Searches.{searched-in, searched-is}
 
@@ -52,6 +52,10 @@ finite-open t = go (finite t)
 pub finite-none : (t : Float) → finite t ≡ true → finiteRefusal t ≡ accepted
 unfolding finiteRefusal
 finite-none t h = simp h
+
+pub room-open : (a n : ℕ) → roomRefusal a n .number ≡ 0 → n ≤ a
+unfolding roomRefusal
+room-open a n h = ltb-false a n (passed (ltb a n) (refuse too-long) accepted (λ e. omega arith) h .0)
 
 pub weights-open : (n : ℕ) (g : Bool) (ws : List Float) → weightShape n g ws .number ≡ 0 → g ≡ true → length ws ≡ n
 unfolding weightShape

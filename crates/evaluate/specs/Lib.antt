@@ -3,3 +3,5 @@ pub mod Controls
 pub mod Curve
 pub mod Curve2
 pub mod Surface
+pub mod Lent
+pub mod Reverse

@@ -2,7 +2,9 @@
 mod controls;
 pub mod curve;
 pub mod curve2;
+mod front;
 mod net;
+pub mod reverse;
 pub mod shape;
 pub mod surface;
 pub mod vector;

@@ -6,7 +6,7 @@ use knots::refusal::Refusal;
 use knots::refusal::refuse;
 use knots::refusal::refuse_along;
 ghost use mathlib.Core.Path.{_≡_};
-ghost use Rattle.evaluate.specs.Shape.{degreeRefusal, finiteRefusal, weightShape, knotShape, curveShape, surfaceShape};
+ghost use Rattle.evaluate.specs.Shape.{degreeRefusal, finiteRefusal, roomRefusal, weightShape, knotShape, curveShape, surfaceShape};
 
 // 31
 pub fn degree_refusal(degree: usize) -> Refusal
@@ -26,6 +26,16 @@ pub fn finite_refusal(t: f64) -> Refusal
         return refuse(0);
     }
     refuse(12)
+}
+
+// 30: a lent run of so many numbers is smaller than what it must hold.
+pub fn room_refusal(have: usize, need: usize) -> Refusal
+    ensures { λ r. ⌜ r ≡ roomRefusal have need ⌝ }
+{
+    if have < need {
+        return refuse(30);
+    }
+    refuse(0)
 }
 
 // 9

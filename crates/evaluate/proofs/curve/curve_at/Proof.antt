@@ -1,4 +1,5 @@
--- src/curve.rt:70:45
+-- `evaluate::curve::curve_at` meets its contract.
+-- Assumes nothing.
 use mathlib.Core.Path.{refl}
 use native.Mathlib.Omega.{arith}
 use denote.Ref.{now}
@@ -11,43 +12,34 @@ use Rattle.evaluate.proofs.curve.curve_at.Tie as tie
 slice-aggregate-basis-derivatives : tie.Need-slice-aggregate-basis-derivatives
 slice-aggregate-basis-derivatives c = search needs
 
--- src/curve.rt:70:5
 basis-derivatives-requires : tie.Need-basis-derivatives-requires
 basis-derivatives-requires c κs = search needs
 
--- src/curve.rt:71:17
 sub-first : tie.Need-sub-first
 sub-first c = search needs
 
--- src/curve.rt:72:52
 add-scale-at : tie.Need-add-scale-at
 add-scale-at c = search needs
 
--- src/curve.rt:72:9
 scale-at-requires : tie.Need-scale-at-requires
 scale-at-requires c κs = λ g. let h = c .before .before .before .before .before .before .pre .1 .1 .1 .1 .1 g in omega arith
 
--- src/curve.rt:73:9
 point-at-requires : tie.Need-point-at-requires
 point-at-requires c κs = search needs
 
--- src/curve.rt:74:9
 row-sums-requires : tie.Need-row-sums-requires
 row-sums-requires c κs =
     let q = c .before .before .before .before .before .before .before .before .before .pre in
     (omega arith, (omega arith, (omega arith, (λ g. let h = q .1 .1 .1 .1 .1 g in omega arith))))
 
--- src/curve.rt:75:9
 row-sums-requires-2 : tie.Need-row-sums-requires-2
 row-sums-requires-2 c κs =
     let q = c .before .before .before .before .before .before .before .before .before .before .before .pre in
     (omega arith, (omega arith, (omega arith, (λ g. let h = q .1 .1 .1 .1 .1 g in omega arith))))
 
--- src/curve.rt:76:5
 quotient-of-requires : tie.Need-quotient-of-requires
 quotient-of-requires c κs = search needs
 
--- src/curve.rt:52:1
 returns : tie.Need-returns
 returns c =
     let a = c .before .before .before .before .before .before .before .before .before .before .before .before .before .args in

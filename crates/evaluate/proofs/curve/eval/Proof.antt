@@ -1,4 +1,5 @@
--- src/curve.rt:196:9
+-- `evaluate::curve::eval` meets its contract.
+-- Assumes nothing.
 use mathlib.Core.Path.{_∙_}
 use denote.Ref.{now}
 use Rattle.evaluate.proofs.Curves.{eval-refused, eval-answered}
@@ -9,15 +10,12 @@ use Rattle.evaluate.proofs.curve.eval.Tie as tie
 eval-refusal-requires : tie.Need-eval-refusal-requires
 eval-refusal-requires c κs = search needs
 
--- src/curve.rt:198:9
 returns : tie.Need-returns
 returns c = let a = c .before .before .before .before .before .before .args in eval-refused (a .degree) (now (a .knots)) (now (a .points)) (a .rational) (now (a .weights)) (a .t) _ (c .if1 .taken) (c .before .before .eval-refusal .ensures)
 
--- src/curve.rt:200:5
 eval-at-requires : tie.Need-eval-at-requires
 eval-at-requires c κs = search needs
 
--- src/curve.rt:186:1
 returns-2 : tie.Need-returns-2
 returns-2 c = let a = c .before .before .before .before .before .before .before .args in c .eval-at .ensures ∙ eval-answered (a .degree) (now (a .knots)) (now (a .points)) (a .rational) (now (a .weights)) (a .t) _ (c .before .before .before .eval-refusal .ensures) (c .before .if1 .left)
 

@@ -1,4 +1,5 @@
--- src/curve.rt:137:9
+-- `evaluate::curve::eval_at` meets its contract.
+-- Assumes nothing.
 use mathlib.Core.Path.{_≡_, sym, _∙_, ap, subst}
 use denote.Ref.{now}
 use Rattle.knots.specs.declared.refusal.Refusal.{Refusal}
@@ -13,19 +14,15 @@ use Rattle.evaluate.proofs.curve.eval_at.Tie as tie
 step-refusal-requires : tie.Need-step-refusal-requires
 step-refusal-requires c κs = search needs
 
--- src/curve.rt:139:9
 returns : tie.Need-returns
 returns c = let a = c .before .before .before .before .before .before .args in at-refused (a .degree) (now (a .knots)) (now (a .points)) (a .rational) (now (a .weights)) (a .t) _ (c .if1 .taken) (c .before .before .step-refusal .ensures)
 
--- src/curve.rt:142:9
 span-of-requires : tie.Need-span-of-requires
 span-of-requires c κs = search needs
 
--- src/curve.rt:143:9
 clamp-requires : tie.Need-clamp-requires
 clamp-requires c κs = search needs
 
--- src/curve.rt:144:21
 curve-at-requires : tie.Need-curve-at-requires
 curve-at-requires c κs =
     let a = c .before .before .before .before .before .before .before .before .args in
@@ -35,7 +32,6 @@ curve-at-requires c κs =
     let f = subst (Found (a .degree) n (now (a .knots))) (sym (c .before .span-of .ensures .found)) (found (a .degree) n (now (a .knots)) (o .shape .knots) (looked (a .degree) (now (a .knots)) (now (a .points)) (a .t))) in
     (o .shape .knots .degree, (o .high, (f .from, (f .reach, (points-reach (a .degree) (now (a .knots)) (now (a .points)) (a .rational) (now (a .weights)) (a .t) o _ f, weights-reach (a .degree) (now (a .knots)) (now (a .points)) (a .rational) (now (a .weights)) (a .t) o _ f)))))
 
--- src/curve.rt:127:1
 returns-2 : tie.Need-returns-2
 returns-2 c =
     let a = c .before .before .before .before .before .before .before .before .before .args in

@@ -1,4 +1,5 @@
--- src/curve.rt:83:9
+-- `evaluate::curve::parameter_refusal` meets its contract.
+-- Assumes nothing.
 use Rattle.knots.proofs.Refusals.{stop, skip}
 use Rattle.evaluate.specs.Curve.{parameterRefusal}
 use borrow.Author.Needs.{needs}
@@ -8,16 +9,13 @@ use Rattle.evaluate.proofs.curve.parameter_refusal.Tie as tie
 degree-refusal-requires : tie.Need-degree-refusal-requires
 degree-refusal-requires c κs = search needs
 
--- src/curve.rt:85:9
 returns : tie.Need-returns
 unfolding parameterRefusal
 returns c = simp (stop (c .before .before .degree-refusal .ensures) (c .if1 .taken)) (c .before .before .degree-refusal .ensures)
 
--- src/curve.rt:87:5
 finite-refusal-requires : tie.Need-finite-refusal-requires
 finite-refusal-requires c κs = search needs
 
--- src/curve.rt:80:1
 returns-2 : tie.Need-returns-2
 unfolding parameterRefusal
 returns-2 c = simp (skip (c .before .before .before .degree-refusal .ensures) (c .before .if1 .left)) (c .finite-refusal .ensures)

@@ -1,4 +1,5 @@
--- src/curve.rt:101:9
+-- `evaluate::curve::step_refusal` meets its contract.
+-- Assumes nothing.
 use Rattle.knots.proofs.Refusals.{stop, skip}
 use Rattle.evaluate.specs.Curve.{stepRefusal}
 use borrow.Author.Needs.{needs}
@@ -8,16 +9,13 @@ use Rattle.evaluate.proofs.curve.step_refusal.Tie as tie
 curve-shape-requires : tie.Need-curve-shape-requires
 curve-shape-requires c κs = search needs
 
--- src/curve.rt:103:9
 returns : tie.Need-returns
 unfolding stepRefusal
 returns c = simp (stop (c .before .before .curve-shape .ensures) (c .if1 .taken)) (c .before .before .curve-shape .ensures)
 
--- src/curve.rt:105:5
 parameter-refusal-requires : tie.Need-parameter-refusal-requires
 parameter-refusal-requires c κs = search needs
 
--- src/curve.rt:91:1
 returns-2 : tie.Need-returns-2
 unfolding stepRefusal
 returns-2 c = simp (skip (c .before .before .before .curve-shape .ensures) (c .before .if1 .left)) (c .parameter-refusal .ensures)

@@ -1,4 +1,5 @@
--- src/curve2.rt:80:45
+-- `evaluate::curve2::curve2_at` meets its contract.
+-- Assumes nothing.
 use mathlib.Core.Path.{refl}
 use native.Mathlib.Omega.{arith}
 use denote.Ref.{now}
@@ -11,49 +12,39 @@ use Rattle.evaluate.proofs.curve2.curve2_at.Tie as tie
 slice-aggregate-basis-derivatives : tie.Need-slice-aggregate-basis-derivatives
 slice-aggregate-basis-derivatives c = search needs
 
--- src/curve2.rt:80:5
 basis-derivatives-requires : tie.Need-basis-derivatives-requires
 basis-derivatives-requires c κs = search needs
 
--- src/curve2.rt:81:17
 sub-first : tie.Need-sub-first
 sub-first c = search needs
 
--- src/curve2.rt:82:52
 add-scale-at : tie.Need-add-scale-at
 add-scale-at c = search needs
 
--- src/curve2.rt:82:9
 scale-at-requires : tie.Need-scale-at-requires
 scale-at-requires c κs = λ g. let h = c .before .before .before .before .before .before .pre .1 .1 .1 .1 .1 g in omega arith
 
--- src/curve2.rt:83:9
 point-at-requires : tie.Need-point-at-requires
 point-at-requires c κs = search needs
 
--- src/curve2.rt:84:9
 row-sums-requires : tie.Need-row-sums-requires
 row-sums-requires c κs =
     let q = c .before .before .before .before .before .before .before .before .before .pre in
     (omega arith, (omega arith, (omega arith, (λ g. let h = q .1 .1 .1 .1 .1 g in omega arith))))
 
--- src/curve2.rt:85:9
 row-sums-requires-2 : tie.Need-row-sums-requires-2
 row-sums-requires-2 c κs =
     let q = c .before .before .before .before .before .before .before .before .before .before .before .pre in
     (omega arith, (omega arith, (omega arith, (λ g. let h = q .1 .1 .1 .1 .1 g in omega arith))))
 
--- src/curve2.rt:86:9
 row-sums-requires-3 : tie.Need-row-sums-requires-3
 row-sums-requires-3 c κs =
     let q = c .before .before .before .before .before .before .before .before .before .before .before .before .before .pre in
     (omega arith, (omega arith, (omega arith, (λ g. let h = q .1 .1 .1 .1 .1 g in omega arith))))
 
--- src/curve2.rt:87:5
 quotient2-of-requires : tie.Need-quotient2-of-requires
 quotient2-of-requires c κs = search needs
 
--- src/curve2.rt:62:1
 returns : tie.Need-returns
 returns c =
     let a = c .before .before .before .before .before .before .before .before .before .before .before .before .before .before .before .args in

@@ -1,4 +1,5 @@
--- src/curve2.rt:141:9
+-- `evaluate::curve2::eval2` meets its contract.
+-- Assumes nothing.
 use mathlib.Core.Path.{_∙_}
 use denote.Ref.{now}
 use Rattle.evaluate.proofs.Curves.{eval2-refused, eval2-answered}
@@ -9,15 +10,12 @@ use Rattle.evaluate.proofs.curve2.eval2.Tie as tie
 eval-refusal-requires : tie.Need-eval-refusal-requires
 eval-refusal-requires c κs = search needs
 
--- src/curve2.rt:143:9
 returns : tie.Need-returns
 returns c = let a = c .before .before .before .before .before .before .args in eval2-refused (a .degree) (now (a .knots)) (now (a .points)) (a .rational) (now (a .weights)) (a .t) _ (c .if1 .taken) (c .before .before .eval-refusal .ensures)
 
--- src/curve2.rt:145:5
 eval2-at-requires : tie.Need-eval2-at-requires
 eval2-at-requires c κs = search needs
 
--- src/curve2.rt:131:1
 returns-2 : tie.Need-returns-2
 returns-2 c = let a = c .before .before .before .before .before .before .before .args in c .eval2-at .ensures ∙ eval2-answered (a .degree) (now (a .knots)) (now (a .points)) (a .rational) (now (a .weights)) (a .t) _ (c .before .before .before .eval-refusal .ensures) (c .before .if1 .left)
 

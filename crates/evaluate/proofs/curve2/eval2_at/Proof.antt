@@ -1,4 +1,5 @@
--- src/curve2.rt:116:9
+-- `evaluate::curve2::eval2_at` meets its contract.
+-- Assumes nothing.
 use mathlib.Core.Path.{_≡_, sym, _∙_, ap, subst}
 use denote.Ref.{now}
 use Rattle.knots.specs.declared.refusal.Refusal.{Refusal}
@@ -14,19 +15,15 @@ use Rattle.evaluate.proofs.curve2.eval2_at.Tie as tie
 step-refusal-requires : tie.Need-step-refusal-requires
 step-refusal-requires c κs = search needs
 
--- src/curve2.rt:118:9
 returns : tie.Need-returns
 returns c = let a = c .before .before .before .before .before .before .args in at2-refused (a .degree) (now (a .knots)) (now (a .points)) (a .rational) (now (a .weights)) (a .t) _ (c .if1 .taken) (c .before .before .step-refusal .ensures)
 
--- src/curve2.rt:121:9
 span-of-requires : tie.Need-span-of-requires
 span-of-requires c κs = search needs
 
--- src/curve2.rt:122:9
 clamp-requires : tie.Need-clamp-requires
 clamp-requires c κs = search needs
 
--- src/curve2.rt:123:9
 curve2-at-requires : tie.Need-curve2-at-requires
 curve2-at-requires c κs =
     let a = c .before .before .before .before .before .before .before .before .args in
@@ -36,21 +33,17 @@ curve2-at-requires c κs =
     let f = subst (Found (a .degree) n (now (a .knots))) (sym (c .before .span-of .ensures .found)) (found (a .degree) n (now (a .knots)) (o .shape .knots) (looked (a .degree) (now (a .knots)) (now (a .points)) (a .t))) in
     (o .shape .knots .degree, (o .high, (f .from, (f .reach, (points-reach (a .degree) (now (a .knots)) (now (a .points)) (a .rational) (now (a .weights)) (a .t) o _ f, weights-reach (a .degree) (now (a .knots)) (now (a .points)) (a .rational) (now (a .weights)) (a .t) o _ f)))))
 
--- src/curve2.rt:124:8
 finite2-of-requires : tie.Need-finite2-of-requires
 finite2-of-requires c κs = search needs
 
--- src/curve2.rt:125:9
 returns-2 : tie.Need-returns-2
 returns-2 c =
     let a = c .before .before .before .before .before .before .before .before .before .before .before .args in
     at2-answered (a .degree) (now (a .knots)) (now (a .points)) (a .rational) (now (a .weights)) (a .t) (c .before .before .before .before .before .before .before .step-refusal .result) (c .before .before .before .before .before .before .before .step-refusal .ensures) (c .before .before .before .before .before .if1 .left) _ _ (c .before .before .before .before .span-of .ensures .found) (c .before .before .before .clamp .ensures) _ (c .before .before .curve2-at .ensures) (sym (c .before .finite2-of .ensures) ∙ c .if2 .taken)
 
--- src/curve2.rt:127:27
 refuse-requires : tie.Need-refuse-requires
 refuse-requires c κs = search needs
 
--- src/curve2.rt:106:1
 returns-3 : tie.Need-returns-3
 returns-3 c =
     let a = c .before .before .before .before .before .before .before .before .before .before .before .before .args in

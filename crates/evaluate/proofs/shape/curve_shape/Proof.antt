@@ -1,4 +1,5 @@
--- src/shape.rt:71:9
+-- `evaluate::shape::curve_shape` meets its contract.
+-- Assumes nothing.
 use borrow.Author.Tests.{eq-eqb, ne-eqb}
 use Rattle.knots.proofs.Refusals.{stop, skip}
 use Rattle.evaluate.specs.Shape.{curveShape}
@@ -9,25 +10,20 @@ use Rattle.evaluate.proofs.shape.curve_shape.Tie as tie
 refuse-requires : tie.Need-refuse-requires
 refuse-requires c κs = search needs
 
--- src/shape.rt:71:9
 returns : tie.Need-returns
 unfolding curveShape
 returns c = simp (ne-eqb _ 0 (c .before .if1 .taken)) (c .refuse .ensures)
 
--- src/shape.rt:74:9
 knot-shape-requires : tie.Need-knot-shape-requires
 knot-shape-requires c κs = search needs
 
--- src/shape.rt:76:9
 returns-2 : tie.Need-returns-2
 unfolding curveShape
 returns-2 c = simp (eq-eqb _ 0 (c .before .before .before .if1 .left), stop (c .before .before .knot-shape .ensures) (c .if2 .taken)) (c .before .before .knot-shape .ensures)
 
--- src/shape.rt:78:5
 weight-shape-requires : tie.Need-weight-shape-requires
 weight-shape-requires c κs = search needs
 
--- src/shape.rt:61:1
 returns-3 : tie.Need-returns-3
 unfolding curveShape
 returns-3 c = simp (eq-eqb _ 0 (c .before .before .before .before .if1 .left), skip (c .before .before .before .knot-shape .ensures) (c .before .if2 .left)) (c .weight-shape .ensures)

@@ -1,4 +1,5 @@
--- src/shape.rt:16:9
+-- `evaluate::shape::degree_refusal` meets its contract.
+-- Assumes nothing.
 use borrow.Author.Tests.{lt-ltb, le-ltb}
 use Rattle.evaluate.specs.Shape.{degreeRefusal}
 use borrow.Author.Needs.{needs}
@@ -8,16 +9,13 @@ use Rattle.evaluate.proofs.shape.degree_refusal.Tie as tie
 refuse-requires : tie.Need-refuse-requires
 refuse-requires c κs = search needs
 
--- src/shape.rt:16:9
 returns : tie.Need-returns
 unfolding degreeRefusal
 returns c = simp (lt-ltb 64 _ (c .before .if1 .taken)) (c .refuse .ensures)
 
--- src/shape.rt:18:5
 refuse-requires-2 : tie.Need-refuse-requires-2
 refuse-requires-2 c κs = search needs
 
--- src/shape.rt:12:1
 returns-2 : tie.Need-returns-2
 unfolding degreeRefusal
 returns-2 c = simp (le-ltb 64 _ (c .before .if1 .left)) (c .refuse2 .ensures)

@@ -1,4 +1,5 @@
--- src/shape.rt:25:8
+-- `evaluate::shape::finite_refusal` meets its contract.
+-- Assumes nothing.
 use mathlib.Core.Path.{sym, _∙_}
 use Rattle.evaluate.specs.Shape.{finiteRefusal}
 use borrow.Author.Needs.{needs}
@@ -8,20 +9,16 @@ use Rattle.evaluate.proofs.shape.finite_refusal.Tie as tie
 is-finite-requires : tie.Need-is-finite-requires
 is-finite-requires c κs = search needs
 
--- src/shape.rt:26:9
 refuse-requires : tie.Need-refuse-requires
 refuse-requires c κs = search needs
 
--- src/shape.rt:26:9
 returns : tie.Need-returns
 unfolding finiteRefusal
 returns c = simp (sym (c .before .before .is-finite .ensures) ∙ c .before .if1 .taken) (c .refuse .ensures)
 
--- src/shape.rt:28:5
 refuse-requires-2 : tie.Need-refuse-requires-2
 refuse-requires-2 c κs = search needs
 
--- src/shape.rt:22:1
 returns-2 : tie.Need-returns-2
 unfolding finiteRefusal
 returns-2 c = simp (sym (c .before .before .is-finite .ensures) ∙ c .before .if1 .left) (c .refuse2 .ensures)

@@ -1,4 +1,5 @@
--- src/shape.rt:36:9
+-- `evaluate::shape::weight_shape` meets its contract.
+-- Assumes nothing.
 use borrow.Author.Tests.{not-true, not-false, eq-eqb, ne-eqb}
 use Rattle.evaluate.specs.Shape.{weightShape}
 use borrow.Author.Needs.{needs}
@@ -8,25 +9,20 @@ use Rattle.evaluate.proofs.shape.weight_shape.Tie as tie
 refuse-requires : tie.Need-refuse-requires
 refuse-requires c κs = search needs
 
--- src/shape.rt:36:9
 returns : tie.Need-returns
 unfolding weightShape
 returns c = simp (not-true (c .before .before .before .args .rational) (c .before .if1 .taken)) (c .refuse .ensures)
 
--- src/shape.rt:39:9
 refuse-requires-2 : tie.Need-refuse-requires-2
 refuse-requires-2 c κs = search needs
 
--- src/shape.rt:39:9
 returns-2 : tie.Need-returns-2
 unfolding weightShape
 returns-2 c = simp (not-false (c .before .before .before .before .args .rational) (c .before .before .if1 .left), ne-eqb _ _ (c .before .if2 .taken)) (c .refuse2 .ensures)
 
--- src/shape.rt:41:5
 refuse-requires-3 : tie.Need-refuse-requires-3
 refuse-requires-3 c κs = search needs
 
--- src/shape.rt:32:1
 returns-3 : tie.Need-returns-3
 unfolding weightShape
 returns-3 c = simp (not-false (c .before .before .before .before .args .rational) (c .before .before .if1 .left), eq-eqb _ _ (c .before .if2 .left)) (c .refuse3 .ensures)

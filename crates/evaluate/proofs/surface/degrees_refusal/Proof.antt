@@ -1,4 +1,5 @@
--- src/surface.rt:111:9
+-- `evaluate::surface::degrees_refusal` meets its contract.
+-- Assumes nothing.
 use Rattle.knots.proofs.Refusals.{stop, skip}
 use Rattle.evaluate.specs.Surface.{degreesRefusal}
 use borrow.Author.Needs.{needs}
@@ -8,16 +9,13 @@ use Rattle.evaluate.proofs.surface.degrees_refusal.Tie as tie
 degree-refusal-requires : tie.Need-degree-refusal-requires
 degree-refusal-requires c κs = search needs
 
--- src/surface.rt:113:9
 returns : tie.Need-returns
 unfolding degreesRefusal
 returns c = simp (stop (c .before .before .degree-refusal .ensures) (c .if1 .taken)) (c .before .before .degree-refusal .ensures)
 
--- src/surface.rt:115:5
 degree-refusal-requires-2 : tie.Need-degree-refusal-requires-2
 degree-refusal-requires-2 c κs = search needs
 
--- src/surface.rt:108:1
 returns-2 : tie.Need-returns-2
 unfolding degreesRefusal
 returns-2 c = simp (skip (c .before .before .before .degree-refusal .ensures) (c .before .if1 .left)) (c .degree-refusal2 .ensures)

@@ -1,4 +1,5 @@
--- src/surface.rt:215:9
+-- `evaluate::surface::eval_surface_at` meets its contract.
+-- Assumes nothing.
 use mathlib.Core.Path.{_≡_, sym, _∙_, ap, subst}
 use denote.Ref.{now}
 use Rattle.knots.specs.declared.refusal.Refusal.{Refusal}
@@ -13,27 +14,21 @@ use Rattle.evaluate.proofs.surface.eval_surface_at.Tie as tie
 surface-step-refusal-requires : tie.Need-surface-step-refusal-requires
 surface-step-refusal-requires c κs = search needs
 
--- src/surface.rt:229:9
 returns : tie.Need-returns
 returns c = let a = c .before .before .before .before .before .before .before .args in surface-at-refused (a .u-degree) (a .v-degree) (now (a .u-knots)) (now (a .v-knots)) (a .u-count) (a .v-count) (now (a .points)) (a .rational) (now (a .weights)) (a .u) (a .v) _ (c .if1 .taken) (c .before .before .surface-step-refusal .ensures)
 
--- src/surface.rt:231:9
 span-of-requires : tie.Need-span-of-requires
 span-of-requires c κs = search needs
 
--- src/surface.rt:232:9
 clamp-requires : tie.Need-clamp-requires
 clamp-requires c κs = search needs
 
--- src/surface.rt:233:9
 span-of-requires-2 : tie.Need-span-of-requires-2
 span-of-requires-2 c κs = search needs
 
--- src/surface.rt:234:9
 clamp-requires-2 : tie.Need-clamp-requires-2
 clamp-requires-2 c κs = search needs
 
--- src/surface.rt:235:23
 surface-at-requires : tie.Need-surface-at-requires
 surface-at-requires c κs =
     let a = c .before .before .before .before .before .before .before .before .before .before .before .args in
@@ -43,7 +38,6 @@ surface-at-requires c κs =
     let t = subst (Found (a .v-degree) (a .v-count) (now (a .v-knots))) (sym (c .before .span-of2 .ensures .found)) (found (a .v-degree) (a .v-count) (now (a .v-knots)) (o .shape .v) (clamped (a .v-degree) (a .v-count) (now (a .v-knots)) (a .v))) in
     (o .shape .u .degree, (o .shape .v .degree, (o .u-high, (o .v-high, (s .from, (t .from, (s .reach, (t .reach, (points-net (a .u-degree) (a .v-degree) (now (a .u-knots)) (now (a .v-knots)) (a .u-count) (a .v-count) (now (a .points)) (a .rational) (now (a .weights)) (a .u) (a .v) o _ _ s t, weights-net (a .u-degree) (a .v-degree) (now (a .u-knots)) (now (a .v-knots)) (a .u-count) (a .v-count) (now (a .points)) (a .rational) (now (a .weights)) (a .u) (a .v) o _ _ s t)))))))))
 
--- src/surface.rt:200:1
 returns-2 : tie.Need-returns-2
 returns-2 c =
     let a = c .before .before .before .before .before .before .before .before .before .before .before .before .args in

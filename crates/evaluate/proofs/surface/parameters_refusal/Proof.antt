@@ -1,4 +1,5 @@
--- src/surface.rt:122:9
+-- `evaluate::surface::parameters_refusal` meets its contract.
+-- Assumes nothing.
 use Rattle.knots.proofs.Refusals.{stop, skip}
 use Rattle.evaluate.specs.Surface.{parametersRefusal}
 use borrow.Author.Needs.{needs}
@@ -8,25 +9,20 @@ use Rattle.evaluate.proofs.surface.parameters_refusal.Tie as tie
 degrees-refusal-requires : tie.Need-degrees-refusal-requires
 degrees-refusal-requires c κs = search needs
 
--- src/surface.rt:124:9
 returns : tie.Need-returns
 unfolding parametersRefusal
 returns c = simp (stop (c .before .before .degrees-refusal .ensures) (c .if1 .taken)) (c .before .before .degrees-refusal .ensures)
 
--- src/surface.rt:126:9
 finite-refusal-requires : tie.Need-finite-refusal-requires
 finite-refusal-requires c κs = search needs
 
--- src/surface.rt:128:9
 returns-2 : tie.Need-returns-2
 unfolding parametersRefusal
 returns-2 c = simp (skip (c .before .before .before .before .before .degrees-refusal .ensures) (c .before .before .before .if1 .left), stop (c .before .before .finite-refusal .ensures) (c .if2 .taken)) (c .before .before .finite-refusal .ensures)
 
--- src/surface.rt:130:5
 finite-refusal-requires-2 : tie.Need-finite-refusal-requires-2
 finite-refusal-requires-2 c κs = search needs
 
--- src/surface.rt:119:1
 returns-3 : tie.Need-returns-3
 unfolding parametersRefusal
 returns-3 c = simp (skip (c .before .before .before .before .before .before .degrees-refusal .ensures) (c .before .before .before .before .if1 .left), skip (c .before .before .before .finite-refusal .ensures) (c .before .if2 .left)) (c .finite-refusal2 .ensures)

@@ -1,4 +1,5 @@
--- src/surface.rt:86:44
+-- `evaluate::surface::surface_at` meets its contract.
+-- Assumes nothing.
 use Prim.Native.Nat.{_-_, _/_}
 use mathlib.Core.Path.{refl}
 use native.Mathlib.Omega.{arith}
@@ -14,34 +15,27 @@ use Rattle.evaluate.proofs.surface.surface_at.Tie as tie
 slice-aggregate-basis-derivatives : tie.Need-slice-aggregate-basis-derivatives
 slice-aggregate-basis-derivatives c = search needs
 
--- src/surface.rt:86:5
 basis-derivatives-requires : tie.Need-basis-derivatives-requires
 basis-derivatives-requires c κs = search needs
 
--- src/surface.rt:88:44
 slice-aggregate-basis-derivatives-2 : tie.Need-slice-aggregate-basis-derivatives-2
 slice-aggregate-basis-derivatives-2 c = search needs
 
--- src/surface.rt:88:5
 basis-derivatives-requires-2 : tie.Need-basis-derivatives-requires-2
 basis-derivatives-requires-2 c κs = search needs
 
--- src/surface.rt:89:13
 sub-a : tie.Need-sub-a
 sub-a c = search needs
 
--- src/surface.rt:90:13
 sub-b : tie.Need-sub-b
 sub-b c = search needs
 
--- src/surface.rt:98:9
 net-scale-requires : tie.Need-net-scale-requires
 net-scale-requires c κs =
     let q = c .before .before .before .before .before .before .before .before .before .before .pre in
     let f = c .before .before .before .before .before .before .before .before .before .before .fits in
     (q .1 .1 .0, (q .1 .1 .1 .0, (q .1 .1 .1 .1 .1 .1 .1 .1 .1, omega arith)))
 
--- src/surface.rt:99:18
 mul-corner : tie.Need-mul-corner
 mul-corner c =
     let a = c .before .before .before .before .before .before .before .before .before .before .before .args in
@@ -49,7 +43,6 @@ mul-corner c =
     let h = corner-in (length (now (a .points)) / 3) (a .columns) (a .s - a .p) (a .p) (a .t - a .q) (a .q) (q .1 .1 .1 .1 .1 .1 .1 .1 .0) in
     omega arith
 
--- src/surface.rt:99:18
 add-corner : tie.Need-add-corner
 add-corner c =
     let a = c .before .before .before .before .before .before .before .before .before .before .before .args in
@@ -57,7 +50,6 @@ add-corner c =
     let h = corner-in (length (now (a .points)) / 3) (a .columns) (a .s - a .p) (a .p) (a .t - a .q) (a .q) (q .1 .1 .1 .1 .1 .1 .1 .1 .0) in
     omega arith
 
--- src/surface.rt:100:9
 point-at-requires : tie.Need-point-at-requires
 point-at-requires c κs =
     let a = c .before .before .before .before .before .before .before .before .before .before .before .args in
@@ -65,32 +57,27 @@ point-at-requires c κs =
     let h = corner-in (length (now (a .points)) / 3) (a .columns) (a .s - a .p) (a .p) (a .t - a .q) (a .q) (q .1 .1 .1 .1 .1 .1 .1 .1 .0) in
     omega arith
 
--- src/surface.rt:101:9
 net-sums-requires : tie.Need-net-sums-requires
 net-sums-requires c κs =
     let q = c .before .before .before .before .before .before .before .before .before .before .before .before .before .before .pre in
     let f = c .before .before .before .before .before .before .before .before .before .before .before .before .before .before .fits in
     (omega arith, (omega arith, (q .1 .1 .0, (q .1 .1 .1 .0, (q .1 .1 .1 .1 .1 .1 .1 .1 .0, (q .1 .1 .1 .1 .1 .1 .1 .1 .1, omega arith))))))
 
--- src/surface.rt:102:9
 net-sums-requires-2 : tie.Need-net-sums-requires-2
 net-sums-requires-2 c κs =
     let q = c .before .before .before .before .before .before .before .before .before .before .before .before .before .before .before .before .before .pre in
     let f = c .before .before .before .before .before .before .before .before .before .before .before .before .before .before .before .before .before .fits in
     (omega arith, (omega arith, (q .1 .1 .0, (q .1 .1 .1 .0, (q .1 .1 .1 .1 .1 .1 .1 .1 .0, (q .1 .1 .1 .1 .1 .1 .1 .1 .1, omega arith))))))
 
--- src/surface.rt:103:9
 net-sums-requires-3 : tie.Need-net-sums-requires-3
 net-sums-requires-3 c κs =
     let q = c .before .before .before .before .before .before .before .before .before .before .before .before .before .before .before .before .before .before .before .before .pre in
     let f = c .before .before .before .before .before .before .before .before .before .before .before .before .before .before .before .before .before .before .before .before .fits in
     (omega arith, (omega arith, (q .1 .1 .0, (q .1 .1 .1 .0, (q .1 .1 .1 .1 .1 .1 .1 .1 .0, (q .1 .1 .1 .1 .1 .1 .1 .1 .1, omega arith))))))
 
--- src/surface.rt:104:5
 surface-quotient-of-requires : tie.Need-surface-quotient-of-requires
 surface-quotient-of-requires c κs = search needs
 
--- src/surface.rt:59:1
 returns : tie.Need-returns
 returns c =
     let a = c .before .before .before .before .before .before .before .before .before .before .before .before .before .before .before .before .before .before .before .before .before .before .args in

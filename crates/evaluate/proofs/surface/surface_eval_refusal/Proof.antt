@@ -1,4 +1,5 @@
--- src/surface.rt:182:9
+-- `evaluate::surface::surface_eval_refusal` meets its contract.
+-- Assumes nothing.
 use Rattle.knots.proofs.Refusals.{stop, skip}
 use Rattle.evaluate.specs.Surface.{surfaceEvalRefusal}
 use borrow.Author.Needs.{needs}
@@ -8,16 +9,13 @@ use Rattle.evaluate.proofs.surface.surface_eval_refusal.Tie as tie
 surface-refusal-requires : tie.Need-surface-refusal-requires
 surface-refusal-requires c κs = search needs
 
--- src/surface.rt:194:9
 returns : tie.Need-returns
 unfolding surfaceEvalRefusal
 returns c = simp (stop (c .before .before .surface-refusal .ensures) (c .if1 .taken)) (c .before .before .surface-refusal .ensures)
 
--- src/surface.rt:196:5
 parameters-refusal-requires : tie.Need-parameters-refusal-requires
 parameters-refusal-requires c κs = search needs
 
--- src/surface.rt:167:1
 returns-2 : tie.Need-returns-2
 unfolding surfaceEvalRefusal
 returns-2 c = simp (skip (c .before .before .before .surface-refusal .ensures) (c .before .if1 .left)) (c .parameters-refusal .ensures)

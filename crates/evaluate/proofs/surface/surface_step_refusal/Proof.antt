@@ -1,4 +1,5 @@
--- src/surface.rt:149:9
+-- `evaluate::surface::surface_step_refusal` meets its contract.
+-- Assumes nothing.
 use Rattle.knots.proofs.Refusals.{stop, skip}
 use Rattle.evaluate.specs.Surface.{surfaceStepRefusal}
 use borrow.Author.Needs.{needs}
@@ -8,16 +9,13 @@ use Rattle.evaluate.proofs.surface.surface_step_refusal.Tie as tie
 surface-shape-requires : tie.Need-surface-shape-requires
 surface-shape-requires c κs = search needs
 
--- src/surface.rt:161:9
 returns : tie.Need-returns
 unfolding surfaceStepRefusal
 returns c = simp (stop (c .before .before .surface-shape .ensures) (c .if1 .taken)) (c .before .before .surface-shape .ensures)
 
--- src/surface.rt:163:5
 parameters-refusal-requires : tie.Need-parameters-refusal-requires
 parameters-refusal-requires c κs = search needs
 
--- src/surface.rt:134:1
 returns-2 : tie.Need-returns-2
 unfolding surfaceStepRefusal
 returns-2 c = simp (skip (c .before .before .before .surface-shape .ensures) (c .before .if1 .left)) (c .parameters-refusal .ensures)
