@@ -1,0 +1,13 @@
+pub mod Cases
+pub mod Cells
+pub mod Columns
+pub mod Tables
+pub mod Copies
+pub mod Signeds
+pub mod Rows2
+pub mod Congs
+pub mod Derivs
+pub mod AllDers
+pub mod Factors
+pub mod Whole
+pub mod Worked

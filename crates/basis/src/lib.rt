@@ -1,0 +1,4 @@
+// The basis functions of a span and their derivatives.
+mod basis;
+pub mod ders;
+mod signed;

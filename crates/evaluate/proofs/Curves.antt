@@ -1,0 +1,106 @@
+-- The answers of `eval_at`, `eval`, `eval2_at`, `eval2`.
+-- Assumes nothing.
+use Prim.Native.Nat.{ℕ, _+_, _-_, _≤_, _<_}
+use mathlib.Core.Bool.{Bool, true, false, cond}
+use mathlib.Core.Path.{_≡_, refl, sym, _∙_, ap, ap₂}
+use mathlib.Core.List.{List}
+use native.Mathlib.Omega.{arith}
+use lib.ListN.{length}
+use lib.Dec.{eqb}
+use lib.Ieee.{Float}
+use Rattle.exact.specs.Scheme.{dersOf}
+use Rattle.knots.specs.Refusal.{refuse, accepted, second-not-finite}
+use Rattle.knots.specs.Span.{searched, spanOf}
+use Rattle.knots.specs.Curve.{countOf}
+use Rattle.knots.specs.declared.refusal.Refusal.{Refusal}
+use Rattle.knots.proofs.Refusals.{stop, skip}
+use Rattle.basis.specs.Floats.{floats}
+use Rattle.basis.specs.Basis.{cell, leftOf, rightOf}
+use Rattle.basis.specs.Ders.{basisTable}
+use Rattle.basis.proofs.Whole.{Reach, basis-at}
+use Rattle.evaluate.specs.Controls.{pointOf, scaleOf, rowSums}
+use Rattle.evaluate.specs.Curve.{quotient, activeSums, curveOf, looked, stepRefusal, evalRefusal, answer, evalAtOf, evalOf}
+use Rattle.evaluate.specs.Curve2.{quotient2, curve2Of, finite2, answer2, eval2AtOf, eval2Of}
+use Rattle.evaluate.specs.declared.vector.Vector.{Vector}
+use Rattle.evaluate.specs.declared.controls.Sums.{Sums}
+use Rattle.evaluate.specs.declared.curve.CurveDerivs.{CurveDerivs}
+use Rattle.evaluate.specs.declared.curve.CurveAnswer.{CurveAnswer}
+use Rattle.evaluate.specs.declared.curve.CurveAnswer.the-variants.{At, Refused}
+use Rattle.evaluate.specs.declared.curve2.CurveDerivs2.{CurveDerivs2}
+use Rattle.evaluate.specs.declared.curve2.CurveAnswer2.{CurveAnswer2}
+use Rattle.evaluate.specs.declared.curve2.CurveAnswer2.the-variants as two
+use Rattle.evaluate.proofs.Sums.{row-cong}
+use Rattle.evaluate.proofs.Steps.{EvalOpen, eval-open, step-none, open-span}
+
+-- ---- the sums over a row of the table are the sums over the derivatives
+module _ (p n : ℕ) (ks ps : List Float) (g : Bool) (ws : List Float) (s : ℕ) (v : Float) (R : Reach 195 p n ks s) (ders : List Float)
+    (D : ders ≡ basisTable 195 p n ks s v) (m : Float) (M : m ≡ scaleOf g ws (s - p) (p + 1)) where
+  pub active-is : (two : Bool) (k : ℕ) → k ≤ n → (a : Sums) → a ≡ rowSums two ps g ws m (s - p) (cell ders k) (p + 1) → a ≡ activeSums p ks ps g ws two s v k
+  unfolding activeSums
+  active-is two k K a A =
+      A ∙ (row-cong two ps g ws m (s - p) (cell ders k) (dersOf floats (leftOf ks s v) (rightOf ks s v) p k) (p + 1)
+      (λ j b. ap (λ (t : List Float). cell t k j) D ∙ basis-at p n ks s v 195 R k j K (omega arith))
+      ∙ ap (λ (x : Float). rowSums two ps g ws x (s - p) (dersOf floats (leftOf ks s v) (rightOf ks s v) p k) (p + 1)) M)
+
+  pub curve-is : 1 ≤ n → (o : Vector) (a d : Sums) (r : CurveDerivs) → o ≡ pointOf ps (s - p)
+      → a ≡ rowSums false ps g ws m (s - p) (cell ders 0) (p + 1) → d ≡ rowSums false ps g ws m (s - p) (cell ders 1) (p + 1)
+      → r ≡ quotient o a d → r ≡ curveOf p ks ps g ws s v
+  unfolding curveOf
+  curve-is N o a d r O A B E =
+      E ∙ (ap (λ (x : Vector). quotient x a d) O ∙ ap₂ (quotient (pointOf ps (s - p))) (active-is false 0 (omega arith) a A) (active-is false 1 N d B))
+
+  pub curve2-is : 2 ≤ n → (o : Vector) (a d e : Sums) (r : CurveDerivs2) → o ≡ pointOf ps (s - p)
+      → a ≡ rowSums true ps g ws m (s - p) (cell ders 0) (p + 1) → d ≡ rowSums true ps g ws m (s - p) (cell ders 1) (p + 1)
+      → e ≡ rowSums true ps g ws m (s - p) (cell ders 2) (p + 1) → r ≡ quotient2 o a d e → r ≡ curve2Of p ks ps g ws s v
+  unfolding curve2Of
+  curve2-is N o a d e r O A B C E =
+      E ∙ (ap₂ (λ (x : Vector) (y : Sums). quotient2 x y d e) O (active-is true 0 (omega arith) a A)
+      ∙ ap₂ (quotient2 (pointOf ps (s - p)) (activeSums p ks ps g ws true s v 0)) (active-is true 1 (omega arith) d B) (active-is true 2 N e C))
+
+-- ---- the answers
+module _ (p : ℕ) (ks ps : List Float) (g : Bool) (ws : List Float) (t : Float) where
+  module _ (r : Refusal) (h : r .number ≡ 0 → ⊥) where
+    pub at-refused : r ≡ stepRefusal p ks ps g ws t → Refused r ≡ evalAtOf p ks ps g ws t
+    unfolding evalAtOf
+    at-refused e = simp (stop e h) (ap Refused e)
+
+    pub eval-refused : r ≡ evalRefusal p ks ps g ws t → Refused r ≡ evalOf p ks ps g ws t
+    unfolding evalOf
+    eval-refused e = simp (stop e h) (ap Refused e)
+
+    pub at2-refused : r ≡ stepRefusal p ks ps g ws t → two.Refused r ≡ eval2AtOf p ks ps g ws t
+    unfolding eval2AtOf
+    at2-refused e = simp (stop e h) (ap two.Refused e)
+
+    pub eval2-refused : r ≡ evalRefusal p ks ps g ws t → two.Refused r ≡ eval2Of p ks ps g ws t
+    unfolding eval2Of
+    eval2-refused e = simp (stop e h) (ap two.Refused e)
+
+  module _ (r : Refusal) (e : r ≡ stepRefusal p ks ps g ws t) (h : r .number ≡ 0) (s : ℕ) (v : Float) (S : s ≡ searched p (countOf ps) ks (looked p ks ps t)) (L : v ≡ looked p ks ps t) where
+    pub at-answered : (d : CurveDerivs) → d ≡ curveOf p ks ps g ws s v → At d ≡ evalAtOf p ks ps g ws t
+    unfolding evalAtOf
+    at-answered d D = simp (skip e h) (ap At (D ∙ ap₂ (curveOf p ks ps g ws) S L))
+
+    module _ (d : CurveDerivs2) (D : d ≡ curve2Of p ks ps g ws s v) where
+      at2-is : cond (finite2 d) (two.At d) (two.Refused (refuse second-not-finite)) ≡ eval2AtOf p ks ps g ws t
+      unfolding eval2AtOf
+      at2-is = simp (skip e h) (ap (λ (x : CurveDerivs2). cond (finite2 x) (two.At x) (two.Refused (refuse second-not-finite))) (D ∙ ap₂ (curve2Of p ks ps g ws) S L))
+
+      pub at2-answered : finite2 d ≡ true → two.At d ≡ eval2AtOf p ks ps g ws t
+      at2-answered f = ap (λ (b : Bool). cond b (two.At d) (two.Refused (refuse second-not-finite))) (sym f) ∙ at2-is
+
+      pub at2-degenerate : finite2 d ≡ false → two.Refused (refuse second-not-finite) ≡ eval2AtOf p ks ps g ws t
+      at2-degenerate f = ap (λ (b : Bool). cond b (two.At d) (two.Refused (refuse second-not-finite))) (sym f) ∙ at2-is
+
+  -- on a curve that is not refused the step answers what the evaluation answers
+  module _ (r : Refusal) (e : r ≡ evalRefusal p ks ps g ws t) (h : r .number ≡ 0) where
+    opened : EvalOpen p ks ps g ws t
+    opened = eval-open p ks ps g ws t (sym (ap (λ (x : Refusal). x .number) e) ∙ h)
+
+    pub eval-answered : evalAtOf p ks ps g ws t ≡ evalOf p ks ps g ws t
+    unfolding evalAtOf evalOf
+    eval-answered = simp (skip e h, step-none p ks ps g ws t opened, open-span p ks ps g ws t opened)
+
+    pub eval2-answered : eval2AtOf p ks ps g ws t ≡ eval2Of p ks ps g ws t
+    unfolding eval2AtOf eval2Of
+    eval2-answered = simp (skip e h, step-none p ks ps g ws t opened, open-span p ks ps g ws t opened)

@@ -1,0 +1,186 @@
+-- The answers of `eval_surface_at` and `eval_surface`.
+-- Assumes nothing.
+use Prim.Native.Nat.{ℕ, _+_, _-_, _*_, _/_, _%_, _≤_, _<_}
+use mathlib.Core.Bool.{Bool, true, not}
+use mathlib.Core.Path.{_≡_, sym, _∙_, ap, ap₂, subst}
+use mathlib.Core.List.{List}
+use native.Mathlib.Omega.{arith}
+use native.Mathlib.Nat.{mul-mod-right, mul-div-right}
+use lib.ListN.{length}
+use lib.Dec.{eqb}
+use lib.Ieee.{Float}
+use lib.Ieee.Scale.{finite}
+use borrow.Author.Tests.{eqb-true, eq-eqb, not-false}
+use Rattle.exact.specs.Scheme.{dersOf}
+use Rattle.knots.specs.Refusal.{refuse, accepted, along, net-size, points-uneven}
+use Rattle.knots.specs.Curve.{countOf}
+use Rattle.knots.specs.Span.{clamped, searched, spanOf}
+use Rattle.knots.specs.Surface.{surfaceRefusal, ValidSurface}
+use Rattle.knots.specs.declared.refusal.Refusal.{Refusal}
+use Rattle.knots.proofs.Refusals.{passed, orElse-none, stop, skip}
+use Rattle.knots.proofs.Surfaces.{valid-surface}
+use Rattle.basis.specs.Floats.{floats}
+use Rattle.basis.specs.Basis.{cell, leftOf, rightOf}
+use Rattle.basis.specs.Ders.{basisTable}
+use Rattle.basis.proofs.Whole.{Reach, basis-at}
+use Rattle.evaluate.specs.Shape.{degreeRefusal, finiteRefusal, weightShape, knotShape, surfaceShape}
+use Rattle.evaluate.specs.Controls.{pointOf}
+use Rattle.evaluate.specs.Surface.{NetReach, netScale, netSums, surfaceQuotient, activeNet, surfaceOf, degreesRefusal, parametersRefusal, surfaceStepRefusal, surfaceEvalRefusal, surfaceAnswer, surfaceAtOf, evalSurfaceOf}
+use Rattle.evaluate.specs.declared.vector.Vector.{Vector}
+use Rattle.evaluate.specs.declared.controls.Sums.{Sums}
+use Rattle.evaluate.specs.declared.surface.SurfaceDerivs.{SurfaceDerivs}
+use Rattle.evaluate.specs.declared.surface.SurfaceAnswer.{SurfaceAnswer}
+use Rattle.evaluate.specs.declared.surface.SurfaceAnswer.the-variants.{At, Refused}
+use Rattle.evaluate.proofs.Searches.{searched-is}
+use Rattle.evaluate.proofs.Steps.{degree-open, degree-none, finite-open, finite-none, weights-open, weights-none, Fitting, knots-open, knots-none, Found}
+use Rattle.evaluate.proofs.Nets.{net-place, net-cong}
+
+-- ---- sums over rows of the tables are sums over the derivatives
+module _ (p q : ℕ) (us vs : List Float) (n : ℕ) (ps : List Float) (g : Bool) (ws : List Float) (s t : ℕ) (u v : Float) (du dv : List Float)
+    (R : Reach 195 p 1 us s) (D : du ≡ basisTable 195 p 1 us s u) (T : Reach 195 q 1 vs t) (E : dv ≡ basisTable 195 q 1 vs t v)
+    (o : Vector) (O : o ≡ pointOf ps ((s - p) * n + (t - q))) (m : Float) (M : m ≡ netScale g ws n (s - p) (t - q) (q + 1) (p + 1)) where
+  net-is : (i j : ℕ) → i ≤ 1 → j ≤ 1 → (a : Sums) → a ≡ netSums ps g ws m o n (s - p) (t - q) (cell du i) (cell dv j) (q + 1) (p + 1)
+      → a ≡ activeNet p q us vs n ps g ws s t u v i j
+  unfolding activeNet
+  net-is i j I J a A =
+      A ∙ (net-cong ps g ws m o n (s - p) (t - q) (q + 1) (cell du i) (dersOf floats (leftOf us s u) (rightOf us s u) p i) (cell dv j) (dersOf floats (leftOf vs t v) (rightOf vs t v) q j) (p + 1)
+      (λ k b. ap (λ (l : List Float). cell l i k) D ∙ basis-at p 1 us s u 195 R i k I (omega arith))
+      (λ k b. ap (λ (l : List Float). cell l j k) E ∙ basis-at q 1 vs t v 195 T j k J (omega arith))
+      ∙ ap₂ (λ (x : Float) (y : Vector). netSums ps g ws x y n (s - p) (t - q) (dersOf floats (leftOf us s u) (rightOf us s u) p i) (dersOf floats (leftOf vs t v) (rightOf vs t v) q j) (q + 1) (p + 1)) M O)
+
+  pub surface-is : (a d e : Sums) (r : SurfaceDerivs) → a ≡ netSums ps g ws m o n (s - p) (t - q) (cell du 0) (cell dv 0) (q + 1) (p + 1)
+      → d ≡ netSums ps g ws m o n (s - p) (t - q) (cell du 1) (cell dv 0) (q + 1) (p + 1)
+      → e ≡ netSums ps g ws m o n (s - p) (t - q) (cell du 0) (cell dv 1) (q + 1) (p + 1)
+      → r ≡ surfaceQuotient o a d e → r ≡ surfaceOf p q us vs n ps g ws s t u v
+  unfolding surfaceOf
+  surface-is a d e r A B C Q =
+      Q ∙ (ap₂ (λ (x : Vector) (y : Sums). surfaceQuotient x y d e) O (net-is 0 0 (omega arith) (omega arith) a A)
+      ∙ ap₂ (surfaceQuotient (pointOf ps ((s - p) * n + (t - q))) (activeNet p q us vs n ps g ws s t u v 0 0)) (net-is 1 0 (omega arith) (omega arith) d B) (net-is 0 1 (omega arith) (omega arith) e C))
+
+-- ---- what no refusal says
+module _ (p q : ℕ) (u v : Float) where
+  pub degrees-open : degreesRefusal p q .number ≡ 0 → (p ≤ 64) × (q ≤ 64)
+  unfolding degreesRefusal
+  degrees-open h = let a = orElse-none (degreeRefusal p) (degreeRefusal q) h in (degree-open p (a .0), degree-open q (a .1))
+
+  pub parameters-open : parametersRefusal p q u v .number ≡ 0 → (p ≤ 64) × (q ≤ 64) × (finite u ≡ true) × (finite v ≡ true)
+  unfolding parametersRefusal
+  parameters-open h =
+      let a = orElse-none (degreesRefusal p q) _ h in
+      let b = degrees-open (a .0) in
+      let c = orElse-none (finiteRefusal u) (finiteRefusal v) (a .1) in
+      (b .0, b .1, finite-open u (c .0), finite-open v (c .1))
+
+  parameters-none : p ≤ 64 → q ≤ 64 → finite u ≡ true → finite v ≡ true → parametersRefusal p q u v ≡ accepted
+  unfolding parametersRefusal degreesRefusal
+  parameters-none a b c d = simp (degree-none p a, degree-none q b, finite-none u c, finite-none v d)
+
+module _ (p q : ℕ) (us vs : List Float) (m n : ℕ) (ps : List Float) (g : Bool) (ws : List Float) where
+  pub record SurfaceShaped : Type 0 where
+    pub size : countOf ps ≡ m * n
+    pub u : Fitting p m us
+    pub v : Fitting q n vs
+    pub weights : g ≡ true → length ws ≡ m * n
+
+  pub surface-shaped : surfaceShape p q us vs m n ps g ws .number ≡ 0 → SurfaceShaped
+  unfolding surfaceShape
+  surface-shaped h =
+      let a = passed (not (eqb (length ps % 3) 0)) (refuse points-uneven) _ (λ e. omega arith) h in
+      let b = passed (not (eqb (countOf ps) (m * n))) (refuse net-size) _ (λ e. omega arith) (a .1) in
+      let c = orElse-none (along 0 (knotShape p m us)) _ (b .1) in
+      let d = orElse-none (along 1 (knotShape q n vs)) (weightShape (countOf ps) g ws) (c .1) in
+      let e : countOf ps ≡ m * n = eqb-true (countOf ps) (m * n) (not-false _ (b .0)) in
+      record {
+        size = e;
+        u = knots-open p m us (c .0);
+        v = knots-open q n vs (d .0);
+        weights = λ k. weights-open (countOf ps) g ws (d .1) k ∙ e;
+      }
+
+  pub size-is : ValidSurface p q us vs m n ps g ws → countOf ps ≡ m * n
+  size-is s = ap (λ (k : ℕ). k / 3) (s .triples) ∙ mul-div-right (m * n) (omega arith)
+
+  surface-shape-none : ValidSurface p q us vs m n ps g ws → surfaceShape p q us vs m n ps g ws ≡ accepted
+  unfolding surfaceShape
+  surface-shape-none s =
+      let rest : length ps % 3 ≡ 0 = ap (λ (k : ℕ). k % 3) (s .triples) ∙ mul-mod-right 3 (m * n) in
+      simp (
+        eq-eqb (length ps % 3) 0 rest,
+        eq-eqb (countOf ps) (m * n) (size-is s),
+        knots-none p m us (s .u),
+        knots-none q n vs (s .v),
+        weights-none (countOf ps) g ws (λ e. s .controls .weights e ∙ sym (size-is s)),
+      )
+
+  module _ (u v : Float) where
+    pub record SurfaceStepOpen : Type 0 where
+      pub shape : SurfaceShaped
+      pub u-high : p ≤ 64
+      pub v-high : q ≤ 64
+
+    pub surface-step-open : surfaceStepRefusal p q us vs m n ps g ws u v .number ≡ 0 → SurfaceStepOpen
+    unfolding surfaceStepRefusal
+    surface-step-open h =
+        let a = orElse-none (surfaceShape p q us vs m n ps g ws) (parametersRefusal p q u v) h in
+        let b = parameters-open p q u v (a .1) in
+        record { shape = surface-shaped (a .0); u-high = b .0; v-high = b .1 }
+
+    -- what the step reads lies in the net
+    module _ (o : SurfaceStepOpen) (s t : ℕ) (S : Found p m us s) (T : Found q n vs t) where
+      net-reach : NetReach (m * n) n (s - p) p (t - q) q
+      net-reach k K =
+          let B = S .below in
+          let C = T .below in
+          let F = S .from in
+          let G = T .from in
+          let h = net-place m n (s - p + k) t (omega arith) (omega arith) in
+          omega arith
+
+      pub points-net : NetReach (length ps / 3) n (s - p) p (t - q) q
+      points-net = subst (λ (l : ℕ). NetReach l n (s - p) p (t - q) q) (sym (o .shape .size)) net-reach
+
+      pub weights-net : g ≡ true → NetReach (length ws) n (s - p) p (t - q) q
+      weights-net e = subst (λ (l : ℕ). NetReach l n (s - p) p (t - q) q) (sym (o .shape .weights e)) net-reach
+
+    -- ---- the answers
+    module _ (r : Refusal) (h : r .number ≡ 0 → ⊥) where
+      pub surface-at-refused : r ≡ surfaceStepRefusal p q us vs m n ps g ws u v → Refused r ≡ surfaceAtOf p q us vs m n ps g ws u v
+      unfolding surfaceAtOf
+      surface-at-refused e = simp (stop e h) (ap Refused e)
+
+      pub surface-refused : r ≡ surfaceEvalRefusal p q us vs m n ps g ws u v → Refused r ≡ evalSurfaceOf p q us vs m n ps g ws u v
+      unfolding evalSurfaceOf
+      surface-refused e = simp (stop e h) (ap Refused e)
+
+    pub surface-at-answered : (r : Refusal) → r ≡ surfaceStepRefusal p q us vs m n ps g ws u v → r .number ≡ 0 → (s t : ℕ) (x y : Float)
+        → s ≡ searched p m us (clamped p m us u) → x ≡ clamped p m us u → t ≡ searched q n vs (clamped q n vs v) → y ≡ clamped q n vs v
+        → (d : SurfaceDerivs) → d ≡ surfaceOf p q us vs n ps g ws s t x y → At d ≡ surfaceAtOf p q us vs m n ps g ws u v
+    unfolding surfaceAtOf
+    surface-at-answered r e h s t x y S X T Y d D =
+        simp (skip e h) (ap At (D ∙ (ap₂ (λ (i j : ℕ). surfaceOf p q us vs n ps g ws i j x y) S T
+        ∙ ap₂ (surfaceOf p q us vs n ps g ws (searched p m us (clamped p m us u)) (searched q n vs (clamped q n vs v))) X Y)))
+
+    -- on a surface that is not refused the step answers what the evaluation answers
+    record SurfaceOpen : Type 0 where
+      surface : ValidSurface p q us vs m n ps g ws
+      u-high : p ≤ 64
+      v-high : q ≤ 64
+      u-finite : finite u ≡ true
+      v-finite : finite v ≡ true
+
+    surface-open : surfaceEvalRefusal p q us vs m n ps g ws u v .number ≡ 0 → SurfaceOpen
+    unfolding surfaceEvalRefusal
+    surface-open h =
+        let a = orElse-none (surfaceRefusal p q us vs m n ps g ws) (parametersRefusal p q u v) h in
+        let b = parameters-open p q u v (a .1) in
+        record { surface = valid-surface p q us vs m n ps g ws (a .0); u-high = b .0; v-high = b .1; u-finite = b .2; v-finite = b .3 }
+
+    surface-step-none : SurfaceOpen → surfaceStepRefusal p q us vs m n ps g ws u v ≡ accepted
+    unfolding surfaceStepRefusal
+    surface-step-none o = simp (surface-shape-none (o .surface)) (parameters-none p q u v (o .u-high) (o .v-high) (o .u-finite) (o .v-finite))
+
+    pub surface-answered : (r : Refusal) → r ≡ surfaceEvalRefusal p q us vs m n ps g ws u v → r .number ≡ 0 → surfaceAtOf p q us vs m n ps g ws u v ≡ evalSurfaceOf p q us vs m n ps g ws u v
+    unfolding surfaceAtOf evalSurfaceOf
+    surface-answered r e h =
+        let o = surface-open (sym (ap (λ (x : Refusal). x .number) e) ∙ h) in
+        simp (skip e h, surface-step-none o, searched-is p m us u (o .surface .u) (o .u-finite), searched-is q n vs v (o .surface .v) (o .v-finite))

@@ -1,0 +1,57 @@
+-- `evaluate::surface::eval_surface_at` meets its contract.
+-- Assumes nothing.
+use mathlib.Core.Path.{_≡_, sym, _∙_, ap, subst}
+use denote.Ref.{now}
+use Rattle.knots.specs.declared.refusal.Refusal.{Refusal}
+use Rattle.knots.specs.Span.{clamped}
+use Rattle.evaluate.specs.Surface.{surfaceStepRefusal}
+use Rattle.evaluate.proofs.Steps.{Found, found}
+use Rattle.evaluate.proofs.Surfaces.{surface-step-open, points-net, weights-net, surface-at-refused, surface-at-answered}
+use borrow.Author.Needs.{needs}
+use Rattle.evaluate.proofs.surface.eval_surface_at.Statement.{statement}
+use Rattle.evaluate.proofs.surface.eval_surface_at.Tie as tie
+
+surface-step-refusal-requires : tie.Need-surface-step-refusal-requires
+surface-step-refusal-requires c κs = search needs
+
+returns : tie.Need-returns
+returns c = let a = c .before .before .before .before .before .before .before .args in surface-at-refused (a .u-degree) (a .v-degree) (now (a .u-knots)) (now (a .v-knots)) (a .u-count) (a .v-count) (now (a .points)) (a .rational) (now (a .weights)) (a .u) (a .v) _ (c .if1 .taken) (c .before .before .surface-step-refusal .ensures)
+
+span-of-requires : tie.Need-span-of-requires
+span-of-requires c κs = search needs
+
+clamp-requires : tie.Need-clamp-requires
+clamp-requires c κs = search needs
+
+span-of-requires-2 : tie.Need-span-of-requires-2
+span-of-requires-2 c κs = search needs
+
+clamp-requires-2 : tie.Need-clamp-requires-2
+clamp-requires-2 c κs = search needs
+
+surface-at-requires : tie.Need-surface-at-requires
+surface-at-requires c κs =
+    let a = c .before .before .before .before .before .before .before .before .before .before .before .args in
+    let none : surfaceStepRefusal (a .u-degree) (a .v-degree) (now (a .u-knots)) (now (a .v-knots)) (a .u-count) (a .v-count) (now (a .points)) (a .rational) (now (a .weights)) (a .u) (a .v) .number ≡ 0 = sym (ap (λ (r : Refusal). r .number) (c .before .before .before .before .before .before .surface-step-refusal .ensures)) ∙ c .before .before .before .before .if1 .left in
+    let o = surface-step-open (a .u-degree) (a .v-degree) (now (a .u-knots)) (now (a .v-knots)) (a .u-count) (a .v-count) (now (a .points)) (a .rational) (now (a .weights)) (a .u) (a .v) none in
+    let s = subst (Found (a .u-degree) (a .u-count) (now (a .u-knots))) (sym (c .before .before .before .span-of .ensures .found)) (found (a .u-degree) (a .u-count) (now (a .u-knots)) (o .shape .u) (clamped (a .u-degree) (a .u-count) (now (a .u-knots)) (a .u))) in
+    let t = subst (Found (a .v-degree) (a .v-count) (now (a .v-knots))) (sym (c .before .span-of2 .ensures .found)) (found (a .v-degree) (a .v-count) (now (a .v-knots)) (o .shape .v) (clamped (a .v-degree) (a .v-count) (now (a .v-knots)) (a .v))) in
+    (o .shape .u .degree, (o .shape .v .degree, (o .u-high, (o .v-high, (s .from, (t .from, (s .reach, (t .reach, (points-net (a .u-degree) (a .v-degree) (now (a .u-knots)) (now (a .v-knots)) (a .u-count) (a .v-count) (now (a .points)) (a .rational) (now (a .weights)) (a .u) (a .v) o _ _ s t, weights-net (a .u-degree) (a .v-degree) (now (a .u-knots)) (now (a .v-knots)) (a .u-count) (a .v-count) (now (a .points)) (a .rational) (now (a .weights)) (a .u) (a .v) o _ _ s t)))))))))
+
+returns-2 : tie.Need-returns-2
+returns-2 c =
+    let a = c .before .before .before .before .before .before .before .before .before .before .before .before .args in
+    surface-at-answered (a .u-degree) (a .v-degree) (now (a .u-knots)) (now (a .v-knots)) (a .u-count) (a .v-count) (now (a .points)) (a .rational) (now (a .weights)) (a .u) (a .v) _ (c .before .before .before .before .before .before .before .surface-step-refusal .ensures) (c .before .before .before .before .before .if1 .left) _ _ _ _ (c .before .before .before .before .span-of .ensures .found) (c .before .before .before .clamp .ensures) (c .before .before .span-of2 .ensures .found) (c .before .clamp2 .ensures) _ (c .surface-at .ensures)
+
+pub eval-surface-at-spec : {M : Type 1} → statement M
+eval-surface-at-spec =
+    tie.close
+    (tie.spec
+    surface-step-refusal-requires
+    returns
+    span-of-requires
+    clamp-requires
+    span-of-requires-2
+    clamp-requires-2
+    surface-at-requires
+    returns-2)

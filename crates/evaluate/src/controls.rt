@@ -1,0 +1,149 @@
+// Control points and weights under an evaluation.
+use crate::vector::Vector;
+ghost use mathlib.Core.Path.{_≡_};
+ghost use mathlib.Core.Bool.{true};
+ghost use Prim.Native.Nat.{_+_, _*_, _<_, _≤_};
+ghost use lib.ListN.{length};
+ghost use Rattle.doubles.specs.Run.{at};
+ghost use Rattle.basis.specs.Basis.{cell};
+ghost use Rattle.evaluate.specs.Controls.{larger, largestFrom, pointOf, weightOf, scaleOf, plus, termOf, rowSums};
+
+// Sums over active points: points relative to a reference, and weights.
+pub struct Sums {
+    pub x: f64,
+    pub y: f64,
+    pub z: f64,
+    pub w: f64,
+}
+
+pub fn plus_of(a: Sums, b: Sums) -> Sums
+    ensures { λ r. ⌜ r ≡ plus a b ⌝ }
+{
+    Sums {
+        x: a.x + b.x,
+        y: a.y + b.y,
+        z: a.z + b.z,
+        w: a.w + b.w,
+    }
+}
+
+// What a point q with weight w under a basis function n adds, relative to o. Relative to an active point no large coordinates are subtracted later.
+// The source has one order of operations where one derivative is asked for, and another for two.
+pub fn term_of(two: bool, o: Vector, q: Vector, w: f64, n: f64) -> Sums
+    ensures { λ r. ⌜ r ≡ termOf two o q w n ⌝ }
+{
+    if two {
+        let c = n * w;
+        return Sums {
+            x: (q.x - o.x) * c,
+            y: (q.y - o.y) * c,
+            z: (q.z - o.z) * c,
+            w: c,
+        };
+    }
+    Sums {
+        x: ((q.x - o.x) * w) * n,
+        y: ((q.y - o.y) * w) * n,
+        z: ((q.z - o.z) * w) * n,
+        w: w * n,
+    }
+}
+
+// Point i. The one place that knows how coordinates are arranged.
+pub fn point_at(points: &[f64], i: usize) -> Vector
+    requires { ⌜ i * 3 + 2 < length (now points) ⌝ }
+    ensures { λ r. ⌜ r ≡ pointOf (now (points .entry)) i ⌝ }
+{
+    let at = i * 3;
+    Vector {
+        x: points[at],
+        y: points[at + 1],
+        z: points[at + 2],
+    }
+}
+
+// The larger of two, and the first where neither is.
+pub fn larger_of(a: f64, b: f64) -> f64
+    ensures { λ r. ⌜ r ≡ larger a b ⌝ }
+{
+    if a < b {
+        return b;
+    }
+    a
+}
+
+// Weight i over a scale, and 1.0 where no weights are given.
+pub fn weight_at(rational: bool, weights: &[f64], scale: f64, i: usize) -> f64
+    requires { ⌜ (rational ≡ true → i < length (now weights)) ⌝ }
+    ensures { λ r. ⌜ r ≡ weightOf rational (now (weights .entry)) scale i ⌝ }
+{
+    if rational {
+        return weights[i] / scale;
+    }
+    1.0
+}
+
+// The largest of m and the weights at n places from the first on.
+pub fn largest_in(m: f64, weights: &[f64], first: usize, n: usize) -> f64
+    requires { ⌜ first + n ≤ length (now weights) ⌝ }
+    ensures { λ r. ⌜ r ≡ largestFrom m (λ j. at (now (weights .entry)) (first + j)) n ⌝ }
+{
+    let mut a = m;
+    let mut j = 0usize;
+    while j < n {
+        let i = first + j;
+        let w = weights[i];
+        a = larger_of(a, w);
+        j += 1;
+    }
+    a
+}
+
+// The largest weight at n places from the first on, and 1.0 where none are given. Weights over it neither overflow nor vanish together.
+pub fn scale_at(rational: bool, weights: &[f64], first: usize, n: usize) -> f64
+    requires { ⌜ (rational ≡ true → first + n ≤ length (now weights)) ⌝ }
+    ensures { λ r. ⌜ r ≡ scaleOf rational (now (weights .entry)) first n ⌝ }
+{
+    if !rational {
+        return 1.0;
+    }
+    largest_in(0.0, weights, first, n)
+}
+
+// Row k of a table of derivatives against the p + 1 active points from the first on.
+pub fn row_sums(
+    two: bool,
+    k: usize,
+    p: usize,
+    first: usize,
+    scale: f64,
+    points: &[f64],
+    rational: bool,
+    weights: &[f64],
+    ders: &[f64; 195],
+) -> Sums
+    requires { ⌜ k ≤ 2 ⌝ }
+    requires { ⌜ p ≤ 64 ⌝ }
+    requires { ⌜ (first + p) * 3 + 2 < length (now points) ⌝ }
+    requires { ⌜ (rational ≡ true → first + p < length (now weights)) ⌝ }
+    ensures { λ r. ⌜ r ≡ rowSums two (now (points .entry)) rational (now (weights .entry)) scale first (cell (now (ders .entry)) k) (p + 1) ⌝ }
+{
+    let o = point_at(points, first);
+    let mut s = Sums {
+        x: 0.0,
+        y: 0.0,
+        z: 0.0,
+        w: 0.0,
+    };
+    let mut j = 0usize;
+    while j <= p {
+        let i = first + j;
+        let at = k * 65 + j;
+        let n = ders[at];
+        let w = weight_at(rational, weights, scale, i);
+        let q = point_at(points, i);
+        s = plus_of(s, term_of(two, o, q, w, n));
+        j += 1;
+    }
+    s
+}

@@ -1,0 +1,163 @@
+// Point and derivative of a curve: eval, and the step that it takes after validation.
+use crate::controls::Sums;
+use crate::controls::point_at;
+use crate::controls::row_sums;
+use crate::controls::scale_at;
+use crate::shape::curve_shape;
+use crate::shape::degree_refusal;
+use crate::shape::finite_refusal;
+use crate::vector::Vector;
+use basis::ders::basis_derivatives;
+use knots::curve::curve_refusal;
+use knots::refusal::Refusal;
+use knots::span::clamp;
+use knots::span::span_of;
+ghost use mathlib.Core.Path.{_≡_};
+ghost use mathlib.Core.Bool.{true};
+ghost use Prim.Native.Nat.{_+_, _*_, _<_, _≤_};
+ghost use lib.ListN.{length};
+ghost use Rattle.evaluate.specs.Curve.{parameterRefusal, evalRefusal, stepRefusal, quotient, curveOf, evalAtOf, evalOf};
+
+pub struct CurveDerivs {
+    pub point: Vector,
+    pub d1: Vector,
+}
+
+pub enum CurveAnswer {
+    At(CurveDerivs),
+    Refused(Refusal),
+}
+
+// The point and the first derivative from the sums of rows 0 and 1, relative to o.
+fn quotient_of(o: Vector, a: Sums, d: Sums) -> CurveDerivs
+    ensures { λ r. ⌜ r ≡ quotient o a d ⌝ }
+{
+    let x = a.x / a.w;
+    let y = a.y / a.w;
+    let z = a.z / a.w;
+    let point = Vector {
+        x: o.x + x,
+        y: o.y + y,
+        z: o.z + z,
+    };
+    let d1 = Vector {
+        x: (d.x - x * d.w) / a.w,
+        y: (d.y - y * d.w) / a.w,
+        z: (d.z - z * d.w) / a.w,
+    };
+    CurveDerivs { point, d1 }
+}
+
+// The point and the first derivative at u in a span.
+fn curve_at(
+    span: usize,
+    u: f64,
+    p: usize,
+    knots: &[f64],
+    points: &[f64],
+    rational: bool,
+    weights: &[f64],
+) -> CurveDerivs
+    requires { ⌜ 0 < p ⌝ }
+    requires { ⌜ p ≤ 64 ⌝ }
+    requires { ⌜ p ≤ span ⌝ }
+    requires { ⌜ span + p < length (now knots) ⌝ }
+    requires { ⌜ span * 3 + 2 < length (now points) ⌝ }
+    requires { ⌜ (rational ≡ true → span < length (now weights)) ⌝ }
+    ensures { λ r. ⌜ r ≡ curveOf p (now (knots .entry)) (now (points .entry)) rational (now (weights .entry)) span u ⌝ }
+{
+    let mut ders = [0.0; 195];
+    basis_derivatives(span, u, p, 1, knots, &mut ders);
+    let first = span - p;
+    let scale = scale_at(rational, weights, first, p + 1);
+    let o = point_at(points, first);
+    let a = row_sums(false, 0, p, first, scale, points, rational, weights, &ders);
+    let d = row_sums(false, 1, p, first, scale, points, rational, weights, &ders);
+    quotient_of(o, a, d)
+}
+
+// Refusals 31 and 12.
+pub fn parameter_refusal(degree: usize, t: f64) -> Refusal
+    ensures { λ r. ⌜ r ≡ parameterRefusal degree t ⌝ }
+{
+    let refusal = degree_refusal(degree);
+    if refusal.number != 0 {
+        return refusal;
+    }
+    finite_refusal(t)
+}
+
+// The refusal of a step on a curve that was validated before: the runs' lengths, 31, 12.
+pub fn step_refusal(
+    degree: usize,
+    knots: &[f64],
+    points: &[f64],
+    rational: bool,
+    weights: &[f64],
+    t: f64,
+) -> Refusal
+    ensures { λ r. ⌜ r ≡ stepRefusal degree (now (knots .entry)) (now (points .entry)) rational (now (weights .entry)) t ⌝ }
+{
+    let refusal = curve_shape(degree, knots, points, rational, weights);
+    if refusal.number != 0 {
+        return refusal;
+    }
+    parameter_refusal(degree, t)
+}
+
+// The refusal of an evaluation of a curve: the curve's, 31, 12.
+pub fn eval_refusal(
+    degree: usize,
+    knots: &[f64],
+    points: &[f64],
+    rational: bool,
+    weights: &[f64],
+    t: f64,
+) -> Refusal
+    ensures { λ r. ⌜ r ≡ evalRefusal degree (now (knots .entry)) (now (points .entry)) rational (now (weights .entry)) t ⌝ }
+{
+    let refusal = curve_refusal(degree, knots, points, rational, weights);
+    if refusal.number != 0 {
+        return refusal;
+    }
+    parameter_refusal(degree, t)
+}
+
+// The point and the first derivative at t of a curve that was validated before: only lengths are tested, so that many calls validate once.
+pub fn eval_at(
+    degree: usize,
+    knots: &[f64],
+    points: &[f64],
+    rational: bool,
+    weights: &[f64],
+    t: f64,
+) -> CurveAnswer
+    ensures { λ r. ⌜ r ≡ evalAtOf degree (now (knots .entry)) (now (points .entry)) rational (now (weights .entry)) t ⌝ }
+{
+    let refusal = step_refusal(degree, knots, points, rational, weights, t);
+    if refusal.number != 0 {
+        return CurveAnswer::Refused(refusal);
+    }
+    let count = points.len() / 3;
+    let span = span_of(degree, count, t, knots);
+    let u = clamp(degree, count, t, knots);
+    CurveAnswer::At(curve_at(span, u, degree, knots, points, rational, weights))
+}
+
+// The point and the first derivative of a curve at t, or a refusal. A finite t outside the domain becomes the nearer end.
+pub fn eval(
+    degree: usize,
+    knots: &[f64],
+    points: &[f64],
+    rational: bool,
+    weights: &[f64],
+    t: f64,
+) -> CurveAnswer
+    ensures { λ r. ⌜ r ≡ evalOf degree (now (knots .entry)) (now (points .entry)) rational (now (weights .entry)) t ⌝ }
+{
+    let refusal = eval_refusal(degree, knots, points, rational, weights, t);
+    if refusal.number != 0 {
+        return CurveAnswer::Refused(refusal);
+    }
+    eval_at(degree, knots, points, rational, weights, t)
+}

@@ -1,0 +1,146 @@
+// Point and two derivatives of a curve: eval2, and the step that it takes after validation.
+use crate::controls::Sums;
+use crate::controls::point_at;
+use crate::controls::row_sums;
+use crate::controls::scale_at;
+use crate::curve::eval_refusal;
+use crate::curve::step_refusal;
+use crate::vector::Vector;
+use crate::vector::finite_vector;
+use basis::ders::basis_derivatives;
+use knots::refusal::Refusal;
+use knots::refusal::refuse;
+use knots::span::clamp;
+use knots::span::span_of;
+ghost use mathlib.Core.Path.{_≡_};
+ghost use mathlib.Core.Bool.{true};
+ghost use Prim.Native.Nat.{_+_, _*_, _<_, _≤_};
+ghost use lib.ListN.{length};
+ghost use Rattle.evaluate.specs.Curve2.{quotient2, curve2Of, finite2, eval2AtOf, eval2Of};
+
+pub struct CurveDerivs2 {
+    pub point: Vector,
+    pub d1: Vector,
+    pub d2: Vector,
+}
+
+pub enum CurveAnswer2 {
+    At(CurveDerivs2),
+    Refused(Refusal),
+}
+
+// The point and two derivatives from the sums of rows 0, 1 and 2, relative to o.
+fn quotient2_of(o: Vector, a: Sums, d: Sums, e: Sums) -> CurveDerivs2
+    ensures { λ r. ⌜ r ≡ quotient2 o a d e ⌝ }
+{
+    let x = a.x / a.w;
+    let y = a.y / a.w;
+    let z = a.z / a.w;
+    let twice = 2.0 * d.w;
+    let sx = (d.x - x * d.w) / a.w;
+    let sy = (d.y - y * d.w) / a.w;
+    let sz = (d.z - z * d.w) / a.w;
+    let point = Vector {
+        x: o.x + x,
+        y: o.y + y,
+        z: o.z + z,
+    };
+    let d1 = Vector {
+        x: sx,
+        y: sy,
+        z: sz,
+    };
+    let d2 = Vector {
+        x: (e.x - x * e.w - sx * twice) / a.w,
+        y: (e.y - y * e.w - sy * twice) / a.w,
+        z: (e.z - z * e.w - sz * twice) / a.w,
+    };
+    CurveDerivs2 { point, d1, d2 }
+}
+
+// The point and two derivatives at u in a span.
+fn curve2_at(
+    span: usize,
+    u: f64,
+    p: usize,
+    knots: &[f64],
+    points: &[f64],
+    rational: bool,
+    weights: &[f64],
+) -> CurveDerivs2
+    requires { ⌜ 0 < p ⌝ }
+    requires { ⌜ p ≤ 64 ⌝ }
+    requires { ⌜ p ≤ span ⌝ }
+    requires { ⌜ span + p < length (now knots) ⌝ }
+    requires { ⌜ span * 3 + 2 < length (now points) ⌝ }
+    requires { ⌜ (rational ≡ true → span < length (now weights)) ⌝ }
+    ensures { λ r. ⌜ r ≡ curve2Of p (now (knots .entry)) (now (points .entry)) rational (now (weights .entry)) span u ⌝ }
+{
+    let mut ders = [0.0; 195];
+    basis_derivatives(span, u, p, 2, knots, &mut ders);
+    let first = span - p;
+    let scale = scale_at(rational, weights, first, p + 1);
+    let o = point_at(points, first);
+    let a = row_sums(true, 0, p, first, scale, points, rational, weights, &ders);
+    let d = row_sums(true, 1, p, first, scale, points, rational, weights, &ders);
+    let e = row_sums(true, 2, p, first, scale, points, rational, weights, &ders);
+    quotient2_of(o, a, d, e)
+}
+
+// All nine numbers are finite.
+fn finite2_of(r: CurveDerivs2) -> bool
+    ensures { λ b. ⌜ b ≡ finite2 r ⌝ }
+{
+    let point = r.point;
+    let d1 = r.d1;
+    let d2 = r.d2;
+    if finite_vector(point) {
+        if finite_vector(d1) {
+            return finite_vector(d2);
+        }
+    }
+    false
+}
+
+// The point and two derivatives at t of a curve that was validated before: only lengths are tested, so that many calls validate once.
+pub fn eval2_at(
+    degree: usize,
+    knots: &[f64],
+    points: &[f64],
+    rational: bool,
+    weights: &[f64],
+    t: f64,
+) -> CurveAnswer2
+    ensures { λ r. ⌜ r ≡ eval2AtOf degree (now (knots .entry)) (now (points .entry)) rational (now (weights .entry)) t ⌝ }
+{
+    let refusal = step_refusal(degree, knots, points, rational, weights, t);
+    if refusal.number != 0 {
+        return CurveAnswer2::Refused(refusal);
+    }
+    let count = points.len() / 3;
+    let span = span_of(degree, count, t, knots);
+    let u = clamp(degree, count, t, knots);
+    let r = curve2_at(span, u, degree, knots, points, rational, weights);
+    if finite2_of(r) {
+        return CurveAnswer2::At(r);
+    }
+    CurveAnswer2::Refused(refuse(21))
+}
+
+// The point and two derivatives of a curve at t, or a refusal: 21 where one of the numbers is not finite.
+pub fn eval2(
+    degree: usize,
+    knots: &[f64],
+    points: &[f64],
+    rational: bool,
+    weights: &[f64],
+    t: f64,
+) -> CurveAnswer2
+    ensures { λ r. ⌜ r ≡ eval2Of degree (now (knots .entry)) (now (points .entry)) rational (now (weights .entry)) t ⌝ }
+{
+    let refusal = eval_refusal(degree, knots, points, rational, weights, t);
+    if refusal.number != 0 {
+        return CurveAnswer2::Refused(refusal);
+    }
+    eval2_at(degree, knots, points, rational, weights, t)
+}

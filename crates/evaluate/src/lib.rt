@@ -1,0 +1,10 @@
+// Points and derivatives of curves and surfaces, reversal, isoparametric curves.
+mod controls;
+pub mod curve;
+pub mod curve2;
+mod front;
+mod net;
+pub mod reverse;
+pub mod shape;
+pub mod surface;
+pub mod vector;

@@ -1,0 +1,329 @@
+// Point and first partial derivatives of a surface: eval_surface, and the step that it takes after validation.
+use crate::controls::Sums;
+use crate::controls::point_at;
+use crate::net::Net;
+use crate::net::net_scale;
+use crate::net::net_sums;
+use crate::shape::degree_refusal;
+use crate::shape::finite_refusal;
+use crate::shape::surface_shape;
+use crate::vector::Vector;
+use basis::ders::basis_derivatives;
+use knots::refusal::Refusal;
+use knots::span::clamp;
+use knots::span::span_of;
+use knots::surface::surface_refusal;
+ghost use mathlib.Core.Path.{_≡_};
+ghost use mathlib.Core.Bool.{true};
+ghost use Prim.Native.Nat.{_+_, _-_, _*_, _/_, _<_, _≤_};
+ghost use lib.ListN.{length};
+ghost use Rattle.evaluate.specs.Surface.{NetReach, surfaceQuotient, surfaceOf, degreesRefusal, parametersRefusal, surfaceStepRefusal, surfaceEvalRefusal, surfaceAtOf, evalSurfaceOf};
+
+pub struct SurfaceDerivs {
+    pub point: Vector,
+    pub du: Vector,
+    pub dv: Vector,
+}
+
+pub enum SurfaceAnswer {
+    At(SurfaceDerivs),
+    Refused(Refusal),
+}
+
+// The point and the partial derivatives from the three sums, relative to o.
+fn surface_quotient_of(o: Vector, a: Sums, d: Sums, e: Sums) -> SurfaceDerivs
+    ensures { λ r. ⌜ r ≡ surfaceQuotient o a d e ⌝ }
+{
+    let x = a.x / a.w;
+    let y = a.y / a.w;
+    let z = a.z / a.w;
+    let point = Vector {
+        x: o.x + x,
+        y: o.y + y,
+        z: o.z + z,
+    };
+    let du = Vector {
+        x: (d.x - x * d.w) / a.w,
+        y: (d.y - y * d.w) / a.w,
+        z: (d.z - z * d.w) / a.w,
+    };
+    let dv = Vector {
+        x: (e.x - x * e.w) / a.w,
+        y: (e.y - y * e.w) / a.w,
+        z: (e.z - z * e.w) / a.w,
+    };
+    SurfaceDerivs { point, du, dv }
+}
+
+// At u and v in spans of the two directions.
+fn surface_at(
+    s: usize,
+    t: usize,
+    u: f64,
+    v: f64,
+    p: usize,
+    q: usize,
+    u_knots: &[f64],
+    v_knots: &[f64],
+    columns: usize,
+    points: &[f64],
+    rational: bool,
+    weights: &[f64],
+) -> SurfaceDerivs
+    requires { ⌜ 0 < p ⌝ }
+    requires { ⌜ 0 < q ⌝ }
+    requires { ⌜ p ≤ 64 ⌝ }
+    requires { ⌜ q ≤ 64 ⌝ }
+    requires { ⌜ p ≤ s ⌝ }
+    requires { ⌜ q ≤ t ⌝ }
+    requires { ⌜ s + p < length (now «u_knots») ⌝ }
+    requires { ⌜ t + q < length (now «v_knots») ⌝ }
+    requires { ⌜ NetReach (length (now points) / 3) columns (s - p) p (t - q) q ⌝ }
+    requires { ⌜ (rational ≡ true → NetReach (length (now weights)) columns (s - p) p (t - q) q) ⌝ }
+    ensures { λ r. ⌜ r ≡ surfaceOf p q (now («u_knots» .entry)) (now («v_knots» .entry)) columns (now (points .entry)) rational (now (weights .entry)) s t u v ⌝ }
+{
+    let mut u_ders = [0.0; 195];
+    basis_derivatives(s, u, p, 1, u_knots, &mut u_ders);
+    let mut v_ders = [0.0; 195];
+    basis_derivatives(t, v, q, 1, v_knots, &mut v_ders);
+    let a = s - p;
+    let b = t - q;
+    let net = Net {
+        columns,
+        a,
+        p,
+        b,
+        q,
+    };
+    let scale = net_scale(net, rational, weights);
+    let corner = a * columns + b;
+    let o = point_at(points, corner);
+    let c = net_sums(
+        0,
+        0,
+        o,
+        net,
+        scale,
+        points,
+        rational,
+        weights,
+        &u_ders,
+        &v_ders,
+    );
+    let d = net_sums(
+        1,
+        0,
+        o,
+        net,
+        scale,
+        points,
+        rational,
+        weights,
+        &u_ders,
+        &v_ders,
+    );
+    let e = net_sums(
+        0,
+        1,
+        o,
+        net,
+        scale,
+        points,
+        rational,
+        weights,
+        &u_ders,
+        &v_ders,
+    );
+    surface_quotient_of(o, c, d, e)
+}
+
+// Refusal 31 of either direction.
+pub fn degrees_refusal(u_degree: usize, v_degree: usize) -> Refusal
+    ensures { λ r. ⌜ r ≡ degreesRefusal «u_degree» «v_degree» ⌝ }
+{
+    let refusal = degree_refusal(u_degree);
+    if refusal.number != 0 {
+        return refusal;
+    }
+    degree_refusal(v_degree)
+}
+
+// Refusals 31 and 12 of either direction.
+pub fn parameters_refusal(u_degree: usize, v_degree: usize, u: f64, v: f64) -> Refusal
+    ensures { λ r. ⌜ r ≡ parametersRefusal «u_degree» «v_degree» u v ⌝ }
+{
+    let refusal = degrees_refusal(u_degree, v_degree);
+    if refusal.number != 0 {
+        return refusal;
+    }
+    let refusal = finite_refusal(u);
+    if refusal.number != 0 {
+        return refusal;
+    }
+    finite_refusal(v)
+}
+
+// The refusal of a step on a surface that was validated before: the runs' lengths, 31, 12.
+pub fn surface_step_refusal(
+    u_degree: usize,
+    v_degree: usize,
+    u_knots: &[f64],
+    v_knots: &[f64],
+    u_count: usize,
+    v_count: usize,
+    points: &[f64],
+    rational: bool,
+    weights: &[f64],
+    u: f64,
+    v: f64,
+) -> Refusal
+    ensures { λ r. ⌜ r ≡ surfaceStepRefusal «u_degree» «v_degree» (now («u_knots» .entry)) (now («v_knots» .entry)) «u_count» «v_count» (now (points .entry)) rational (now (weights .entry)) u v ⌝ }
+{
+    let refusal = surface_shape(
+        u_degree,
+        v_degree,
+        u_knots,
+        v_knots,
+        u_count,
+        v_count,
+        points,
+        rational,
+        weights,
+    );
+    if refusal.number != 0 {
+        return refusal;
+    }
+    parameters_refusal(u_degree, v_degree, u, v)
+}
+
+// The refusal of an evaluation of a surface: the surface's, 31, 12.
+pub fn surface_eval_refusal(
+    u_degree: usize,
+    v_degree: usize,
+    u_knots: &[f64],
+    v_knots: &[f64],
+    u_count: usize,
+    v_count: usize,
+    points: &[f64],
+    rational: bool,
+    weights: &[f64],
+    u: f64,
+    v: f64,
+) -> Refusal
+    ensures { λ r. ⌜ r ≡ surfaceEvalRefusal «u_degree» «v_degree» (now («u_knots» .entry)) (now («v_knots» .entry)) «u_count» «v_count» (now (points .entry)) rational (now (weights .entry)) u v ⌝ }
+{
+    let refusal = surface_refusal(
+        u_degree,
+        v_degree,
+        u_knots,
+        v_knots,
+        u_count,
+        v_count,
+        points,
+        rational,
+        weights,
+    );
+    if refusal.number != 0 {
+        return refusal;
+    }
+    parameters_refusal(u_degree, v_degree, u, v)
+}
+
+// The point and the first partial derivatives at u and v of a surface that was validated before: only lengths are tested.
+pub fn eval_surface_at(
+    u_degree: usize,
+    v_degree: usize,
+    u_knots: &[f64],
+    v_knots: &[f64],
+    u_count: usize,
+    v_count: usize,
+    points: &[f64],
+    rational: bool,
+    weights: &[f64],
+    u: f64,
+    v: f64,
+) -> SurfaceAnswer
+    ensures { λ r. ⌜ r ≡ surfaceAtOf «u_degree» «v_degree» (now («u_knots» .entry)) (now («v_knots» .entry)) «u_count» «v_count» (now (points .entry)) rational (now (weights .entry)) u v ⌝ }
+{
+    let refusal = surface_step_refusal(
+        u_degree,
+        v_degree,
+        u_knots,
+        v_knots,
+        u_count,
+        v_count,
+        points,
+        rational,
+        weights,
+        u,
+        v,
+    );
+    if refusal.number != 0 {
+        return SurfaceAnswer::Refused(refusal);
+    }
+    let s = span_of(u_degree, u_count, u, u_knots);
+    let x = clamp(u_degree, u_count, u, u_knots);
+    let t = span_of(v_degree, v_count, v, v_knots);
+    let y = clamp(v_degree, v_count, v, v_knots);
+    SurfaceAnswer::At(surface_at(
+        s,
+        t,
+        x,
+        y,
+        u_degree,
+        v_degree,
+        u_knots,
+        v_knots,
+        v_count,
+        points,
+        rational,
+        weights,
+    ))
+}
+
+// The point and the first partial derivatives of a surface, or a refusal. Finite parameters outside the domain become the nearer ends.
+pub fn eval_surface(
+    u_degree: usize,
+    v_degree: usize,
+    u_knots: &[f64],
+    v_knots: &[f64],
+    u_count: usize,
+    v_count: usize,
+    points: &[f64],
+    rational: bool,
+    weights: &[f64],
+    u: f64,
+    v: f64,
+) -> SurfaceAnswer
+    ensures { λ r. ⌜ r ≡ evalSurfaceOf «u_degree» «v_degree» (now («u_knots» .entry)) (now («v_knots» .entry)) «u_count» «v_count» (now (points .entry)) rational (now (weights .entry)) u v ⌝ }
+{
+    let refusal = surface_eval_refusal(
+        u_degree,
+        v_degree,
+        u_knots,
+        v_knots,
+        u_count,
+        v_count,
+        points,
+        rational,
+        weights,
+        u,
+        v,
+    );
+    if refusal.number != 0 {
+        return SurfaceAnswer::Refused(refusal);
+    }
+    eval_surface_at(
+        u_degree,
+        v_degree,
+        u_knots,
+        v_knots,
+        u_count,
+        v_count,
+        points,
+        rational,
+        weights,
+        u,
+        v,
+    )
+}
