@@ -6,6 +6,7 @@ pub mod Fields
 pub mod Tables
 pub mod Stores
 pub mod Numbers
+pub mod Validated
 pub mod Sizes
 pub mod Written
 pub mod RoundTrip

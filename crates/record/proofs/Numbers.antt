@@ -16,7 +16,7 @@ use Rattle.knots.specs.Refusal.{refuse, too-long}
 use Rattle.knots.specs.declared.refusal.Refusal.{Refusal}
 use Rattle.doubles.specs.Value.{zero+}
 use Rattle.record.specs.Format.{Table, Holds, Means, Patterns, given, rationalBy, optional}
-use Rattle.record.specs.Reading.{patterns, tableOf, layout, layoutOf, rational, roomFor, numbersOf, numbers, cleared, padded, ReadsNumbers}
+use Rattle.record.specs.Reading.{patterns, tableOf, layout, layoutOf, rational, roomFor, numbersOf, numbers, cleared, padded, blank, Lent, ReadsNumbers}
 use Rattle.record.specs.declared.read.Layout.{Layout}
 use Rattle.record.specs.declared.read.Record.the-variants.{Fields, Refused}
 use Rattle.record.proofs.Tests.{both}
@@ -99,9 +99,12 @@ read-held s t k p w h o room =
     record {
       means = rw o h;
       answer = rw (o, room);
-      knots = rw o (filled (length k) (t .knots) _ (at .knots) (fits .0));
-      points = rw o (filled (length p) (t .points) _ (at .points) (fits .1));
-      weights = rw o (filled (length w) (given (t .weights)) _ ws (fits .2));
+      runs = rw o
+          (record {
+            knots = filled (length k) (t .knots) _ (at .knots) (fits .0);
+            points = filled (length p) (t .points) _ (at .points) (fits .1);
+            weights = filled (length w) (given (t .weights)) _ ws (fits .2);
+          });
     }
 
 pub numbers-read : (s : List ℕ) (l : Layout) (k p w : List Float) → Means s (tableOf s) → Fields l ≡ layoutOf (tableOf s) → roomFor l (length k) (length p) (length w) ≡ true → Filled s k p w l
@@ -112,10 +115,14 @@ numbers-read s l k p w m e room =
     let room′ = subst (λ (x : Layout). roomFor x (length k) (length p) (length w) ≡ true) (sym (found .2)) room in
     subst (λ (x : Layout). Filled s k p w x) (found .2) (read-held s t k p w h (found .1) room′)
 
+-- cleared runs
+pub blank-runs : (k p w : List Float) → Lent blank k p w (cleared (length k)) (cleared (length p)) (cleared (length w))
+blank-runs k p w = record { knots = rw sub-zero; points = rw sub-zero; weights = rw sub-zero }
+
 pub numbers-refused : (s : List ℕ) (k p w : List Float) (x : Refusal) → Means s (tableOf s) → Refused x ≡ numbersOf (tableOf s) (length k) (length p) (length w) →
     ReadsNumbers s k p w (cleared (length k)) (cleared (length p)) (cleared (length w)) (Refused x)
 numbers-refused s k p w x m e =
-    record { means = m; answer = e; knots = rw sub-zero; points = rw sub-zero; weights = rw sub-zero }
+    record { means = m; answer = e; runs = blank-runs k p w }
 
 -- the two refusals
 pub no-record : (s : List ℕ) (k p w : ℕ) (x : Refusal) → Refused x ≡ layoutOf (tableOf s) → Refused x ≡ numbersOf (tableOf s) k p w

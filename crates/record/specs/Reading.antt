@@ -113,10 +113,13 @@ numbersOf none k p w = Refused (refuse record-malformed)
 numbersOf (some t) k p w = cond (roomFor (layout t) k p w) (Fields (layout t)) (Refused (refuse too-long))
 
 -- the table that an answer hands over: one without numbers after a refusal
+abbrev pub blank : Table
+blank = record { degree = 0; knots = []; points = []; weights = none }
+
 abbrev pub handed : Record → Option Table → Table
 handed (Fields l) (some t) = t
-handed (Fields l) none = record { degree = 0; knots = []; points = []; weights = none }
-handed (Refused n) o = record { degree = 0; knots = []; points = []; weights = none }
+handed (Fields l) none = blank
+handed (Refused x) o = blank
 
 -- the doubles of patterns: every NaN pattern is the one NaN
 abbrev pub numbers : List ℕ → List Float
@@ -130,10 +133,14 @@ cleared n = zeros n
 abbrev pub padded : ℕ → List Float → List Float
 padded n xs = xs ++ cleared (n - length xs)
 
--- the promise of `read_numbers`: k, p, w are the lent runs before, k′, p′, w′ after
+-- lent runs k, p, w hold k′, p′, w′ afterwards: the numbers of a table, and +0.0 behind them
+pub record Lent (t : Table) (k p w k′ p′ w′ : List Float) : Type 0 where
+  pub knots : k′ ≡ padded (length k) (numbers (t .knots))
+  pub points : p′ ≡ padded (length p) (numbers (t .points))
+  pub weights : w′ ≡ padded (length w) (numbers (given (t .weights)))
+
+-- the promise of `read_numbers`
 pub record ReadsNumbers (s : List ℕ) (k p w k′ p′ w′ : List Float) (r : Record) : Type 0 where
   pub means : Means s (tableOf s)
   pub answer : r ≡ numbersOf (tableOf s) (length k) (length p) (length w)
-  pub knots : k′ ≡ padded (length k) (numbers (handed r (tableOf s) .knots))
-  pub points : p′ ≡ padded (length p) (numbers (handed r (tableOf s) .points))
-  pub weights : w′ ≡ padded (length w) (numbers (given (handed r (tableOf s) .weights)))
+  pub runs : Lent (handed r (tableOf s)) k p w k′ p′ w′

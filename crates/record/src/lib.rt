@@ -4,4 +4,5 @@ pub mod clear;
 pub mod double;
 mod field;
 pub mod read;
+pub mod table;
 pub mod write;
