@@ -1,0 +1,13 @@
+pub mod Little
+pub mod Nans
+pub mod Runs
+pub mod Tests
+pub mod Fields
+pub mod Tables
+pub mod Stores
+pub mod Numbers
+pub mod Validated
+pub mod Sizes
+pub mod Written
+pub mod RoundTrip
+pub mod Determined

@@ -1,0 +1,8 @@
+// The table record: its reader and its writer.
+mod bytes;
+pub mod clear;
+pub mod double;
+mod field;
+pub mod read;
+pub mod table;
+pub mod write;
