@@ -5,13 +5,17 @@
  *   that is not null and is aligned to 8 bytes.
  * - A function with a lent run `out` returns 0 and writes its answer to the front of the run; every number behind the
  *   answer is then +0.0. Otherwise it returns a refusal number, and every number of the run is +0.0.
- * - Refusal numbers are those of document 01. 30 says that the run is shorter than the answer; it comes after every
- *   other refusal of these functions. 99 is no refusal number: two doubles that were passed as the ends of an
- *   interval are none, since the low end is above the high one or an end is NaN.
+ * - Refusal numbers are those of document 01. 30 says that the lent run is shorter than the answer, and then comes
+ *   after every other refusal; or, before every other, that an input run has more than 1,048,576 numbers. 99 is no
+ *   refusal number: two doubles that were passed as the ends of an interval are none, since the low end is above the
+ *   high one or an end is NaN.
+ * - Refusals 1 to 7 of a surface say their direction: 101 to 107 along u, 201 to 207 along v.
  * - A function with no lent run returns its answer.
  * - An interval is passed by its ends, low before high, and answered as two doubles, low before high. Infinite ends
  *   are allowed.
  * - A NaN has no sign and no payload of its own: any NaN may be answered for another.
+ * - A curve is a degree, knots, points (x, y, z of each, one after the other) and, where `rational` is true, a weight
+ *   for each point; else `weights` is not looked at. A surface has its points row by row, i * v_count + j.
  * - No function keeps a pointer, allocates, or needs to be started. All may be called from any thread.
  */
 #ifndef TASULOGI_H
@@ -32,6 +36,26 @@ enum {
     TASULOGI_NO_QUOTIENT = 28,
     TASULOGI_TOO_LITTLE_ROOM = 30,
     TASULOGI_NO_INTERVAL = 99
+};
+
+/* A returned number without its direction, and the direction: 0 none, 1 u, 2 v. */
+#define TASULOGI_REFUSAL(r) ((r) % 100)
+#define TASULOGI_DIRECTION(r) ((r) / 100)
+
+/* The refusal of tasulogi_find_span; where it is 0, what was returned is the span. */
+#define TASULOGI_SPAN_REFUSAL(r) ((uint32_t)((r) >> 32))
+
+/* How many numbers a box has: point, du, dv, each x, y, z, each low before high. */
+#define TASULOGI_BOX 18
+
+/* What tasulogi_class_of returns. */
+enum {
+    TASULOGI_INVALID = 0,
+    TASULOGI_DEGENERATE = 1,
+    TASULOGI_UNIMPLEMENTED = 2,
+    TASULOGI_CAPACITY = 3,
+    TASULOGI_INTERNAL = 4,
+    TASULOGI_NO_CLASS = 5
 };
 
 /* What tasulogi_interval_sign returns, beside 99. */
@@ -100,6 +124,45 @@ uint32_t tasulogi_interval_mul(double al, double ah, double bl, double bh, doubl
 /* The first times the outward interval of both reciprocals of the second. 26 where the second contains 0; 28 where
  * no quotient can be formed, which no operands give. */
 uint32_t tasulogi_interval_divide(double al, double ah, double bl, double bh, double *out, size_t n);
+
+/* Curves and surfaces. */
+
+/* The class of a refusal number, without its direction; 5 for any other number. */
+uint8_t tasulogi_class_of(uint32_t number);
+
+/* 0 for a valid curve, else 30, 32, 1 to 10, the first in this order. */
+uint32_t tasulogi_curve_refusal(size_t degree, const double *knots, size_t knots_n, const double *points,
+                                size_t points_n, bool rational, const double *weights, size_t weights_n);
+
+/* 0 for a valid surface, else 30, 32, 11, 101 to 107, 201 to 207, 8 to 10, the first in this order. */
+uint32_t tasulogi_surface_refusal(size_t u_degree, size_t v_degree, const double *u_knots, size_t u_knots_n,
+                                  const double *v_knots, size_t v_knots_n, size_t u_count, size_t v_count,
+                                  const double *points, size_t points_n, bool rational, const double *weights,
+                                  size_t weights_n);
+
+/* The span of u for `count` points: a parameter outside the domain becomes the nearer end. Else a refusal's number
+ * times 2^32: 30, 1 to 7, 12, the first in this order. */
+uint64_t tasulogi_find_span(size_t degree, size_t count, const double *knots, size_t knots_n, double u);
+
+/* The first nonempty span from `from` on, in degree..=count-1, or `count` where there is none. Any knots are taken. */
+size_t tasulogi_next_span(size_t degree, size_t count, const double *knots, size_t knots_n, size_t from);
+
+/* u, or the nearer end of the domain where u lies outside; a NaN stays one, a zero keeps its sign. */
+double tasulogi_clamp(size_t degree, size_t count, double u, const double *knots, size_t knots_n);
+
+/* The box of a curve over the closed range [lo, hi], on the first nonempty span that contains it. Refusals in this
+ * order: those of the curve, 31, 24, 25, 27, 26, then 30 for the lent run. 28 and 29 are given for no input. */
+uint32_t tasulogi_bound_curve(size_t degree, const double *knots, size_t knots_n, const double *points,
+                              size_t points_n, bool rational, const double *weights, size_t weights_n, double lo,
+                              double hi, double *out, size_t n);
+
+/* The box of a surface over a closed rectangle. Refusals in this order: those of the surface, 31, 24 and 25 for u,
+ * 24 and 25 for v, 27, 26, then 30 for the lent run. */
+uint32_t tasulogi_bound_surface(size_t u_degree, size_t v_degree, const double *u_knots, size_t u_knots_n,
+                                const double *v_knots, size_t v_knots_n, size_t u_count, size_t v_count,
+                                const double *points, size_t points_n, bool rational, const double *weights,
+                                size_t weights_n, double u_lo, double u_hi, double v_lo, double v_hi, double *out,
+                                size_t n);
 
 #ifdef __cplusplus
 }

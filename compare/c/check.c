@@ -82,11 +82,65 @@ static void refusals(void)
     expect(tasulogi_interval_entire(run, 0) == TASULOGI_TOO_LITTLE_ROOM, "an empty run");
 }
 
+/* Table A of document 01. */
+static const double knots[] = { 0, 0, 0, 1, 2, 2, 2 };
+static const double points[] = { 0, 0, 0, 2, 0, 0, 4, 0, 0, 6, 0, 0 };
+static const double none[1];
+
+static uint32_t curve(size_t degree, size_t knots_n, size_t points_n)
+{
+    return tasulogi_curve_refusal(degree, knots, knots_n, points, points_n, false, none, 0);
+}
+
+static void tables(void)
+{
+    expect(tasulogi_class_of(5) == TASULOGI_DEGENERATE && tasulogi_class_of(31) == TASULOGI_CAPACITY, "classes");
+    expect(tasulogi_class_of(0) == TASULOGI_NO_CLASS && tasulogi_class_of(34) == TASULOGI_NO_CLASS, "no class");
+    expect(curve(2, 7, 12) == 0, "table A");
+    expect(curve(0, 7, 12) == 1 && curve(4, 7, 12) == 2 && curve(2, 6, 12) == 3 && curve(2, 7, 11) == 32, "refusals of a curve");
+    static const double ends[] = { 0, 0, 1, 1 };
+    uint32_t r = tasulogi_surface_refusal(2, 1, knots, 7, ends, 4, 2, 2, points, 12, false, none, 0);
+    expect(TASULOGI_REFUSAL(r) == 2 && TASULOGI_DIRECTION(r) == 1, "a refusal along u");
+    r = tasulogi_surface_refusal(1, 0, ends, 4, ends, 4, 2, 2, points, 12, false, none, 0);
+    expect(TASULOGI_REFUSAL(r) == 1 && TASULOGI_DIRECTION(r) == 2, "a refusal along v");
+    expect(tasulogi_surface_refusal(1, 1, ends, 4, ends, 4, 2, 2, points, 12, false, none, 0) == 0, "a surface");
+}
+
+static void spans(void)
+{
+    static const double u[] = { 0, 0.5, 1, 2, -1, 3 };
+    static const uint64_t at[] = { 2, 2, 3, 3, 2, 3 };
+    for (int i = 0; i < 6; i++) {
+        expect(tasulogi_find_span(2, 4, knots, 7, u[i]) == at[i], "spans of A, and outside its domain");
+    }
+    expect(TASULOGI_SPAN_REFUSAL(tasulogi_find_span(2, 4, knots, 7, NAN)) == 12, "a NaN parameter");
+    expect(tasulogi_next_span(2, 4, knots, 7, 0) == 2 && tasulogi_next_span(2, 4, knots, 7, 3) == 3, "next_span");
+    expect(tasulogi_next_span(2, 4, knots, 7, 4) == 4, "no next span");
+    expect(same(tasulogi_clamp(2, 4, 3.0, knots, 7), 2.0) && same(tasulogi_clamp(2, 4, -0.0, knots, 7), -0.0), "clamp");
+}
+
+static void boxes(void)
+{
+    double box[TASULOGI_BOX + 1];
+    box[TASULOGI_BOX] = 7.0;
+    expect(tasulogi_bound_curve(2, knots, 7, points, 12, false, none, 0, 0.5, 0.5, box, TASULOGI_BOX + 1) == TASULOGI_DONE, "a bound of A");
+    expect(box[0] < 1.75 && box[1] > 1.75 && box[1] - box[0] < 1e-12 && same(box[TASULOGI_BOX], 0.0), "the point of A at 0.5, and the tail");
+    expect(tasulogi_bound_curve(2, knots, 7, points, 12, false, none, 0, 0.5, 1.5, box, TASULOGI_BOX) == 25 && same(box[0], 0.0), "A on [0.5, 1.5]");
+    expect(tasulogi_bound_curve(2, knots, 7, points, 12, false, none, 0, 0.5, 0.5, box, TASULOGI_BOX - 1) == TASULOGI_TOO_LITTLE_ROOM, "a box one short");
+    static const double ends[] = { 0, 0, 1, 1 };
+    expect(tasulogi_bound_surface(1, 1, ends, 4, ends, 4, 2, 2, points, 12, false, none, 0, 0.5, 0.5, 0.5, 0.5, box, TASULOGI_BOX) == TASULOGI_DONE, "a bound of a surface");
+    expect(box[0] < 3.0 && box[1] > 3.0 && box[1] - box[0] < 1e-12, "its point");
+    expect(tasulogi_bound_surface(0, 1, ends, 4, ends, 4, 2, 2, points, 12, false, none, 0, 0.5, 0.5, 0.5, 0.5, box, TASULOGI_BOX) == 101, "degree 0 along u");
+}
+
 int main(void)
 {
     doubles();
     intervals();
     refusals();
+    tables();
+    spans();
+    boxes();
     printf("C: %d passed, %d failed\n", passed, failed);
     return failed != 0;
 }

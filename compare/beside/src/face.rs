@@ -22,4 +22,69 @@ unsafe extern "C" {
     pub fn tasulogi_interval_sub(al: f64, ah: f64, bl: f64, bh: f64, out: *mut f64, n: usize) -> u32;
     pub fn tasulogi_interval_mul(al: f64, ah: f64, bl: f64, bh: f64, out: *mut f64, n: usize) -> u32;
     pub fn tasulogi_interval_divide(al: f64, ah: f64, bl: f64, bh: f64, out: *mut f64, n: usize) -> u32;
+
+    pub safe fn tasulogi_class_of(number: u32) -> u8;
+    pub fn tasulogi_curve_refusal(
+        degree: usize,
+        knots: *const f64,
+        knots_n: usize,
+        points: *const f64,
+        points_n: usize,
+        rational: bool,
+        weights: *const f64,
+        weights_n: usize,
+    ) -> u32;
+    pub fn tasulogi_surface_refusal(
+        u_degree: usize,
+        v_degree: usize,
+        u_knots: *const f64,
+        u_knots_n: usize,
+        v_knots: *const f64,
+        v_knots_n: usize,
+        u_count: usize,
+        v_count: usize,
+        points: *const f64,
+        points_n: usize,
+        rational: bool,
+        weights: *const f64,
+        weights_n: usize,
+    ) -> u32;
+    pub fn tasulogi_find_span(degree: usize, count: usize, knots: *const f64, knots_n: usize, u: f64) -> u64;
+    pub fn tasulogi_next_span(degree: usize, count: usize, knots: *const f64, knots_n: usize, from: usize) -> usize;
+    pub fn tasulogi_clamp(degree: usize, count: usize, u: f64, knots: *const f64, knots_n: usize) -> f64;
+    pub fn tasulogi_bound_curve(
+        degree: usize,
+        knots: *const f64,
+        knots_n: usize,
+        points: *const f64,
+        points_n: usize,
+        rational: bool,
+        weights: *const f64,
+        weights_n: usize,
+        lo: f64,
+        hi: f64,
+        out: *mut f64,
+        n: usize,
+    ) -> u32;
+    pub fn tasulogi_bound_surface(
+        u_degree: usize,
+        v_degree: usize,
+        u_knots: *const f64,
+        u_knots_n: usize,
+        v_knots: *const f64,
+        v_knots_n: usize,
+        u_count: usize,
+        v_count: usize,
+        points: *const f64,
+        points_n: usize,
+        rational: bool,
+        weights: *const f64,
+        weights_n: usize,
+        u_lo: f64,
+        u_hi: f64,
+        v_lo: f64,
+        v_hi: f64,
+        out: *mut f64,
+        n: usize,
+    ) -> u32;
 }

@@ -109,7 +109,10 @@ impl Fraction {
         let exponent = (bits >> 52 & 0x7ff) as i32;
         let digits = bits & 0x000f_ffff_ffff_ffff;
         let top = if exponent == 0 { digits } else { digits | 1 << 52 };
-        Self { negative: bits >> 63 == 1, top: Nat::of(top as u128), bottom: Nat::of(1), power: exponent.max(1) - 1075 }
+        // Short digits keep products short.
+        let zeros = if top == 0 { 0 } else { top.trailing_zeros() };
+        let power = exponent.max(1) - 1075 + zeros as i32;
+        Self { negative: bits >> 63 == 1, top: Nat::of((top >> zeros) as u128), bottom: Nat::of(1), power }
     }
 
     pub fn is_zero(&self) -> bool {
@@ -122,9 +125,14 @@ impl Fraction {
 
     pub fn add(&self, o: &Self) -> Self {
         let power = self.power.min(o.power);
-        let a = self.top.mul(&o.bottom).doubled((self.power - power) as u32);
-        let b = o.top.mul(&self.bottom).doubled((o.power - power) as u32);
-        let bottom = self.bottom.mul(&o.bottom);
+        // A common denominator is kept, so that long sums do not grow.
+        let (a, b, bottom) = if self.bottom == o.bottom {
+            (self.top.clone(), o.top.clone(), self.bottom.clone())
+        } else {
+            (self.top.mul(&o.bottom), o.top.mul(&self.bottom), self.bottom.mul(&o.bottom))
+        };
+        let a = a.doubled((self.power - power) as u32);
+        let b = b.doubled((o.power - power) as u32);
         let (negative, top) = if self.negative == o.negative {
             (self.negative, a.add(&b))
         } else if a >= b {
@@ -156,6 +164,10 @@ impl Fraction {
             bottom: self.bottom.mul(&o.top),
             power: self.power - o.power,
         }
+    }
+
+    pub fn is_negative(&self) -> bool {
+        self.negative && !self.is_zero()
     }
 
     pub fn cmp(&self, o: &Self) -> Ordering {

@@ -5,6 +5,7 @@ mod fraction;
 mod lent;
 mod modules;
 mod rng;
+mod tables;
 mod tally;
 
 use modules::{Block, Module};
@@ -111,11 +112,11 @@ fn compare(picked: &[&dyn Module], o: &Options) -> ExitCode {
         let start = Instant::now();
         let calls = m.calls();
         let tally = run(*m, o.cases.unwrap_or(m.default_cases()), o.seed);
-        println!("{}", tally.table(m.name(), &calls));
+        println!("{}", tally.table(m.name(), &calls, m.features()));
         println!("{}: seed {}, {:.1} s", m.name(), o.seed, start.elapsed().as_secs_f64());
         passed += tally.passed();
         failed += tally.failed();
-        failed += tally.unmet(&calls).iter().map(|line| fails(line)).sum::<u64>();
+        failed += tally.unmet(&calls, m.features()).iter().map(|line| fails(line)).sum::<u64>();
         if let Some(d) = &tally.first {
             println!("FAILED: the first case that differs: seed {}, block {}, case {}: {}", o.seed, d.block, d.case, d.text);
         }
@@ -126,14 +127,14 @@ fn compare(picked: &[&dyn Module], o: &Options) -> ExitCode {
 
 /// All blocks of a module, on every processor.
 fn run(m: &dyn Module, cases: u64, seed: u64) -> Tally {
-    let calls = m.calls().len();
+    let (calls, features) = (m.calls().len(), m.features().len());
     let blocks = cases.div_ceil(BLOCK);
     let (next, done) = (AtomicU64::new(0), AtomicU64::new(0));
-    let whole = Mutex::new(Tally::new(calls));
+    let whole = Mutex::new(Tally::new(calls, features));
     let threads = std::thread::available_parallelism().map_or(1, |n| n.get());
     std::thread::scope(|s| {
         let work = || {
-            let mut tally = Tally::new(calls);
+            let mut tally = Tally::new(calls, features);
             loop {
                 let place = next.fetch_add(1, Ordering::Relaxed);
                 if place >= blocks {

@@ -20,11 +20,12 @@ pub struct Row {
     /// Exact results looked for in the answered interval, and how many lay outside.
     pub exact: u64,
     pub outside: u64,
-    pub numbers: [u64; 100],
+    /// Refusals of a surface reach 207.
+    pub numbers: [u64; 208],
 }
 
 impl Row {
-    const EMPTY: Self = Self { cases: 0, differ: 0, zero_signs: 0, exact: 0, outside: 0, numbers: [0; 100] };
+    const EMPTY: Self = Self { cases: 0, differ: 0, zero_signs: 0, exact: 0, outside: 0, numbers: [0; 208] };
 }
 
 /// A case that differs, and where it stands in the run.
@@ -37,12 +38,14 @@ pub struct Difference {
 pub struct Tally {
     pub rows: Vec<Row>,
     pub kinds: [u64; KINDS.len()],
+    /// How many tables had each of the module's features.
+    pub features: Vec<u64>,
     pub first: Option<Difference>,
 }
 
 impl Tally {
-    pub fn new(calls: usize) -> Self {
-        Self { rows: vec![Row::EMPTY; calls], kinds: [0; KINDS.len()], first: None }
+    pub fn new(calls: usize, features: usize) -> Self {
+        Self { rows: vec![Row::EMPTY; calls], kinds: [0; KINDS.len()], features: vec![0; features], first: None }
     }
 
     /// Keeps the difference that stands first in the run.
@@ -66,13 +69,16 @@ impl Tally {
         for (x, y) in self.kinds.iter_mut().zip(o.kinds) {
             *x += y;
         }
+        for (x, y) in self.features.iter_mut().zip(o.features) {
+            *x += y;
+        }
         if let Some(d) = o.first {
             self.keep(d);
         }
     }
 
     /// What was to be seen and was not, and what no input was to give and one gave.
-    pub fn unmet(&self, calls: &[Call]) -> Vec<String> {
+    pub fn unmet(&self, calls: &[Call], features: &[&str]) -> Vec<String> {
         let mut lines = Vec::new();
         for (call, row) in calls.iter().zip(&self.rows) {
             for &n in call.numbers.iter().filter(|&&n| row.numbers[n as usize] == 0) {
@@ -85,6 +91,9 @@ impl Tally {
         for (name, _) in KINDS.iter().zip(self.kinds).filter(|k| k.1 == 0) {
             lines.push(format!("no double of the kind {name} was passed"));
         }
+        for (name, _) in features.iter().zip(&self.features).filter(|f| *f.1 == 0) {
+            lines.push(format!("no table had this: {name}"));
+        }
         lines
     }
 
@@ -96,15 +105,15 @@ impl Tally {
         self.rows.iter().map(|r| r.differ + r.outside).sum()
     }
 
-    pub fn table(&self, module: &str, calls: &[Call]) -> String {
+    pub fn table(&self, module: &str, calls: &[Call], features: &[&str]) -> String {
         let mut s = format!(
-            "{:<12} {:>12} {:>8} {:>10} {:>9} {:>8}  answers and refusals seen\n",
+            "{:<15} {:>12} {:>8} {:>10} {:>9} {:>8}  answers and refusals seen\n",
             module, "cases", "differ", "zero signs", "exact", "outside"
         );
         for (call, row) in calls.iter().zip(&self.rows) {
             let _ = write!(
                 s,
-                "{:<12} {:>12} {:>8} {:>10} {:>9} {:>8} ",
+                "{:<15} {:>12} {:>8} {:>10} {:>9} {:>8} ",
                 call.name,
                 grouped(row.cases),
                 row.differ,
@@ -123,6 +132,10 @@ impl Tally {
         s.push_str("doubles passed:");
         for (name, count) in KINDS.iter().zip(self.kinds) {
             let _ = write!(s, " {name} {}", grouped(count));
+        }
+        if !features.is_empty() {
+            let seen: Vec<String> = features.iter().zip(&self.features).map(|(f, n)| format!("{f} {}", grouped(*n))).collect();
+            let _ = write!(s, "\ntables: {}", seen.join(", "));
         }
         s
     }

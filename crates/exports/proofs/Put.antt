@@ -27,7 +27,7 @@ leaves-short xs before after e short =
       left = e ∙ sym (ap (λ (t : Bool). cond t (zeros (length before)) (xs ++ drop (length xs) (zeros (length before)))) test);
     }
 
-leaves-long : (xs before after : List Float) → length xs ≤ length before → after ≡ xs ++ drop (length xs) (zeros (length before)) → Leaves (values xs) before after 0
+pub leaves-long : (xs before after : List Float) → length xs ≤ length before → after ≡ xs ++ drop (length xs) (zeros (length before)) → Leaves (values xs) before after 0
 leaves-long xs before after room e =
     let test = le-ltb (length before) (length xs) room in
     record {

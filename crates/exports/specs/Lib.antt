@@ -1,2 +1,4 @@
 pub mod Answer
 pub mod Intervals
+pub mod Tables
+pub mod Boxes

@@ -1,5 +1,8 @@
 // The C face of the libraries: numbers and lent runs in, a number and filled runs out.
 pub mod answer;
+pub mod boxes;
 pub mod floats;
 pub mod intervals;
 pub mod operands;
+pub mod spans;
+pub mod tables;

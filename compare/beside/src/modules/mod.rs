@@ -3,7 +3,10 @@ use crate::rng::Rng;
 use crate::tally::{Call, Tally};
 use std::io::{Result, Write};
 
+mod bounds;
 mod interval;
+mod knots;
+mod timed;
 
 /// A block of a run: its place and how many cases it has.
 pub struct Block {
@@ -15,6 +18,10 @@ pub trait Module: Sync {
     fn name(&self) -> &'static str;
     /// The rows of the table, in order.
     fn calls(&self) -> Vec<Call>;
+    /// What the tables of a run have to have had.
+    fn features(&self) -> &'static [&'static str] {
+        &[]
+    }
     /// How many cases a run has where the command does not say.
     fn default_cases(&self) -> u64;
     fn run(&self, r: &mut Rng, block: Block, tally: &mut Tally);
@@ -25,5 +32,5 @@ pub trait Module: Sync {
 }
 
 pub fn all() -> Vec<Box<dyn Module>> {
-    vec![Box::new(interval::Intervals)]
+    vec![Box::new(interval::Intervals), Box::new(knots::Knots), Box::new(bounds::Bounds)]
 }

@@ -1,0 +1,20 @@
+use Rattle.exports.proofs.Box.{bounded-by}
+use borrow.Author.Needs.{needs}
+use Rattle.exports.proofs.boxes.tasulogi_bound_curve.Statement.{statement}
+use Rattle.exports.proofs.boxes.tasulogi_bound_curve.Tie as tie
+
+bound-curve-requires : tie.Need-bound-curve-requires
+bound-curve-requires c κs = search needs
+
+put-bounded-requires : tie.Need-put-bounded-requires
+put-bounded-requires c κs = search needs
+
+same-length : tie.Need-same-length
+same-length c = search needs
+
+returns : tie.Need-returns
+returns c = bounded-by (c .before .before .before .bound-curve .ensures .0) (c .before .before .put-bounded .ensures)
+
+pub tasulogi-bound-curve-spec : {M : Type 1} → statement M
+tasulogi-bound-curve-spec =
+    tie.close (tie.spec bound-curve-requires put-bounded-requires same-length returns)
