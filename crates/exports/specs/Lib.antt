@@ -2,3 +2,4 @@ pub mod Answer
 pub mod Intervals
 pub mod Tables
 pub mod Boxes
+pub mod Points

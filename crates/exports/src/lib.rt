@@ -4,5 +4,6 @@ pub mod boxes;
 pub mod floats;
 pub mod intervals;
 pub mod operands;
+pub mod points;
 pub mod spans;
 pub mod tables;

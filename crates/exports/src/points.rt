@@ -1,0 +1,146 @@
+// Points with their derivatives, of curves and surfaces: three numbers for each, the point first.
+use crate::answer::refuse;
+use crate::tables::packed;
+use basis::ders::basis_derivatives;
+use evaluate::curve::CurveAnswer;
+use evaluate::curve::eval;
+use evaluate::curve2::CurveAnswer2;
+use evaluate::curve2::eval2;
+use evaluate::surface::SurfaceAnswer;
+use evaluate::surface::eval_surface;
+use evaluate::vector::Vector;
+use knots::clear::clear;
+ghost use mathlib.Core.Path.{_≡_};
+ghost use Prim.Native.Nat.{_+_, _<_};
+ghost use lib.ListN.{length};
+ghost use Rattle.basis.specs.Ders.{basisTable};
+ghost use Rattle.evaluate.specs.Curve.{evalOf};
+ghost use Rattle.evaluate.specs.Curve2.{eval2Of};
+ghost use Rattle.evaluate.specs.Surface.{evalSurfaceOf};
+ghost use Rattle.exports.specs.Answer.{Leaves, values};
+ghost use Rattle.exports.specs.Points.{storedThree, twoOf, threeOf, curveAnswer, curve2Answer, surfaceAnswer};
+
+fn store_vector(out: &mut [f64], at: usize, v: Vector)
+    requires { ⌜ at + 2 < length (now out) ⌝ }
+    ensures { λ _. ⌜ now (out .exit) ≡ storedThree (now (out .entry)) at v ⌝ }
+{
+    out[at] = v.x;
+    out[at + 1] = v.y;
+    out[at + 2] = v.z;
+}
+
+// Two vectors, then +0.0; 30 where the run has no room for them.
+fn put_vectors(out: &mut [f64], a: Vector, b: Vector) -> u32
+    ensures { λ r. ⌜ Leaves (values (twoOf a b)) (now (out .entry)) (now (out .exit)) r ⌝ }
+{
+    clear(out);
+    if out.len() < 6 {
+        return 30;
+    }
+    store_vector(out, 0, a);
+    store_vector(out, 3, b);
+    0
+}
+
+// Three vectors, then +0.0; 30 where the run has no room for them.
+fn put_three_vectors(out: &mut [f64], a: Vector, b: Vector, c: Vector) -> u32
+    ensures { λ r. ⌜ Leaves (values (threeOf a b c)) (now (out .entry)) (now (out .exit)) r ⌝ }
+{
+    clear(out);
+    if out.len() < 9 {
+        return 30;
+    }
+    store_vector(out, 0, a);
+    store_vector(out, 3, b);
+    store_vector(out, 6, c);
+    0
+}
+
+// The basis functions of a span and their derivatives up to order n, in three rows of 65 numbers.
+#[no_mangle]
+pub extern "C" fn tasulogi_basis_derivatives(
+    span: usize,
+    u: f64,
+    degree: usize,
+    n: usize,
+    knots: &[f64],
+    out: &mut [f64],
+)
+    ensures { λ _. ⌜ now (out .exit) ≡ basisTable (length (now (out .entry))) degree n (now (knots .entry)) span u ⌝ }
+{
+    basis_derivatives(span, u, degree, n, knots, out);
+}
+
+// The point and the first derivative of a curve.
+#[no_mangle]
+pub extern "C" fn tasulogi_eval(
+    degree: usize,
+    knots: &[f64],
+    points: &[f64],
+    rational: bool,
+    weights: &[f64],
+    t: f64,
+    out: &mut [f64],
+) -> u32
+    ensures { λ r. ⌜ Leaves (curveAnswer (evalOf degree (now (knots .entry)) (now (points .entry)) rational (now (weights .entry)) t)) (now (out .entry)) (now (out .exit)) r ⌝ }
+{
+    match eval(degree, knots, points, rational, weights, t) {
+        CurveAnswer::At(d) => put_vectors(out, d.point, d.d1),
+        CurveAnswer::Refused(r) => refuse(out, packed(r)),
+    }
+}
+
+// The point and two derivatives of a curve.
+#[no_mangle]
+pub extern "C" fn tasulogi_eval2(
+    degree: usize,
+    knots: &[f64],
+    points: &[f64],
+    rational: bool,
+    weights: &[f64],
+    t: f64,
+    out: &mut [f64],
+) -> u32
+    ensures { λ r. ⌜ Leaves (curve2Answer (eval2Of degree (now (knots .entry)) (now (points .entry)) rational (now (weights .entry)) t)) (now (out .entry)) (now (out .exit)) r ⌝ }
+{
+    match eval2(degree, knots, points, rational, weights, t) {
+        CurveAnswer2::At(d) => put_three_vectors(out, d.point, d.d1, d.d2),
+        CurveAnswer2::Refused(r) => refuse(out, packed(r)),
+    }
+}
+
+// The point of a surface and its derivatives along u and v.
+#[no_mangle]
+pub extern "C" fn tasulogi_eval_surface(
+    u_degree: usize,
+    v_degree: usize,
+    u_knots: &[f64],
+    v_knots: &[f64],
+    u_count: usize,
+    v_count: usize,
+    points: &[f64],
+    rational: bool,
+    weights: &[f64],
+    u: f64,
+    v: f64,
+    out: &mut [f64],
+) -> u32
+    ensures { λ r. ⌜ Leaves (surfaceAnswer (evalSurfaceOf «u_degree» «v_degree» (now («u_knots» .entry)) (now («v_knots» .entry)) «u_count» «v_count» (now (points .entry)) rational (now (weights .entry)) u v)) (now (out .entry)) (now (out .exit)) r ⌝ }
+{
+    match eval_surface(
+        u_degree,
+        v_degree,
+        u_knots,
+        v_knots,
+        u_count,
+        v_count,
+        points,
+        rational,
+        weights,
+        u,
+        v,
+    ) {
+        SurfaceAnswer::At(d) => put_three_vectors(out, d.point, d.du, d.dv),
+        SurfaceAnswer::Refused(r) => refuse(out, packed(r)),
+    }
+}
