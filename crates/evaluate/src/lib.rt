@@ -3,6 +3,8 @@ mod controls;
 pub mod curve;
 pub mod curve2;
 mod front;
+mod iso;
+pub mod iso_curve;
 mod net;
 pub mod reverse;
 pub mod shape;
