@@ -6,6 +6,7 @@ mod front;
 mod iso;
 pub mod iso_curve;
 mod net;
+pub mod refusals;
 pub mod reverse;
 pub mod shape;
 pub mod surface;
