@@ -6,3 +6,5 @@ pub mod Nets
 pub mod Surfaces
 pub mod Overlays
 pub mod Reverses
+pub mod Isos
+pub mod IsoCurves

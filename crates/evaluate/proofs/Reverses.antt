@@ -17,7 +17,7 @@ use Rattle.knots.proofs.Curves.{valid-curve}
 use Rattle.basis.specs.Basis.{tabulate}
 use Rattle.basis.proofs.Whole.{length-tabulate}
 use Rattle.evaluate.specs.Shape.{roomRefusal}
-use Rattle.evaluate.specs.Lent.{padded}
+use Rattle.evaluate.specs.Lent.{padded, leftIn}
 use Rattle.evaluate.specs.Reverse.{givenLength, backKnot, backPoint, backWeight, backKnots, backPoints, backWeights, reverseFormed, reverseStart, reverseRefusal, ReverseFormed, ReverseMeets}
 use Rattle.evaluate.proofs.Steps.{room-open}
 use Rattle.evaluate.proofs.Overlays.{stored, take-padded, left-refused, left-answered}
@@ -106,3 +106,11 @@ module _ (p : ℕ) (ks ps : List Float) (g : Bool) (ws : List Float) where
         points = left-refused r b _ p₂ h P;
         weights = left-refused r c _ w₂ h W;
       }
+
+  -- any two outcomes that the contract permits coincide
+  pub reverse-unique : (a b c : ℕ) (k₁ p₁ w₁ k₂ p₂ w₂ : List Float) (r s : Refusal) → ReverseMeets p ks ps g ws a b c k₁ p₁ w₁ r → ReverseMeets p ks ps g ws a b c k₂ p₂ w₂ s
+      → (r ≡ s) × (k₁ ≡ k₂) × (p₁ ≡ p₂) × (w₁ ≡ w₂)
+  reverse-unique a b c k₁ p₁ w₁ k₂ p₂ w₂ r s M N =
+      let e : r ≡ s = M .refusal ∙ sym (N .refusal) in
+      let same : (n : ℕ) (l x y : List Float) → x ≡ leftIn r n l → y ≡ leftIn s n l → x ≡ y = λ n l x y X Y. X ∙ (ap (λ (z : Refusal). leftIn z n l) e ∙ sym Y) in
+      (e, same a _ k₁ k₂ (M .knots) (N .knots), same b _ p₁ p₂ (M .points) (N .points), same c _ w₁ w₂ (M .weights) (N .weights))

@@ -5,3 +5,5 @@ pub mod Curve2
 pub mod Surface
 pub mod Lent
 pub mod Reverse
+pub mod Iso
+pub mod IsoCurve

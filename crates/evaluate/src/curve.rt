@@ -3,12 +3,10 @@ use crate::controls::Sums;
 use crate::controls::point_at;
 use crate::controls::row_sums;
 use crate::controls::scale_at;
-use crate::shape::curve_shape;
-use crate::shape::degree_refusal;
-use crate::shape::finite_refusal;
+use crate::refusals::eval_refusal;
+use crate::refusals::step_refusal;
 use crate::vector::Vector;
 use basis::ders::basis_derivatives;
-use knots::curve::curve_refusal;
 use knots::refusal::Refusal;
 use knots::span::clamp;
 use knots::span::span_of;
@@ -16,7 +14,7 @@ ghost use mathlib.Core.Path.{_≡_};
 ghost use mathlib.Core.Bool.{true};
 ghost use Prim.Native.Nat.{_+_, _*_, _<_, _≤_};
 ghost use lib.ListN.{length};
-ghost use Rattle.evaluate.specs.Curve.{parameterRefusal, evalRefusal, stepRefusal, quotient, curveOf, evalAtOf, evalOf};
+ghost use Rattle.evaluate.specs.Curve.{quotient, curveOf, evalAtOf, evalOf};
 
 pub struct CurveDerivs {
     pub point: Vector,
@@ -74,53 +72,6 @@ fn curve_at(
     let a = row_sums(false, 0, p, first, scale, points, rational, weights, &ders);
     let d = row_sums(false, 1, p, first, scale, points, rational, weights, &ders);
     quotient_of(o, a, d)
-}
-
-// Refusals 31 and 12.
-pub fn parameter_refusal(degree: usize, t: f64) -> Refusal
-    ensures { λ r. ⌜ r ≡ parameterRefusal degree t ⌝ }
-{
-    let refusal = degree_refusal(degree);
-    if refusal.number != 0 {
-        return refusal;
-    }
-    finite_refusal(t)
-}
-
-// The refusal of a step on a curve that was validated before: the runs' lengths, 31, 12.
-pub fn step_refusal(
-    degree: usize,
-    knots: &[f64],
-    points: &[f64],
-    rational: bool,
-    weights: &[f64],
-    t: f64,
-) -> Refusal
-    ensures { λ r. ⌜ r ≡ stepRefusal degree (now (knots .entry)) (now (points .entry)) rational (now (weights .entry)) t ⌝ }
-{
-    let refusal = curve_shape(degree, knots, points, rational, weights);
-    if refusal.number != 0 {
-        return refusal;
-    }
-    parameter_refusal(degree, t)
-}
-
-// The refusal of an evaluation of a curve: the curve's, 31, 12.
-pub fn eval_refusal(
-    degree: usize,
-    knots: &[f64],
-    points: &[f64],
-    rational: bool,
-    weights: &[f64],
-    t: f64,
-) -> Refusal
-    ensures { λ r. ⌜ r ≡ evalRefusal degree (now (knots .entry)) (now (points .entry)) rational (now (weights .entry)) t ⌝ }
-{
-    let refusal = curve_refusal(degree, knots, points, rational, weights);
-    if refusal.number != 0 {
-        return refusal;
-    }
-    parameter_refusal(degree, t)
 }
 
 // The point and the first derivative at t of a curve that was validated before: only lengths are tested, so that many calls validate once.

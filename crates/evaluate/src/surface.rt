@@ -4,20 +4,18 @@ use crate::controls::point_at;
 use crate::net::Net;
 use crate::net::net_scale;
 use crate::net::net_sums;
-use crate::shape::degree_refusal;
-use crate::shape::finite_refusal;
-use crate::shape::surface_shape;
+use crate::refusals::surface_eval_refusal;
+use crate::refusals::surface_step_refusal;
 use crate::vector::Vector;
 use basis::ders::basis_derivatives;
 use knots::refusal::Refusal;
 use knots::span::clamp;
 use knots::span::span_of;
-use knots::surface::surface_refusal;
 ghost use mathlib.Core.Path.{_≡_};
 ghost use mathlib.Core.Bool.{true};
 ghost use Prim.Native.Nat.{_+_, _-_, _*_, _/_, _<_, _≤_};
 ghost use lib.ListN.{length};
-ghost use Rattle.evaluate.specs.Surface.{NetReach, surfaceQuotient, surfaceOf, degreesRefusal, parametersRefusal, surfaceStepRefusal, surfaceEvalRefusal, surfaceAtOf, evalSurfaceOf};
+ghost use Rattle.evaluate.specs.Surface.{NetReach, surfaceQuotient, surfaceOf, surfaceAtOf, evalSurfaceOf};
 
 pub struct SurfaceDerivs {
     pub point: Vector,
@@ -135,98 +133,6 @@ fn surface_at(
         &v_ders,
     );
     surface_quotient_of(o, c, d, e)
-}
-
-// Refusal 31 of either direction.
-pub fn degrees_refusal(u_degree: usize, v_degree: usize) -> Refusal
-    ensures { λ r. ⌜ r ≡ degreesRefusal «u_degree» «v_degree» ⌝ }
-{
-    let refusal = degree_refusal(u_degree);
-    if refusal.number != 0 {
-        return refusal;
-    }
-    degree_refusal(v_degree)
-}
-
-// Refusals 31 and 12 of either direction.
-pub fn parameters_refusal(u_degree: usize, v_degree: usize, u: f64, v: f64) -> Refusal
-    ensures { λ r. ⌜ r ≡ parametersRefusal «u_degree» «v_degree» u v ⌝ }
-{
-    let refusal = degrees_refusal(u_degree, v_degree);
-    if refusal.number != 0 {
-        return refusal;
-    }
-    let refusal = finite_refusal(u);
-    if refusal.number != 0 {
-        return refusal;
-    }
-    finite_refusal(v)
-}
-
-// The refusal of a step on a surface that was validated before: the runs' lengths, 31, 12.
-pub fn surface_step_refusal(
-    u_degree: usize,
-    v_degree: usize,
-    u_knots: &[f64],
-    v_knots: &[f64],
-    u_count: usize,
-    v_count: usize,
-    points: &[f64],
-    rational: bool,
-    weights: &[f64],
-    u: f64,
-    v: f64,
-) -> Refusal
-    ensures { λ r. ⌜ r ≡ surfaceStepRefusal «u_degree» «v_degree» (now («u_knots» .entry)) (now («v_knots» .entry)) «u_count» «v_count» (now (points .entry)) rational (now (weights .entry)) u v ⌝ }
-{
-    let refusal = surface_shape(
-        u_degree,
-        v_degree,
-        u_knots,
-        v_knots,
-        u_count,
-        v_count,
-        points,
-        rational,
-        weights,
-    );
-    if refusal.number != 0 {
-        return refusal;
-    }
-    parameters_refusal(u_degree, v_degree, u, v)
-}
-
-// The refusal of an evaluation of a surface: the surface's, 31, 12.
-pub fn surface_eval_refusal(
-    u_degree: usize,
-    v_degree: usize,
-    u_knots: &[f64],
-    v_knots: &[f64],
-    u_count: usize,
-    v_count: usize,
-    points: &[f64],
-    rational: bool,
-    weights: &[f64],
-    u: f64,
-    v: f64,
-) -> Refusal
-    ensures { λ r. ⌜ r ≡ surfaceEvalRefusal «u_degree» «v_degree» (now («u_knots» .entry)) (now («v_knots» .entry)) «u_count» «v_count» (now (points .entry)) rational (now (weights .entry)) u v ⌝ }
-{
-    let refusal = surface_refusal(
-        u_degree,
-        v_degree,
-        u_knots,
-        v_knots,
-        u_count,
-        v_count,
-        points,
-        rational,
-        weights,
-    );
-    if refusal.number != 0 {
-        return refusal;
-    }
-    parameters_refusal(u_degree, v_degree, u, v)
 }
 
 // The point and the first partial derivatives at u and v of a surface that was validated before: only lengths are tested.

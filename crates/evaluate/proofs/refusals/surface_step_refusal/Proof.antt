@@ -1,10 +1,10 @@
--- `evaluate::surface::surface_step_refusal` meets its contract.
+-- `evaluate::refusals::surface_step_refusal` meets its contract.
 -- Assumes nothing.
 use Rattle.knots.proofs.Refusals.{stop, skip}
 use Rattle.evaluate.specs.Surface.{surfaceStepRefusal}
 use borrow.Author.Needs.{needs}
-use Rattle.evaluate.proofs.surface.surface_step_refusal.Statement.{statement}
-use Rattle.evaluate.proofs.surface.surface_step_refusal.Tie as tie
+use Rattle.evaluate.proofs.refusals.surface_step_refusal.Statement.{statement}
+use Rattle.evaluate.proofs.refusals.surface_step_refusal.Tie as tie
 
 surface-shape-requires : tie.Need-surface-shape-requires
 surface-shape-requires c κs = search needs

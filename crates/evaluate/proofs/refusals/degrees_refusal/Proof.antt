@@ -1,10 +1,10 @@
--- `evaluate::surface::degrees_refusal` meets its contract.
+-- `evaluate::refusals::degrees_refusal` meets its contract.
 -- Assumes nothing.
 use Rattle.knots.proofs.Refusals.{stop, skip}
 use Rattle.evaluate.specs.Surface.{degreesRefusal}
 use borrow.Author.Needs.{needs}
-use Rattle.evaluate.proofs.surface.degrees_refusal.Statement.{statement}
-use Rattle.evaluate.proofs.surface.degrees_refusal.Tie as tie
+use Rattle.evaluate.proofs.refusals.degrees_refusal.Statement.{statement}
+use Rattle.evaluate.proofs.refusals.degrees_refusal.Tie as tie
 
 degree-refusal-requires : tie.Need-degree-refusal-requires
 degree-refusal-requires c κs = search needs

@@ -1,10 +1,10 @@
--- `evaluate::curve::parameter_refusal` meets its contract.
+-- `evaluate::refusals::parameter_refusal` meets its contract.
 -- Assumes nothing.
 use Rattle.knots.proofs.Refusals.{stop, skip}
 use Rattle.evaluate.specs.Curve.{parameterRefusal}
 use borrow.Author.Needs.{needs}
-use Rattle.evaluate.proofs.curve.parameter_refusal.Statement.{statement}
-use Rattle.evaluate.proofs.curve.parameter_refusal.Tie as tie
+use Rattle.evaluate.proofs.refusals.parameter_refusal.Statement.{statement}
+use Rattle.evaluate.proofs.refusals.parameter_refusal.Tie as tie
 
 degree-refusal-requires : tie.Need-degree-refusal-requires
 degree-refusal-requires c κs = search needs

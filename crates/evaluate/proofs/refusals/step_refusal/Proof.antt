@@ -1,10 +1,10 @@
--- `evaluate::curve::step_refusal` meets its contract.
+-- `evaluate::refusals::step_refusal` meets its contract.
 -- Assumes nothing.
 use Rattle.knots.proofs.Refusals.{stop, skip}
 use Rattle.evaluate.specs.Curve.{stepRefusal}
 use borrow.Author.Needs.{needs}
-use Rattle.evaluate.proofs.curve.step_refusal.Statement.{statement}
-use Rattle.evaluate.proofs.curve.step_refusal.Tie as tie
+use Rattle.evaluate.proofs.refusals.step_refusal.Statement.{statement}
+use Rattle.evaluate.proofs.refusals.step_refusal.Tie as tie
 
 curve-shape-requires : tie.Need-curve-shape-requires
 curve-shape-requires c κs = search needs

@@ -1,10 +1,10 @@
--- `evaluate::surface::parameters_refusal` meets its contract.
+-- `evaluate::refusals::parameters_refusal` meets its contract.
 -- Assumes nothing.
 use Rattle.knots.proofs.Refusals.{stop, skip}
 use Rattle.evaluate.specs.Surface.{parametersRefusal}
 use borrow.Author.Needs.{needs}
-use Rattle.evaluate.proofs.surface.parameters_refusal.Statement.{statement}
-use Rattle.evaluate.proofs.surface.parameters_refusal.Tie as tie
+use Rattle.evaluate.proofs.refusals.parameters_refusal.Statement.{statement}
+use Rattle.evaluate.proofs.refusals.parameters_refusal.Tie as tie
 
 degrees-refusal-requires : tie.Need-degrees-refusal-requires
 degrees-refusal-requires c κs = search needs

@@ -1,10 +1,10 @@
--- `evaluate::surface::surface_eval_refusal` meets its contract.
+-- `evaluate::refusals::surface_eval_refusal` meets its contract.
 -- Assumes nothing.
 use Rattle.knots.proofs.Refusals.{stop, skip}
 use Rattle.evaluate.specs.Surface.{surfaceEvalRefusal}
 use borrow.Author.Needs.{needs}
-use Rattle.evaluate.proofs.surface.surface_eval_refusal.Statement.{statement}
-use Rattle.evaluate.proofs.surface.surface_eval_refusal.Tie as tie
+use Rattle.evaluate.proofs.refusals.surface_eval_refusal.Statement.{statement}
+use Rattle.evaluate.proofs.refusals.surface_eval_refusal.Tie as tie
 
 surface-refusal-requires : tie.Need-surface-refusal-requires
 surface-refusal-requires c κs = search needs

@@ -1,10 +1,10 @@
--- `evaluate::curve::eval_refusal` meets its contract.
+-- `evaluate::refusals::eval_refusal` meets its contract.
 -- Assumes nothing.
 use Rattle.knots.proofs.Refusals.{stop, skip}
 use Rattle.evaluate.specs.Curve.{evalRefusal}
 use borrow.Author.Needs.{needs}
-use Rattle.evaluate.proofs.curve.eval_refusal.Statement.{statement}
-use Rattle.evaluate.proofs.curve.eval_refusal.Tie as tie
+use Rattle.evaluate.proofs.refusals.eval_refusal.Statement.{statement}
+use Rattle.evaluate.proofs.refusals.eval_refusal.Tie as tie
 
 curve-refusal-requires : tie.Need-curve-refusal-requires
 curve-refusal-requires c κs = search needs

@@ -1,0 +1,150 @@
+// The refusals of a call: those of the curve or surface, then 31 and 12; and of a step on what was validated before, with its lengths alone in their place.
+use crate::shape::curve_shape;
+use crate::shape::degree_refusal;
+use crate::shape::finite_refusal;
+use crate::shape::surface_shape;
+use knots::curve::curve_refusal;
+use knots::refusal::Refusal;
+use knots::surface::surface_refusal;
+ghost use mathlib.Core.Path.{_≡_};
+ghost use Rattle.evaluate.specs.Curve.{parameterRefusal, stepRefusal, evalRefusal};
+ghost use Rattle.evaluate.specs.Surface.{degreesRefusal, parametersRefusal, surfaceStepRefusal, surfaceEvalRefusal};
+
+// Refusals 31 and 12.
+pub fn parameter_refusal(degree: usize, t: f64) -> Refusal
+    ensures { λ r. ⌜ r ≡ parameterRefusal degree t ⌝ }
+{
+    let refusal = degree_refusal(degree);
+    if refusal.number != 0 {
+        return refusal;
+    }
+    finite_refusal(t)
+}
+
+// The refusal of a step on a curve that was validated before: the runs' lengths, 31, 12.
+pub fn step_refusal(
+    degree: usize,
+    knots: &[f64],
+    points: &[f64],
+    rational: bool,
+    weights: &[f64],
+    t: f64,
+) -> Refusal
+    ensures { λ r. ⌜ r ≡ stepRefusal degree (now (knots .entry)) (now (points .entry)) rational (now (weights .entry)) t ⌝ }
+{
+    let refusal = curve_shape(degree, knots, points, rational, weights);
+    if refusal.number != 0 {
+        return refusal;
+    }
+    parameter_refusal(degree, t)
+}
+
+// The refusal of an evaluation of a curve: the curve's, 31, 12.
+pub fn eval_refusal(
+    degree: usize,
+    knots: &[f64],
+    points: &[f64],
+    rational: bool,
+    weights: &[f64],
+    t: f64,
+) -> Refusal
+    ensures { λ r. ⌜ r ≡ evalRefusal degree (now (knots .entry)) (now (points .entry)) rational (now (weights .entry)) t ⌝ }
+{
+    let refusal = curve_refusal(degree, knots, points, rational, weights);
+    if refusal.number != 0 {
+        return refusal;
+    }
+    parameter_refusal(degree, t)
+}
+
+// Refusal 31 of either direction.
+pub fn degrees_refusal(u_degree: usize, v_degree: usize) -> Refusal
+    ensures { λ r. ⌜ r ≡ degreesRefusal «u_degree» «v_degree» ⌝ }
+{
+    let refusal = degree_refusal(u_degree);
+    if refusal.number != 0 {
+        return refusal;
+    }
+    degree_refusal(v_degree)
+}
+
+// Refusals 31 and 12 of either direction.
+pub fn parameters_refusal(u_degree: usize, v_degree: usize, u: f64, v: f64) -> Refusal
+    ensures { λ r. ⌜ r ≡ parametersRefusal «u_degree» «v_degree» u v ⌝ }
+{
+    let refusal = degrees_refusal(u_degree, v_degree);
+    if refusal.number != 0 {
+        return refusal;
+    }
+    let refusal = finite_refusal(u);
+    if refusal.number != 0 {
+        return refusal;
+    }
+    finite_refusal(v)
+}
+
+// The refusal of a step on a surface that was validated before: the runs' lengths, 31, 12.
+pub fn surface_step_refusal(
+    u_degree: usize,
+    v_degree: usize,
+    u_knots: &[f64],
+    v_knots: &[f64],
+    u_count: usize,
+    v_count: usize,
+    points: &[f64],
+    rational: bool,
+    weights: &[f64],
+    u: f64,
+    v: f64,
+) -> Refusal
+    ensures { λ r. ⌜ r ≡ surfaceStepRefusal «u_degree» «v_degree» (now («u_knots» .entry)) (now («v_knots» .entry)) «u_count» «v_count» (now (points .entry)) rational (now (weights .entry)) u v ⌝ }
+{
+    let refusal = surface_shape(
+        u_degree,
+        v_degree,
+        u_knots,
+        v_knots,
+        u_count,
+        v_count,
+        points,
+        rational,
+        weights,
+    );
+    if refusal.number != 0 {
+        return refusal;
+    }
+    parameters_refusal(u_degree, v_degree, u, v)
+}
+
+// The refusal of an evaluation of a surface: the surface's, 31, 12.
+pub fn surface_eval_refusal(
+    u_degree: usize,
+    v_degree: usize,
+    u_knots: &[f64],
+    v_knots: &[f64],
+    u_count: usize,
+    v_count: usize,
+    points: &[f64],
+    rational: bool,
+    weights: &[f64],
+    u: f64,
+    v: f64,
+) -> Refusal
+    ensures { λ r. ⌜ r ≡ surfaceEvalRefusal «u_degree» «v_degree» (now («u_knots» .entry)) (now («v_knots» .entry)) «u_count» «v_count» (now (points .entry)) rational (now (weights .entry)) u v ⌝ }
+{
+    let refusal = surface_refusal(
+        u_degree,
+        v_degree,
+        u_knots,
+        v_knots,
+        u_count,
+        v_count,
+        points,
+        rational,
+        weights,
+    );
+    if refusal.number != 0 {
+        return refusal;
+    }
+    parameters_refusal(u_degree, v_degree, u, v)
+}
