@@ -10,4 +10,5 @@ pub mod Validated
 pub mod Sizes
 pub mod Written
 pub mod RoundTrip
+pub mod CurveBack
 pub mod Determined

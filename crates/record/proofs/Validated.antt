@@ -49,7 +49,7 @@ module _ (k p w : ℕ) where
 -- ---- the numbers in the runs
 
 -- the front of a padded run
-front-of : (n m : ℕ) (xs : List ℕ) (run : List Float) → run ≡ padded n (numbers xs) → length xs ≡ m → take m run ≡ numbers xs
+pub front-of : (n m : ℕ) (xs : List ℕ) (run : List Float) → run ≡ padded n (numbers xs) → length xs ≡ m → take m run ≡ numbers xs
 front-of n m xs run e h = rw e (take-at (numbers xs) _ m (length-map xs (λ (x : ℕ). ofBits binary64 x) ∙ h))
 
 refusal-same : (t : Table) {d : ℕ} {ks ps ws : List Float} {g : Bool} → d ≡ t .degree → ks ≡ numbers (t .knots) → ps ≡ numbers (t .points) → g ≡ rationalBy (t .weights) → ws ≡ numbers (given (t .weights)) → curveRefusal d ks ps g ws ≡ refusalIn t

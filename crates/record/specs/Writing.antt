@@ -10,9 +10,11 @@ use lib.Dec.{leb, ltb}
 use lib.Ieee.{Float, binary64, toBits}
 use Rattle.knots.specs.Refusal.{refuse, too-long}
 use Rattle.record.specs.Format.{Table, encode}
-use Rattle.record.specs.Reading.{tableOf, numbers}
+use Rattle.record.specs.Reading.{tableOf, layout, numbers}
 use Rattle.record.specs.declared.field.Count.{Count}
 use Rattle.record.specs.declared.field.Count.the-variants.{Is, Bad}
+use Rattle.record.specs.declared.table.TableAnswer.{TableAnswer}
+use Rattle.record.specs.declared.table.TableAnswer.the-variants.{Curve}
 use Rattle.record.specs.declared.write.Write.{Write}
 use Rattle.record.specs.declared.write.Write.the-variants.{Written, Refused}
 
@@ -53,3 +55,10 @@ pub record ReadsBack (p : ℕ) (ks ps : List Float) (rational : Bool) (ws : List
   pub knots : numbers (bits ks) ≡ ks
   pub points : numbers (bits ps) ≡ ps
   pub weights : numbers (bits ws) ≡ ws
+
+-- an answer of `read_table`, with the runs k, q, w that it leaves, is the curve that was written. Weights that were not given are not there
+pub record SameCurve (p : ℕ) (ks ps : List Float) (rational : Bool) (ws k q w : List Float) (r : TableAnswer) : Type 0 where
+  pub answer : r ≡ Curve (layout (tableFrom p ks ps rational ws)) rational
+  pub knots : take (length ks) k ≡ ks
+  pub points : take (length ps) q ≡ ps
+  pub weights : rational ≡ true → take (length ws) w ≡ ws
