@@ -164,6 +164,50 @@ uint32_t tasulogi_bound_surface(size_t u_degree, size_t v_degree, const double *
                                 size_t weights_n, double u_lo, double u_hi, double v_lo, double v_hi, double *out,
                                 size_t n);
 
+/* Points and derivatives: x, y, z of each. */
+
+/* The basis functions of a span and their derivatives up to order n, at most 2, into a run of 195 numbers: three rows
+ * of 65. A run of any other length, and any input outside degrees 1 to 64 and the knots, leaves +0.0. */
+void tasulogi_basis_derivatives(size_t span, double u, size_t degree, size_t n, const double *knots, size_t knots_n,
+                                double *out, size_t out_n);
+
+/* The point and the first derivative: 6 numbers. A parameter outside the domain becomes the nearer end. Refusals in
+ * this order: those of the curve, 31, 12, then 30 for the lent run. */
+uint32_t tasulogi_eval(
+    size_t degree, const double *knots, size_t knots_n, const double *points, size_t points_n, bool rational,
+    const double *weights, size_t weights_n,
+    double t, double *out, size_t n);
+
+/* The point and two derivatives: 9 numbers. 21 after 12 where one of them is not finite. */
+uint32_t tasulogi_eval2(
+    size_t degree, const double *knots, size_t knots_n, const double *points, size_t points_n, bool rational,
+    const double *weights, size_t weights_n,
+    double t, double *out, size_t n);
+
+/* The point and the derivatives along u and v: 9 numbers. */
+uint32_t tasulogi_eval_surface(
+    size_t u_degree, size_t v_degree, const double *u_knots, size_t u_knots_n, const double *v_knots, size_t v_knots_n,
+    size_t u_count, size_t v_count, const double *points, size_t points_n, bool rational, const double *weights,
+    size_t weights_n,
+    double u, double v, double *out, size_t n);
+
+/* Curves made of others. Each run starts with the made numbers and ends with +0.0; after a refusal all is +0.0. */
+
+/* The curve run backwards. Refusals: those of the curve, 30 for a lent run, 1 to 10 of the curve that is made. */
+uint32_t tasulogi_reversed(
+    size_t degree, const double *knots, size_t knots_n, const double *points, size_t points_n, bool rational,
+    const double *weights, size_t weights_n,
+    double *out_knots, size_t out_knots_n, double *out_points, size_t out_points_n, double *out_weights,
+    size_t out_weights_n);
+
+/* The curve at u = t where constant_u, else at v = t; its knots are the surface's other ones. Refusals: those of the
+ * surface, 31, 22, 30 for a lent run, 23, 1 to 10 of the curve that is made. */
+uint32_t tasulogi_iso_curve(
+    size_t u_degree, size_t v_degree, const double *u_knots, size_t u_knots_n, const double *v_knots, size_t v_knots_n,
+    size_t u_count, size_t v_count, const double *points, size_t points_n, bool rational, const double *weights,
+    size_t weights_n,
+    bool constant_u, double t, double *out_points, size_t out_points_n, double *out_weights, size_t out_weights_n);
+
 #ifdef __cplusplus
 }
 #endif

@@ -133,6 +133,36 @@ static void boxes(void)
     expect(tasulogi_bound_surface(0, 1, ends, 4, ends, 4, 2, 2, points, 12, false, none, 0, 0.5, 0.5, 0.5, 0.5, box, TASULOGI_BOX) == 101, "degree 0 along u");
 }
 
+static void evaluations(void)
+{
+    double out[10];
+    out[6] = 7.0;
+    expect(tasulogi_eval(2, knots, 7, points, 12, false, none, 0, 0.5, out, 7) == TASULOGI_DONE, "a point of A");
+    expect(same(out[0], 1.75) && same(out[3], 3.0) && same(out[6], 0.0), "A at 0.5, its derivative, and the tail");
+    expect(tasulogi_eval(2, knots, 7, points, 12, false, none, 0, NAN, out, 6) == 12 && same(out[0], 0.0), "at a NaN");
+    expect(tasulogi_eval(2, knots, 7, points, 12, false, none, 0, 0.5, out, 5) == TASULOGI_TOO_LITTLE_ROOM, "a point one short");
+    expect(tasulogi_eval2(2, knots, 7, points, 12, false, none, 0, 0.5, out, 9) == TASULOGI_DONE && same(out[6], -2.0), "second derivative");
+    static const double ends[] = { 0, 0, 1, 1 };
+    expect(tasulogi_eval_surface(1, 1, ends, 4, ends, 4, 2, 2, points, 12, false, none, 0, 0.5, 0.5, out, 9) == TASULOGI_DONE, "a surface");
+    expect(same(out[0], 3.0) && same(out[3], 4.0) && same(out[6], 2.0), "its point and derivatives");
+    double ders[195];
+    tasulogi_basis_derivatives(2, 0.5, 2, 1, knots, 7, ders, 195);
+    expect(same(ders[0], 0.25) && same(ders[65], -1.0) && same(ders[3], 0.0), "the basis of A at 0.5");
+}
+
+static void made(void)
+{
+    double k[8], p[12], w[4];
+    k[7] = 7.0;
+    expect(tasulogi_reversed(2, knots, 7, points, 12, false, none, 0, k, 8, p, 12, w, 0) == TASULOGI_DONE, "A reversed");
+    expect(same(k[0], 0.0) && same(k[6], 2.0) && same(k[7], 0.0) && same(p[0], 6.0) && same(p[9], 0.0), "its runs");
+    expect(tasulogi_reversed(2, knots, 7, points, 12, false, none, 0, k, 7, p, 11, w, 0) == 30 && same(k[6], 0.0), "no room");
+    static const double ends[] = { 0, 0, 1, 1 };
+    expect(tasulogi_iso_curve(1, 1, ends, 4, ends, 4, 2, 2, points, 12, false, none, 0, true, 0.5, p, 6, w, 2) == TASULOGI_DONE, "an isocurve");
+    expect(same(p[0], 2.0) && same(p[3], 4.0) && same(w[0], 1.0) && same(w[1], 1.0), "its points and weights");
+    expect(tasulogi_iso_curve(1, 1, ends, 4, ends, 4, 2, 2, points, 12, false, none, 0, true, 1.5, p, 6, w, 2) == 22, "outside");
+}
+
 int main(void)
 {
     doubles();
@@ -141,6 +171,8 @@ int main(void)
     tables();
     spans();
     boxes();
+    evaluations();
+    made();
     printf("C: %d passed, %d failed\n", passed, failed);
     return failed != 0;
 }

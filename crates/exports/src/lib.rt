@@ -3,6 +3,7 @@ pub mod answer;
 pub mod boxes;
 pub mod floats;
 pub mod intervals;
+pub mod made;
 pub mod operands;
 pub mod points;
 pub mod spans;

@@ -4,6 +4,7 @@ use crate::tally::{Call, Tally};
 use std::io::{Result, Write};
 
 mod bounds;
+mod evaluate;
 mod interval;
 mod knots;
 mod timed;
@@ -25,6 +26,10 @@ pub trait Module: Sync {
     /// How many cases a run has where the command does not say.
     fn default_cases(&self) -> u64;
     fn run(&self, r: &mut Rng, block: Block, tally: &mut Tally);
+    /// There is a program crate `crates/replay_NAME`.
+    fn replayed(&self) -> bool {
+        true
+    }
     /// Writes the list that `crates/replay_NAME` reads, and the lines that it then has to print.
     fn list(&self, stdin: &mut dyn Write, stdout: &mut dyn Write) -> Result<()>;
     /// Prints times against the Rust, the best of `rounds`.
@@ -32,5 +37,5 @@ pub trait Module: Sync {
 }
 
 pub fn all() -> Vec<Box<dyn Module>> {
-    vec![Box::new(interval::Intervals), Box::new(knots::Knots), Box::new(bounds::Bounds)]
+    vec![Box::new(interval::Intervals), Box::new(knots::Knots), Box::new(evaluate::Evaluate), Box::new(bounds::Bounds)]
 }
