@@ -1,23 +1,21 @@
 -- The derivatives of every function of a span, one function after the other.
 -- Assumes nothing.
-use Prim.Native.Nat.{ℕ, zero, suc, _+_, _-_, _*_, _≤_, _<_}
-use mathlib.Core.Bool.{Bool, true, false}
+use Prim.Native.Nat.{ℕ, _+_, _*_, _≤_, _<_}
 use mathlib.Core.Path.{_≡_, refl, sym, _∙_, ap, subst}
 use mathlib.Core.Logic.{_⊎_, inl, inr}
 use mathlib.Core.List.{List}
 use native.Mathlib.Omega.{arith}
 use native.Mathlib.Nat.{zero-add, eq-or-lt-of-le}
 use borrow.Author.Tests.{le-leb, lt-leb}
-use lib.ListN.{length, set, length-set}
+use lib.ListN.{length, set}
 use lib.Seq.{getD-set-same}
 use lib.Ieee.{Float, nan}
-use Rattle.doubles.specs.Run.{at}
 use Rattle.basis.specs.Basis.{cell, TableDone}
 use Rattle.basis.specs.Ders.{FunctionDers, RawDers}
 use Rattle.basis.proofs.Cases.{lt-or-ge}
 use Rattle.basis.proofs.Cells.{put-row, put-col}
 use Rattle.basis.proofs.Congs.{SameTable, derivative-cong}
-use Rattle.exact.specs.Scheme.{basisOf, widthOf, derivativeOf, tableOf}
+use Rattle.exact.specs.Scheme.{derivativeOf, tableOf}
 use Rattle.basis.specs.Floats.{floats}
 
 -- the functions below r are done

@@ -1,19 +1,19 @@
 -- The first two derivatives of a function, from the rows that give them.
 -- Assumes nothing.
-use Prim.Native.Nat.{ℕ, zero, suc, _+_, _-_, _*_, _≤_, _<_, zero-le}
-use mathlib.Core.Path.{_≡_, refl, sym, _∙_, ap, subst}
+use Prim.Native.Nat.{ℕ, zero, suc, _+_, _*_, _≤_, _<_}
+use mathlib.Core.Path.{_≡_, refl, sym, _∙_, subst}
 use mathlib.Core.Logic.{_⊎_, inl, inr}
 use mathlib.Core.List.{List}
 use native.Mathlib.Omega.{arith}
 use lib.ListN.{length, set, length-set}
-use lib.Seq.{getD-set-same, getD-set-other}
+use lib.Seq.{getD-set-same}
 use lib.Ieee.{Float, nan}
 use Rattle.doubles.specs.Run.{at}
 use Rattle.basis.specs.Basis.{cell}
 use Rattle.basis.specs.Ders.{RowDone, FunctionDers}
 use Rattle.basis.proofs.Congs.{Same, coef-cong, der-cong}
 use Rattle.basis.proofs.Cells.{put-row, put-col}
-use Rattle.exact.specs.Scheme.{coefOf, derOf, rowOf, derivativeOf}
+use Rattle.exact.specs.Scheme.{rowOf, derivativeOf}
 use Rattle.basis.specs.Floats.{floats}
 
 module _ (c : ℕ → ℕ → Float) (p r : ℕ) (R : r ≤ p) (one-le : 1 ≤ p) (a b : List Float) (x : Float) (A : at a 0 ≡ (floats .one)) (D : RowDone c p r 1 (at a) b x) where

@@ -10,11 +10,10 @@ use lib.ListN.{length, set, length-set}
 use lib.Seq.{getD-set-same}
 use lib.IntN.{pos}
 use lib.Ieee.{Float, nan, binary64, mul, ofInt}
-use Rattle.doubles.specs.Run.{at}
 use Rattle.basis.specs.Basis.{cell}
 use Rattle.basis.specs.Ders.{RawDers, Scaled, DersDone}
 use Rattle.basis.proofs.Cells.{put-row, put-col}
-use Rattle.exact.specs.Scheme.{basisOf, derivativeOf, tableOf, factorOf}
+use Rattle.exact.specs.Scheme.{derivativeOf, tableOf, factorOf}
 use Rattle.basis.specs.Floats.{floats}
 
 -- the columns below j are done

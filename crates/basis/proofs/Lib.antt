@@ -2,9 +2,8 @@ pub mod Cases
 pub mod Cells
 pub mod Columns
 pub mod Tables
-pub mod Copies
 pub mod Signeds
-pub mod Rows2
+pub mod Rows
 pub mod Congs
 pub mod Derivs
 pub mod AllDers

@@ -5,7 +5,7 @@ use mathlib.Core.Bool.{Bool, true, _&&_}
 use mathlib.Core.List.{List, [], _∷_}
 use lib.Dec.{T, eqb}
 use lib.Ieee.{Float, binary64, ofBits, toBits, ofInt, add, sub, mul, div, neg}
-use Rattle.exact.specs.Scheme.{widthOf, shareOf, carryOf, partOf, nextOf, basisOf, tableOf, numOf, coefOf, termOf, sumOf, startOf, derOf, rowOf, derivativeOf, factorOf, dersOf}
+use Rattle.exact.specs.Scheme.{nextOf, basisOf, tableOf, derivativeOf, factorOf, dersOf}
 use Rattle.basis.specs.Floats.{floats}
 use Rattle.basis.specs.Basis.{leftOf, rightOf}
 

@@ -1,8 +1,8 @@
 -- What the loops of A2.3 leave in a flat table of three rows and 65 columns, and the answer of `basis_derivatives` on any input.
 -- c is the table of basis functions and widths, p the degree, r the function. Row k of the coefficients is made of row k - 1, f.
 -- Assumes nothing.
-use Prim.Native.Nat.{ℕ, zero, suc, _+_, _-_, _/_, _%_, _≤_, _<_, min, max}
-use mathlib.Core.Bool.{Bool, _&&_, cond}
+use Prim.Native.Nat.{ℕ, _+_, _-_, _/_, _%_, _≤_, _<_, min, max}
+use mathlib.Core.Bool.{Bool, cond, _&&_}
 use mathlib.Core.Path.{_≡_}
 use mathlib.Core.Logic.{_⊎_}
 use mathlib.Core.List.{List}

@@ -1,16 +1,14 @@
 -- The answers of `eval_at`, `eval`, `eval2_at`, `eval2`.
 -- Assumes nothing.
-use Prim.Native.Nat.{ℕ, _+_, _-_, _≤_, _<_}
+use Prim.Native.Nat.{ℕ, _+_, _-_, _≤_}
 use mathlib.Core.Bool.{Bool, true, false, cond}
-use mathlib.Core.Path.{_≡_, refl, sym, _∙_, ap, ap₂}
+use mathlib.Core.Path.{_≡_, sym, _∙_, ap, ap₂}
 use mathlib.Core.List.{List}
 use native.Mathlib.Omega.{arith}
-use lib.ListN.{length}
-use lib.Dec.{eqb}
 use lib.Ieee.{Float}
 use Rattle.exact.specs.Scheme.{dersOf}
-use Rattle.knots.specs.Refusal.{refuse, accepted, second-not-finite}
-use Rattle.knots.specs.Span.{searched, spanOf}
+use Rattle.knots.specs.Refusal.{refuse, second-not-finite}
+use Rattle.knots.specs.Span.{searched}
 use Rattle.knots.specs.Curve.{countOf}
 use Rattle.knots.specs.declared.refusal.Refusal.{Refusal}
 use Rattle.knots.proofs.Refusals.{stop, skip}
@@ -19,15 +17,13 @@ use Rattle.basis.specs.Basis.{cell, leftOf, rightOf}
 use Rattle.basis.specs.Ders.{basisTable}
 use Rattle.basis.proofs.Whole.{Reach, basis-at}
 use Rattle.evaluate.specs.Controls.{pointOf, scaleOf, rowSums}
-use Rattle.evaluate.specs.Curve.{quotient, activeSums, curveOf, looked, stepRefusal, evalRefusal, answer, evalAtOf, evalOf}
-use Rattle.evaluate.specs.Curve2.{quotient2, curve2Of, finite2, answer2, eval2AtOf, eval2Of}
+use Rattle.evaluate.specs.Curve.{quotient, activeSums, curveOf, looked, stepRefusal, evalRefusal, evalAtOf, evalOf}
+use Rattle.evaluate.specs.Curve2.{quotient2, curve2Of, finite2, eval2AtOf, eval2Of}
 use Rattle.evaluate.specs.declared.vector.Vector.{Vector}
 use Rattle.evaluate.specs.declared.controls.Sums.{Sums}
 use Rattle.evaluate.specs.declared.curve.CurveDerivs.{CurveDerivs}
-use Rattle.evaluate.specs.declared.curve.CurveAnswer.{CurveAnswer}
 use Rattle.evaluate.specs.declared.curve.CurveAnswer.the-variants.{At, Refused}
 use Rattle.evaluate.specs.declared.curve2.CurveDerivs2.{CurveDerivs2}
-use Rattle.evaluate.specs.declared.curve2.CurveAnswer2.{CurveAnswer2}
 use Rattle.evaluate.specs.declared.curve2.CurveAnswer2.the-variants as two
 use Rattle.evaluate.proofs.Sums.{row-cong}
 use Rattle.evaluate.proofs.Steps.{EvalOpen, eval-open, step-none, open-span}

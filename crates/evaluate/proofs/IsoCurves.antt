@@ -1,7 +1,7 @@
 -- The answers of `iso_curve`: one direction, and the choice between the two.
 -- Assumes nothing.
 use Prim.Native.Nat.{ℕ, zero, suc, _+_, _-_, _*_, _/_, _≤_, _<_}
-use mathlib.Core.Bool.{Bool, true, false, not, _&&_, _||_}
+use mathlib.Core.Bool.{Bool, true, false, not, _||_, _&&_}
 use mathlib.Core.Path.{_≡_, refl, sym, _∙_, ap, ap₂, subst}
 use mathlib.Core.List.{List, [], _∷_, _++_}
 use native.Mathlib.Omega.{arith}
@@ -15,7 +15,7 @@ use Rattle.knots.specs.Below.{allBelow}
 use Rattle.knots.specs.Clear.{zeros}
 use Rattle.knots.specs.Refusal.{refuse, iso-outside, iso-weight-bad}
 use Rattle.knots.specs.Knots.{ValidKnots}
-use Rattle.knots.specs.Curve.{countOf, isWeight, formedRefusal}
+use Rattle.knots.specs.Curve.{isWeight, formedRefusal}
 use Rattle.knots.specs.Surface.{surfaceRefusal, ValidSurface}
 use Rattle.knots.specs.Span.{SpanAt, SpanFound, clamped, spanOf}
 use Rattle.knots.specs.declared.refusal.Refusal.{Refusal}
@@ -33,7 +33,7 @@ use Rattle.evaluate.specs.Surface.{degreesRefusal}
 use Rattle.evaluate.specs.Lent.{padded, leftIn}
 use Rattle.evaluate.specs.Controls.{pointOf, noSums}
 use Rattle.evaluate.specs.Iso.{placeOf, rawWeight, isoTerm, isoPart, isoSums, isoCoordinate, isoWeight, IsoReach, IsoDone}
-use Rattle.evaluate.specs.IsoCurve.{Side, sideFrom, sideOf, hullOf, isoPoints, isoWeights, outside, alongStart, alongRefusal, AlongDone, isoSide, isoHull, isoStart, isoRefusal, IsoMeets}
+use Rattle.evaluate.specs.IsoCurve.{Side, hullOf, isoPoints, isoWeights, outside, alongStart, alongRefusal, AlongDone, isoSide, isoHull, isoStart, isoRefusal, IsoMeets}
 use Rattle.evaluate.specs.declared.controls.Sums.{Sums}
 use Rattle.evaluate.proofs.Sums.{sums-cong}
 use Rattle.evaluate.proofs.Steps.{room-open}

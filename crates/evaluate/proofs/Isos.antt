@@ -1,13 +1,12 @@
 -- Isoparametric curves, point by point.
 -- Assumes nothing.
-use Prim.Native.Nat.{ℕ, zero, suc, _+_, _-_, _*_, _/_, _%_, _≤_, _<_}
+use Prim.Native.Nat.{ℕ, _+_, _*_, _/_, _%_, _≤_, _<_}
 use mathlib.Core.Bool.{Bool, true, false}
 use mathlib.Core.Path.{_≡_, refl, sym, _∙_, ap, ap₂, subst}
-use mathlib.Core.List.{List, [], _∷_, _++_}
+use mathlib.Core.List.{List, _++_}
 use native.Mathlib.Omega.{arith}
 use lib.ListN.{length, set, drop, length-set}
 use lib.Ieee.{Float, binary64, mul, div}
-use Rattle.doubles.specs.Run.{at}
 use Rattle.knots.specs.Below.{allBelow}
 use Rattle.knots.specs.Curve.{isWeight}
 use Rattle.knots.proofs.Below.{all-none, all-more, all-fails}

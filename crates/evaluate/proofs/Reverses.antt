@@ -1,14 +1,13 @@
 -- The answers of `reversed`.
 -- Assumes nothing.
 use Prim.Native.Nat.{ℕ, _≤_}
-use mathlib.Core.Bool.{Bool, true, false, cond}
-use mathlib.Core.Path.{_≡_, refl, sym, _∙_, ap, ap₂, subst}
+use mathlib.Core.Bool.{Bool, true, false}
+use mathlib.Core.Path.{_≡_, sym, _∙_, ap, ap₂}
 use mathlib.Core.List.{List, _++_}
 use native.Mathlib.Omega.{arith}
 use lib.ListN.{length, take, drop}
 use lib.Ieee.{Float}
 use Rattle.doubles.specs.Run.{at}
-use Rattle.knots.specs.Refusal.{orElse}
 use Rattle.knots.specs.Clear.{zeros}
 use Rattle.knots.specs.Curve.{countOf, curveRefusal, formedRefusal, ValidCurve}
 use Rattle.knots.specs.declared.refusal.Refusal.{Refusal}

@@ -1,8 +1,8 @@
 -- What no refusal of a step or of an evaluation says. A step on runs of fitting lengths reads nothing outside them, and a valid curve has such runs.
 -- Assumes nothing.
 use Prim.Native.Nat.{ℕ, zero, suc, _+_, _*_, _%_, _≤_, _<_}
-use mathlib.Core.Bool.{Bool, true, false, not, _&&_, cond}
-use mathlib.Core.Path.{_≡_, refl, sym, _∙_, ap}
+use mathlib.Core.Bool.{Bool, true, false, not, cond, _&&_}
+use mathlib.Core.Path.{_≡_, refl, ap}
 use mathlib.Core.List.{List}
 use native.Mathlib.Omega.{arith}
 use lib.ListN.{length}
@@ -10,7 +10,7 @@ use lib.Dec.{leb, ltb, eqb}
 use lib.Ieee.{Float}
 use lib.Ieee.Scale.{finite}
 use borrow.Author.Tests.{ltb-false, leb-false, lt-leb, le-ltb, eqb-true, eqb-false, eq-eqb, ne-eqb, not-false}
-use Rattle.knots.specs.Refusal.{refuse, accepted, along, degree-zero, few-points, knot-count, weight-count, net-size, parameter-not-finite, too-long, degree-high, points-uneven}
+use Rattle.knots.specs.Refusal.{refuse, accepted, degree-zero, few-points, knot-count, weight-count, parameter-not-finite, too-long, degree-high, points-uneven}
 use Rattle.knots.specs.Knots.{ValidKnots}
 use Rattle.knots.specs.Curve.{countOf, curveRefusal, ValidCurve}
 use Rattle.knots.specs.Span.{searched, spanOf}

@@ -1,6 +1,6 @@
 -- The answers of `eval_surface_at` and `eval_surface`.
 -- Assumes nothing.
-use Prim.Native.Nat.{ℕ, _+_, _-_, _*_, _/_, _%_, _≤_, _<_}
+use Prim.Native.Nat.{ℕ, _+_, _-_, _*_, _/_, _%_, _≤_}
 use mathlib.Core.Bool.{Bool, true, not}
 use mathlib.Core.Path.{_≡_, sym, _∙_, ap, ap₂, subst}
 use mathlib.Core.List.{List}
@@ -14,7 +14,7 @@ use borrow.Author.Tests.{eqb-true, eq-eqb, not-false}
 use Rattle.exact.specs.Scheme.{dersOf}
 use Rattle.knots.specs.Refusal.{refuse, accepted, along, net-size, points-uneven}
 use Rattle.knots.specs.Curve.{countOf}
-use Rattle.knots.specs.Span.{clamped, searched, spanOf}
+use Rattle.knots.specs.Span.{clamped, searched}
 use Rattle.knots.specs.Surface.{surfaceRefusal, ValidSurface}
 use Rattle.knots.specs.declared.refusal.Refusal.{Refusal}
 use Rattle.knots.proofs.Refusals.{passed, orElse-none, stop, skip}
@@ -25,11 +25,10 @@ use Rattle.basis.specs.Ders.{basisTable}
 use Rattle.basis.proofs.Whole.{Reach, basis-at}
 use Rattle.evaluate.specs.Shape.{degreeRefusal, finiteRefusal, weightShape, knotShape, surfaceShape}
 use Rattle.evaluate.specs.Controls.{pointOf}
-use Rattle.evaluate.specs.Surface.{NetReach, netScale, netSums, surfaceQuotient, activeNet, surfaceOf, degreesRefusal, parametersRefusal, surfaceStepRefusal, surfaceEvalRefusal, surfaceAnswer, surfaceAtOf, evalSurfaceOf}
+use Rattle.evaluate.specs.Surface.{NetReach, netScale, netSums, surfaceQuotient, activeNet, surfaceOf, degreesRefusal, parametersRefusal, surfaceStepRefusal, surfaceEvalRefusal, surfaceAtOf, evalSurfaceOf}
 use Rattle.evaluate.specs.declared.vector.Vector.{Vector}
 use Rattle.evaluate.specs.declared.controls.Sums.{Sums}
 use Rattle.evaluate.specs.declared.surface.SurfaceDerivs.{SurfaceDerivs}
-use Rattle.evaluate.specs.declared.surface.SurfaceAnswer.{SurfaceAnswer}
 use Rattle.evaluate.specs.declared.surface.SurfaceAnswer.the-variants.{At, Refused}
 use Rattle.evaluate.proofs.Searches.{searched-is}
 use Rattle.evaluate.proofs.Steps.{degree-open, degree-none, finite-open, finite-none, weights-open, weights-none, Fitting, knots-open, knots-none, Found}

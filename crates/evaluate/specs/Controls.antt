@@ -2,7 +2,7 @@
 -- ps are coordinates, g says whether weights ws are given.
 -- Assumes nothing.
 use Prim.Native.Nat.{ℕ, zero, suc, _+_, _*_}
-use mathlib.Core.Bool.{Bool, true, false, _&&_, cond}
+use mathlib.Core.Bool.{Bool, true, false, cond, _&&_}
 use mathlib.Core.List.{List}
 use lib.Ieee.{Float, binary64, add, sub, mul, div, lt}
 use lib.Ieee.Scale.{finite}

@@ -1,7 +1,7 @@
 -- The point and two derivatives of a curve, and the answers of `eval2` and of its step `eval2_at`.
 -- Assumes nothing.
 use Prim.Native.Nat.{ℕ, _-_}
-use mathlib.Core.Bool.{Bool, true, _&&_, cond}
+use mathlib.Core.Bool.{Bool, true, cond, _&&_}
 use mathlib.Core.List.{List}
 use lib.Dec.{eqb}
 use lib.Ieee.{Float, binary64, sub, mul, div, ofBits}

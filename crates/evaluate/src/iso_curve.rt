@@ -185,8 +185,8 @@ fn iso_along(
 // The isocurve along u or along v, where nothing was refused before.
 fn iso_into(
     form: Form,
-    u_knots: &[f64],
-    v_knots: &[f64],
+    us: &[f64],
+    vs: &[f64],
     points: &[f64],
     weights: &[f64],
     constant_u: bool,
@@ -194,10 +194,10 @@ fn iso_into(
     out_points: &mut [f64],
     out_weights: &mut [f64],
 ) -> Refusal
-    requires { ⌜ isoStart (form .«u_degree») (form .«v_degree») (now «u_knots») (now «v_knots») (form .«u_count») (form .«v_count») (now points) (form .rational) (now weights) «constant_u» t (length (now «out_points»)) (length (now «out_weights»)) .number ≡ 0 ⌝ }
+    requires { ⌜ isoStart (form .«u_degree») (form .«v_degree») (now us) (now vs) (form .«u_count») (form .«v_count») (now points) (form .rational) (now weights) «constant_u» t (length (now «out_points»)) (length (now «out_weights»)) .number ≡ 0 ⌝ }
     requires { ⌜ now «out_points» ≡ zeros (length (now «out_points»)) ⌝ }
     requires { ⌜ now «out_weights» ≡ zeros (length (now «out_weights»)) ⌝ }
-    ensures { λ r. ⌜ AlongDone (hullOf (now (points .entry)) (form .rational) (now (weights .entry)) (form .«v_count») «constant_u» (sideOf «constant_u» (form .«u_degree») (form .«v_degree») (now («u_knots» .entry)) (now («v_knots» .entry)) (form .«u_count») (form .«v_count»)) t) (sideOf «constant_u» (form .«u_degree») (form .«v_degree») (now («u_knots» .entry)) (now («v_knots» .entry)) (form .«u_count») (form .«v_count»)) (length (now («out_points» .entry))) (length (now («out_weights» .entry))) (now («out_points» .exit)) (now («out_weights» .exit)) r ⌝ }
+    ensures { λ r. ⌜ AlongDone (hullOf (now (points .entry)) (form .rational) (now (weights .entry)) (form .«v_count») «constant_u» (sideOf «constant_u» (form .«u_degree») (form .«v_degree») (now (us .entry)) (now (vs .entry)) (form .«u_count») (form .«v_count»)) t) (sideOf «constant_u» (form .«u_degree») (form .«v_degree») (now (us .entry)) (now (vs .entry)) (form .«u_count») (form .«v_count»)) (length (now («out_points» .entry))) (length (now («out_weights» .entry))) (now («out_points» .exit)) (now («out_weights» .exit)) r ⌝ }
 {
     let g = form.rational;
     if constant_u {
@@ -210,16 +210,7 @@ fn iso_into(
             other_degree: form.v_degree,
             other_count: form.v_count,
         };
-        return iso_along(
-            held,
-            u_knots,
-            points,
-            g,
-            weights,
-            v_knots,
-            out_points,
-            out_weights,
-        );
+        return iso_along(held, us, points, g, weights, vs, out_points, out_weights);
     }
     let held = Held {
         constant_u: false,
@@ -230,16 +221,7 @@ fn iso_into(
         other_degree: form.u_degree,
         other_count: form.u_count,
     };
-    iso_along(
-        held,
-        v_knots,
-        points,
-        g,
-        weights,
-        u_knots,
-        out_points,
-        out_weights,
-    )
+    iso_along(held, vs, points, g, weights, us, out_points, out_weights)
 }
 
 // The isocurve of a surface at t of u, or of v, in lent runs: its points and weights. Its knots are those that `iso_knots` hands back.

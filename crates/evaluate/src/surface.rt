@@ -80,10 +80,10 @@ fn surface_at(
     requires { ⌜ (rational ≡ true → NetReach (length (now weights)) columns (s - p) p (t - q) q) ⌝ }
     ensures { λ r. ⌜ r ≡ surfaceOf p q (now («u_knots» .entry)) (now («v_knots» .entry)) columns (now (points .entry)) rational (now (weights .entry)) s t u v ⌝ }
 {
-    let mut u_ders = [0.0; 195];
-    basis_derivatives(s, u, p, 1, u_knots, &mut u_ders);
-    let mut v_ders = [0.0; 195];
-    basis_derivatives(t, v, q, 1, v_knots, &mut v_ders);
+    let mut bu = [0.0; 195];
+    basis_derivatives(s, u, p, 1, u_knots, &mut bu);
+    let mut bv = [0.0; 195];
+    basis_derivatives(t, v, q, 1, v_knots, &mut bv);
     let a = s - p;
     let b = t - q;
     let net = Net {
@@ -96,42 +96,9 @@ fn surface_at(
     let scale = net_scale(net, rational, weights);
     let corner = a * columns + b;
     let o = point_at(points, corner);
-    let c = net_sums(
-        0,
-        0,
-        o,
-        net,
-        scale,
-        points,
-        rational,
-        weights,
-        &u_ders,
-        &v_ders,
-    );
-    let d = net_sums(
-        1,
-        0,
-        o,
-        net,
-        scale,
-        points,
-        rational,
-        weights,
-        &u_ders,
-        &v_ders,
-    );
-    let e = net_sums(
-        0,
-        1,
-        o,
-        net,
-        scale,
-        points,
-        rational,
-        weights,
-        &u_ders,
-        &v_ders,
-    );
+    let c = net_sums(0, 0, o, net, scale, points, rational, weights, &bu, &bv);
+    let d = net_sums(1, 0, o, net, scale, points, rational, weights, &bu, &bv);
+    let e = net_sums(0, 1, o, net, scale, points, rational, weights, &bu, &bv);
     surface_quotient_of(o, c, d, e)
 }
 

@@ -5,7 +5,7 @@ use denote.Ref.{now}
 use borrow.Author.Needs.{needs}
 use Rattle.doubles.specs.Run.{at}
 use Rattle.basis.specs.Basis.{cell}
-use Rattle.basis.proofs.Rows2.{row-short, row-whole}
+use Rattle.basis.proofs.Rows.{row-short, row-whole}
 use Rattle.basis.proofs.ders.row.Statement.{statement}
 use Rattle.basis.proofs.ders.row.Tie as tie
 

@@ -7,7 +7,7 @@ use denote.Ref.{now}
 use borrow.Author.Needs.{needs}
 use Rattle.doubles.specs.Run.{at}
 use Rattle.basis.specs.Basis.{cell}
-use Rattle.basis.proofs.Rows2.{Places, places, InMiddle, middle-start, middle-step, middle-end}
+use Rattle.basis.proofs.Rows.{Places, places, InMiddle, middle-start, middle-step, middle-end}
 use Rattle.basis.proofs.ders.row_middle.Statement.{statement}
 use Rattle.basis.proofs.ders.row_middle.Tie as tie
 

@@ -10,7 +10,7 @@ use lib.Ieee.{nan}
 use borrow.Author.Needs.{needs}
 use Rattle.doubles.specs.Run.{at}
 use Rattle.basis.specs.Basis.{cell}
-use Rattle.basis.proofs.Rows2.{start-coef, start-none, start-some}
+use Rattle.basis.proofs.Rows.{start-coef, start-none, start-some}
 use Rattle.basis.proofs.ders.row_start.Statement.{statement}
 use Rattle.basis.proofs.ders.row_start.Tie as tie
 

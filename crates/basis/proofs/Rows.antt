@@ -1,7 +1,6 @@
 -- A row of the coefficients of the derivatives, place by place.
 -- Assumes nothing.
 use Prim.Native.Nat.{ℕ, zero, suc, _+_, _-_, _≤_, _<_, min, max}
-use mathlib.Core.Bool.{Bool, true, false}
 use mathlib.Core.Path.{_≡_, refl, sym, _∙_, ap, ap₂, subst}
 use mathlib.Core.Logic.{_⊎_, inl, inr}
 use mathlib.Core.List.{List}
@@ -13,7 +12,7 @@ use lib.ListN.{length, set, length-set}
 use lib.Seq.{getD-set-same, getD-set-other}
 use lib.Ieee.{Float, nan, binary64, add, sub, mul, div, neg}
 use Rattle.doubles.specs.Run.{at}
-use Rattle.basis.specs.Ders.{firstOf, endOf, RowDone, StartDone, MiddleDone}
+use Rattle.basis.specs.Ders.{firstOf, endOf, RowDone, MiddleDone}
 use Rattle.exact.specs.Scheme.{numOf, coefOf, termOf, sumOf, startOf, derOf}
 use Rattle.basis.specs.Floats.{floats}
 use Rattle.basis.proofs.Cases.{eq-zero}
