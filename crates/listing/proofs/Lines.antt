@@ -79,6 +79,10 @@ module _ (r : Refusal) {o₁ o₂ : List ℕ} {a : ℕ} where
 pub shown-whole : {text after : List ℕ} {n : ℕ} → Shown text after n → Shown text after (length text)
 shown-whole s = record { count = refl; bytes = s .bytes; long = s .long }
 
+-- any two outcomes are one
+pub one-shown : {text a b : List ℕ} {m n : ℕ} → Shown text a m → Shown text b n → (m ≡ n) × (a ≡ b)
+one-shown x y = (x .count ∙ sym (y .count), x .bytes ∙ sym (y .bytes))
+
 -- nothing at all
 pub none-shown : Shown [] blank 0
 none-shown = shown [] blank 0 refl refl (omega arith)

@@ -27,7 +27,7 @@ fn print_spans(degree: usize, count: usize, knots: &[f64]) {
     }
 }
 
-// No record has more than 8,190 numbers, so each run has room.
+// Runs of 8,192 numbers have room for every record, so that 30 is not met (`always-room`).
 fn print_listing(s: &[u8]) {
     let mut knots = [0.0f64; 8192];
     let mut points = [0.0f64; 8192];

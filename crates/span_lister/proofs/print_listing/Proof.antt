@@ -1,66 +1,51 @@
+-- The knots that were read are the front of their run.
+-- Assumes nothing.
 use mathlib.Core.Path.{sym}
 use lib.Seq.{length-take-le}
 use Rattle.record.specs.Validated.{Front}
 use borrow.Author.Needs.{needs}
 use Rattle.span_lister.proofs.print_listing.Statement.{statement}
 use Rattle.span_lister.proofs.print_listing.Tie as tie
-use Rattle.span_lister.proofs.print_listing.Reads as reads
-use Rattle.span_lister.proofs.print_listing.Lts as lts
-use Rattle.record.proofs.table.read_table.Reads as read-table-reads
-use Rattle.span_lister.proofs.print_refusal.Reads as print-refusal-reads
-use Rattle.span_lister.proofs.print_spans.Reads as print-spans-reads
 
--- src/main.rt:35:25
 slice-aggregate-read-table : tie.Need-slice-aggregate-read-table
 slice-aggregate-read-table c = search needs
 
--- src/main.rt:35:37
 slice-aggregate-read-table-2 : tie.Need-slice-aggregate-read-table-2
 slice-aggregate-read-table-2 c = search needs
 
--- src/main.rt:35:50
 slice-aggregate-read-table-3 : tie.Need-slice-aggregate-read-table-3
 slice-aggregate-read-table-3 c = search needs
 
--- src/main.rt:35:11
 read-table-requires : tie.Need-read-table-requires
 read-table-requires c κs = search needs
 
--- src/main.rt:36:30
 enum-known-refusal : tie.Need-enum-known-refusal
 enum-known-refusal c = search needs
 
--- src/main.rt:36:42
 print-refusal-requires : tie.Need-print-refusal-requires
 print-refusal-requires c κs = search needs
 
--- src/main.rt:38:13
 enum-known-layout : tie.Need-enum-known-layout
 enum-known-layout c = search needs
 
--- src/main.rt:42:59
 array-share-prefix-knots : tie.Need-array-share-prefix-knots
-array-share-prefix-knots c = 
+array-share-prefix-knots c =
     let given = c .before .before .layout .given in
     let front : Front (given .0 .0) (given .0 .1 .0) _ _ _ = rw (given .1) at (c .before .before .before .before .before .before .before .read-table .ensures .front) in
     front .knots
 
--- src/main.rt:42:59
 slice-aggregate-print-spans : tie.Need-slice-aggregate-print-spans
-slice-aggregate-print-spans c = 
+slice-aggregate-print-spans c =
     let given = c .before .before .before .layout .given in
     let front : Front (given .0 .0) (given .0 .1 .0) _ _ _ = rw (given .1) at (c .before .before .before .before .before .before .before .before .read-table .ensures .front) in
     sym (length-take-le (given .0 .0 .knots) _ (front .knots))
 
--- src/main.rt:42:13
 print-spans-requires : tie.Need-print-spans-requires
 print-spans-requires c κs = search needs
 
--- src/main.rt:31:1
 returns : tie.Need-returns
 returns c = search needs
 
--- src/main.rt:31:1
 returns-2 : tie.Need-returns-2
 returns-2 c = search needs
 
