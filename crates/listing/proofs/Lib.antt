@@ -1,3 +1,4 @@
 pub mod Digits
 pub mod Widths
 pub mod Lines
+pub mod Walked

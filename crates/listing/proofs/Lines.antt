@@ -5,9 +5,9 @@ use mathlib.Core.Bool.{Bool, true, false}
 use mathlib.Core.Path.{_≡_, refl, sym, _∙_, ap}
 use mathlib.Core.List.{List, [], _∷_, _++_, append-assoc}
 use native.Mathlib.Omega.{arith}
-use lib.ListN.{length, set, replicate, length-append}
+use lib.ListN.{length, set, take, replicate, length-append}
 use lib.Dec.{ltb}
-use lib.Seq.{sets, length-sets}
+use lib.Seq.{sets, length-sets, length-take-le}
 use lib.Ieee.{Float, binary64, toBits}
 use borrow.Author.Tests.{ltb-true, ltb-false}
 use Rattle.doubles.specs.Run.{at}
@@ -79,6 +79,10 @@ module _ (r : Refusal) {o₁ o₂ : List ℕ} {a : ℕ} where
 pub shown-whole : {text after : List ℕ} {n : ℕ} → Shown text after n → Shown text after (length text)
 shown-whole s = record { count = refl; bytes = s .bytes; long = s .long }
 
+-- any two outcomes are one
+pub one-shown : {text a b : List ℕ} {m n : ℕ} → Shown text a m → Shown text b n → (m ≡ n) × (a ≡ b)
+one-shown x y = (x .count ∙ sym (y .count), x .bytes ∙ sym (y .bytes))
+
 -- nothing at all
 pub none-shown : Shown [] blank 0
 none-shown = shown [] blank 0 refl refl (omega arith)
@@ -97,3 +101,13 @@ nonempty-in ks s h = go (ltb (s + 1) (length ks)) refl
 
 pub span-in : (p n : ℕ) (ks : List Float) (i s : ℕ) → nextSpan p n ks i ≡ At s → s + 1 < length ks
 span-in p n ks i s e = nonempty-in ks s (next-at p n ks i s e .here)
+
+-- ---- what a caller prints
+
+-- the count of a shown text is within its bytes
+pub shown-counts : {text after : List ℕ} {n : ℕ} → Shown text after n → (n ≤ length after) × (n ≡ length (take n after))
+shown-counts {text} {after} {n} s =
+    let sum = ap length (s .bytes) ∙ length-append text _ in
+    let c = s .count in
+    let within : n ≤ length after = omega arith in
+    (within, sym (length-take-le n after within))

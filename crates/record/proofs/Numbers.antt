@@ -11,7 +11,7 @@ use lib.ListN.{length, drop, length-map}
 use lib.Ieee.{Float, binary64, ofBits}
 use lib.Dec.{eqb}
 use lib.Seq.{sets}
-use borrow.Author.Tests.{leb-true, ne-eqb}
+use borrow.Author.Tests.{le-leb, leb-true, ne-eqb}
 use Rattle.knots.specs.Refusal.{refuse, too-long}
 use Rattle.knots.specs.declared.refusal.Refusal.{Refusal}
 use Rattle.doubles.specs.Value.{zero+}
@@ -68,6 +68,14 @@ pub numbers-room : (s : List ℕ) (l : Layout) → Means s (tableOf s) → Field
 numbers-room s l m e =
     let found = layout-some (tableOf s) l e in
     subst (λ (k : Layout). Room s k) (found .2) (room-held s (found .0) (subst (λ (o : Option Table). Means s o) (found .1) m))
+
+-- runs of 8,192 numbers have room for every record: 30 is not met there
+pub always-room : (s : List ℕ) (t : Table) → Holds s t → roomFor (layout t) 8192 8192 8192 ≡ true
+always-room s t h =
+    let p = parts s t h .long in
+    let w = length-given (t .weights) in
+    let short = h .short in
+    rw (le-leb (length (t .knots)) 8192 (omega arith), le-leb (length (t .points)) 8192 (omega arith)) (le-leb (length (given (t .weights))) 8192 (omega arith))
 
 -- ---- what the runs hold
 

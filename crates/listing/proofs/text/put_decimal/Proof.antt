@@ -1,5 +1,6 @@
-use Prim.Native.Nat.{ℕ, _+_}
-use mathlib.Core.Path.{_≡_, sym, _∙_, ap}
+-- As many digits as the number has.
+-- Assumes nothing.
+use mathlib.Core.Path.{_≡_, _∙_}
 use native.Mathlib.Omega.{arith}
 use lib.ListN.{length}
 use Rattle.listing.specs.Text.{digits, width, decimal}
@@ -7,28 +8,19 @@ use Rattle.listing.proofs.Digits.{length-digits}
 use borrow.Author.Needs.{needs}
 use Rattle.listing.proofs.text.put_decimal.Statement.{statement}
 use Rattle.listing.proofs.text.put_decimal.Tie as tie
-use Rattle.listing.proofs.text.put_decimal.Reads as reads
-use Rattle.listing.proofs.text.put_decimal.Lts as lts
-use Rattle.listing.proofs.text.put_digits.Reads as put-digits-reads
-use Rattle.listing.proofs.text.width.Reads as width-reads
 
--- src/text.rt:56:9
 width-requires : tie.Need-width-requires
 width-requires c κs = search needs
 
--- src/text.rt:57:5
 put-digits-requires : tie.Need-put-digits-requires
 put-digits-requires c κs = search needs
 
--- src/text.rt:58:5
 add-result : tie.Need-add-result
 add-result c = search needs
 
--- src/text.rt:50:1
 same-length : tie.Need-same-length
 same-length c = search needs
 
--- src/text.rt:50:1
 returns : tie.Need-returns
 unfolding decimal
 returns c =

@@ -1,48 +1,38 @@
+-- Eight stores, one behind the other.
+-- Assumes nothing.
 use native.Mathlib.Omega.{arith}
 use lib.ListN.{length-set}
 use borrow.Author.Needs.{needs}
 use Rattle.listing.proofs.text.put_refused.Statement.{statement}
 use Rattle.listing.proofs.text.put_refused.Tie as tie
-use Rattle.listing.proofs.text.put_refused.Reads as reads
-use Rattle.listing.proofs.text.put_refused.Lts as lts
 
--- src/text.rt:78:5
 slice-write-out : tie.Need-slice-write-out
 slice-write-out c = search needs
 
--- src/text.rt:79:5
 slice-write-out-2 : tie.Need-slice-write-out-2
 slice-write-out-2 c = simp length-set (omega arith)
 
--- src/text.rt:80:5
 slice-write-out-3 : tie.Need-slice-write-out-3
 slice-write-out-3 c = simp length-set (omega arith)
 
--- src/text.rt:81:5
 slice-write-out-4 : tie.Need-slice-write-out-4
 slice-write-out-4 c = simp length-set (omega arith)
 
--- src/text.rt:82:5
 slice-write-out-5 : tie.Need-slice-write-out-5
 slice-write-out-5 c = simp length-set (omega arith)
 
--- src/text.rt:83:5
 slice-write-out-6 : tie.Need-slice-write-out-6
 slice-write-out-6 c = simp length-set (omega arith)
 
--- src/text.rt:84:5
 slice-write-out-7 : tie.Need-slice-write-out-7
 slice-write-out-7 c = simp length-set (omega arith)
 
--- src/text.rt:85:5
 slice-write-out-8 : tie.Need-slice-write-out-8
 slice-write-out-8 c = search needs
 
--- src/text.rt:74:1
 same-length : tie.Need-same-length
 same-length c = search needs
 
--- src/text.rt:74:1
 returns : tie.Need-returns
 returns c = search needs
 

@@ -1,12 +1,11 @@
-use Prim.Native.Nat.{_≤_}
+-- Digits are counted until one is left.
+-- Assumes nothing.
 use native.Mathlib.Omega.{arith}
 use borrow.Author.Needs.{needs}
 use Rattle.listing.specs.Text.{width}
 use Rattle.listing.proofs.Widths.{Counting, counting-start, counting-step, counting-end}
 use Rattle.listing.proofs.text.width.Statement.{statement}
 use Rattle.listing.proofs.text.width.Tie as tie
-use Rattle.listing.proofs.text.width.Reads as reads
-use Rattle.listing.proofs.text.width.Lts as lts
 
 abbrev Inv-loop : tie.InvT-loop
 Inv-loop n w₀ rest₀ w rest = Counting (width 19 n) w rest
@@ -14,23 +13,18 @@ Inv-loop n w₀ rest₀ w rest = Counting (width 19 n) w rest
 abbrev μ-loop : tie.MeasureT-loop
 μ-loop n w₀ rest₀ w rest = rest
 
--- src/text.rt:42:5
 loop-holds : tie.Need-loop-holds Inv-loop μ-loop
 loop-holds c = counting-start _ (search needs)
 
--- src/text.rt:44:9
 add-w : tie.Need-add-w Inv-loop μ-loop
 add-w c = omega (arith, c .before .loop .inv .spent)
 
--- src/text.rt:42:5
 loop-less : tie.Need-loop-less Inv-loop μ-loop
 loop-less c = search needs
 
--- src/text.rt:42:5
 loop-again : tie.Need-loop-again Inv-loop μ-loop
 loop-again c = counting-step (c .before .loop .inv) (c .loop-test .taken)
 
--- src/text.rt:36:1
 returns : tie.Need-returns Inv-loop μ-loop
 returns c = let inv = c .before .loop .inv in (counting-end inv (c .loop-test .left), omega (arith, inv .spent))
 

@@ -1,9 +1,9 @@
+-- The runs are cleared first, so that each refusal is done; then the numbers that the layout names are stored into them.
+-- Assumes nothing.
 use Rattle.knots.specs.Refusal.{refuse, too-long}
 use mathlib.Core.Path.{_≡_, sym, _∙_}
 use mathlib.Core.Bool.{true}
 use Rattle.record.specs.Reading.{roomFor}
--- The runs are cleared first, so that each refusal is done; then the numbers that the layout names are stored into them.
--- Assumes nothing.
 use native.Mathlib.Omega.{arith}
 use denote.Ref.{now}
 use borrow.Author.Tests.{not-true, not-false}
@@ -14,7 +14,6 @@ use Rattle.record.proofs.read.read_numbers.Statement.{statement}
 use Rattle.record.proofs.read.read_numbers.Tie as tie
 
 -- what is known where the record is read and the runs have room: where its runs stand, and that they fit
-
 room-at : (c : tie.Else1) → Room (now (c .before .before .before .before .before .before .before .before .before .before .before .before .before .before .before .before .before .before .before .before .before .before .args .s)) (c .before .before .before .read .given .0 .0)
 room-at c =
     let read = c .before .before .before .before .before .read-record in

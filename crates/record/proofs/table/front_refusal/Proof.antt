@@ -1,35 +1,27 @@
+-- The refusal of the fronts of three runs: each front is as long as the layout says.
+-- Assumes nothing.
 use mathlib.Core.Path.{sym, _∙_}
 use lib.Seq.{length-take-le}
 use denote.Ref.{now}
 use borrow.Author.Needs.{needs}
 use Rattle.record.proofs.table.front_refusal.Statement.{statement}
 use Rattle.record.proofs.table.front_refusal.Tie as tie
-use Rattle.record.proofs.table.front_refusal.Reads as reads
-use Rattle.record.proofs.table.front_refusal.Lts as lts
-use Rattle.knots.proofs.curve.curve_refusal.Reads as curve-refusal-reads
-use Rattle.record.proofs.read.is_rational.Reads as is-rational-reads
 
--- src/table.rt:34:9
 slice-aggregate-curve-refusal : tie.Need-slice-aggregate-curve-refusal
 slice-aggregate-curve-refusal c = sym (length-take-le (c .before .before .before .before .args .l .knots) (now (c .before .before .before .before .args .knots)) (c .before .before .before .before .pre .0))
 
--- src/table.rt:35:9
 slice-aggregate-curve-refusal-2 : tie.Need-slice-aggregate-curve-refusal-2
 slice-aggregate-curve-refusal-2 c = sym (length-take-le (c .before .before .before .before .before .args .l .points) (now (c .before .before .before .before .before .args .points)) (c .before .before .before .before .before .pre .1 .0))
 
--- src/table.rt:36:9
 is-rational-requires : tie.Need-is-rational-requires
 is-rational-requires c κs = search needs
 
--- src/table.rt:37:9
 slice-aggregate-curve-refusal-3 : tie.Need-slice-aggregate-curve-refusal-3
 slice-aggregate-curve-refusal-3 c = sym (length-take-le (c .before .before .before .before .before .before .before .args .l .weights) (now (c .before .before .before .before .before .before .before .args .weights)) (c .before .before .before .before .before .before .before .pre .1 .1))
 
--- src/table.rt:32:5
 curve-refusal-requires : tie.Need-curve-refusal-requires
 curve-refusal-requires c κs = search needs
 
--- src/table.rt:23:1
 returns : tie.Need-returns
 returns c = c .curve-refusal .ensures ∙ rw (c .before .before .is-rational .ensures)
 

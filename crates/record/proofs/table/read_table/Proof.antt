@@ -1,34 +1,23 @@
-use mathlib.Core.Path.{_≡_, sym, _∙_, ap, subst}
+-- The numbers are read, then validated; a refusal of the curve clears the runs again.
+-- Assumes nothing.
 use denote.Ref.{now}
-use lib.ListN.{length}
 use Rattle.record.specs.Reading.{ReadsNumbers}
-use Rattle.record.specs.declared.read.Record.{Record}
 use Rattle.record.specs.declared.read.Record.the-variants.{Fields, Refused}
 use Rattle.record.proofs.Numbers.{fits-runs}
 use Rattle.record.proofs.Validated.{room, refused-first, refused-curve, curve-read}
 use borrow.Author.Needs.{needs}
 use Rattle.record.proofs.table.read_table.Statement.{statement}
 use Rattle.record.proofs.table.read_table.Tie as tie
-use Rattle.record.proofs.table.read_table.Reads as reads
-use Rattle.record.proofs.table.read_table.Lts as lts
-use Rattle.knots.proofs.clear.clear.Reads as clear-reads
-use Rattle.record.proofs.read.is_rational.Reads as is-rational-reads
-use Rattle.record.proofs.read.read_numbers.Reads as read-numbers-reads
-use Rattle.record.proofs.table.front_refusal.Reads as front-refusal-reads
 
--- src/table.rt:51:9
 read-numbers-requires : tie.Need-read-numbers-requires
 read-numbers-requires c κs = search needs
 
--- src/table.rt:53:25
 enum-known-read : tie.Need-enum-known-read
 enum-known-read c = search needs
 
--- src/table.rt:54:24
 enum-known-read-2 : tie.Need-enum-known-read-2
 enum-known-read-2 c = search needs
 
--- src/table.rt:55:17
 front-refusal-requires : tie.Need-front-refusal-requires
 front-refusal-requires c κs =
     let a = c .before .before .before .before .before .before .before .before .before .before .before .before .before .before .before .before .before .before .before .before .args in
@@ -42,31 +31,24 @@ front-refusal-requires c κs =
     let fits = fits-runs l _ _ _ (room s k p w _ _ _ l r) in
     (rw (read .kept .1 .0) (fits .0), (rw (read .kept .1 .1 .0) (fits .1), rw (read .kept .1 .1 .1 .0) (fits .2)))
 
--- src/table.rt:57:17
 clear-requires : tie.Need-clear-requires
 clear-requires c κs = search needs
 
--- src/table.rt:58:17
 clear-requires-2 : tie.Need-clear-requires-2
 clear-requires-2 c κs = search needs
 
--- src/table.rt:59:17
 clear-requires-3 : tie.Need-clear-requires-3
 clear-requires-3 c κs = search needs
 
--- src/table.rt:60:17
 same-length : tie.Need-same-length
 same-length c = search needs
 
--- src/table.rt:60:17
 same-length-2 : tie.Need-same-length-2
 same-length-2 c = search needs
 
--- src/table.rt:60:17
 same-length-3 : tie.Need-same-length-3
 same-length-3 c = search needs
 
--- src/table.rt:60:17
 returns : tie.Need-returns
 returns c =
     let a = c .before .before .before .before .before .before .before .before .before .before .before .before .before .before .before .before .before .before .before .before .before .before .before .before .before .before .before .before .before .before .before .before .before .before .before .args in
@@ -80,23 +62,18 @@ returns c =
     rw (c .before .before .before .before .before .before .before .before .before .before .clear .ensures, c .before .before .before .before .before .before .clear2 .ensures, c .before .before .clear3 .ensures, read .kept .1 .0, read .kept .1 .1 .0, read .kept .1 .1 .1 .0)
     (refused-curve s k p w _ _ _ l r _ (c .before .before .before .before .before .before .before .before .before .before .before .before .before .before .front-refusal .ensures) (c .before .before .before .before .before .before .before .before .before .before .before .before .if1 .taken))
 
--- src/table.rt:64:27
 is-rational-requires : tie.Need-is-rational-requires
 is-rational-requires c κs = search needs
 
--- src/table.rt:43:1
 same-length-4 : tie.Need-same-length-4
 same-length-4 c = search needs
 
--- src/table.rt:43:1
 same-length-5 : tie.Need-same-length-5
 same-length-5 c = search needs
 
--- src/table.rt:43:1
 same-length-6 : tie.Need-same-length-6
 same-length-6 c = search needs
 
--- src/table.rt:43:1
 returns-2 : tie.Need-returns-2
 returns-2 c =
     let a = c .before .before .before .before .before .before .before .before .before .before .before .before .before .before .before .before .before .args in
@@ -109,19 +86,15 @@ returns-2 c =
     let r : ReadsNumbers s k p w _ _ _ (Refused x) = rw (c .before .read .given .1) at (read .ensures) in
     refused-first s k p w _ _ _ x r
 
--- src/table.rt:43:1
 same-length-7 : tie.Need-same-length-7
 same-length-7 c = search needs
 
--- src/table.rt:43:1
 same-length-8 : tie.Need-same-length-8
 same-length-8 c = search needs
 
--- src/table.rt:43:1
 same-length-9 : tie.Need-same-length-9
 same-length-9 c = search needs
 
--- src/table.rt:43:1
 returns-3 : tie.Need-returns-3
 returns-3 c =
     let a = c .before .before .before .before .before .before .before .before .before .before .before .before .before .before .before .before .before .before .before .before .before .before .before .before .args in
