@@ -1,4 +1,5 @@
 //! The published Rust as the comparison calls it, and document 01's refusal numbers, read off its error texts.
+pub mod seen;
 pub mod worked;
 
 pub use gensolid_core::Precision;
