@@ -6,6 +6,7 @@ use std::io::{Result, Write};
 mod bounds;
 mod interval;
 mod knots;
+mod listed;
 mod timed;
 
 /// A block of a run: its place and how many cases it has.
