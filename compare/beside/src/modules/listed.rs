@@ -1,6 +1,6 @@
 //! Lists of tables and answers as words: what the replaying crates read.
 use crate::tables::{Curve, Surface};
-use std::collections::HashMap;
+use std::collections::BTreeMap;
 use std::io::{Result, Write};
 
 /// The most numbers of a run that a replaying crate has room for.
@@ -11,7 +11,7 @@ pub fn word(x: f64) -> u64 {
     if x.is_nan() { 0x7ff8_0000_0000_0000 } else { x.to_bits() }
 }
 
-/// A case in words, and what it answers: cases of each answer are wanted.
+/// A case in words, of which the first is a degree, and what it answers.
 pub struct Listed {
     pub words: Vec<u64>,
     pub answer: u32,
@@ -48,12 +48,13 @@ pub fn surface(s: &Surface) -> Option<Vec<u64>> {
     Some(words)
 }
 
-/// How many cases of an answer are looked at for each that is kept; the shortest are kept, but for a few.
+/// How many cases of an answer are looked at for each that is kept.
 const LOOKED_AT: usize = 8;
 
-/// `each` cases of every refusal, and of the answer 0 all that are left of `cases`: three quarters of them short, the others as they come.
+/// `each` cases of every refusal, and of the answer 0 all that are left of `cases`: of each the degrees in turn, and of
+/// a refusal the shortest.
 pub fn chosen(tried: impl Iterator<Item = Listed>, cases: usize, each: usize) -> Vec<Listed> {
-    let mut by: HashMap<u32, Vec<Listed>> = HashMap::new();
+    let mut by: BTreeMap<u32, Vec<Listed>> = BTreeMap::new();
     for case in tried {
         let most = LOOKED_AT * if case.answer == 0 { cases } else { each };
         let of = by.entry(case.answer).or_default();
@@ -61,20 +62,31 @@ pub fn chosen(tried: impl Iterator<Item = Listed>, cases: usize, each: usize) ->
             of.push(case);
         }
     }
-    let mut numbers: Vec<u32> = by.keys().copied().collect();
-    numbers.sort_by_key(|n| (*n == 0, *n));
-    let mut kept = Vec::new();
-    for n in numbers {
-        let mut of = by.remove(&n).unwrap_or_default();
-        let want = if n == 0 { cases.saturating_sub(kept.len()) } else { each };
-        let rest = of.split_off((want / 4).min(of.len()));
-        let mut short = rest;
-        short.sort_by_key(|c| c.words.len());
-        short.truncate(want - of.len());
-        kept.extend(of);
-        kept.extend(short);
+    let answered = by.remove(&0).unwrap_or_default();
+    let mut kept: Vec<Listed> = Vec::new();
+    for (_, mut of) in by {
+        of.sort_by_key(|c| c.words.len());
+        of.truncate(2 * each);
+        kept.extend(in_turn(of, each));
     }
+    let left = cases.saturating_sub(kept.len());
+    kept.extend(in_turn(answered, left));
     kept
+}
+
+/// The first of every degree, then the second, and so on.
+fn in_turn(of: Vec<Listed>, most: usize) -> Vec<Listed> {
+    let mut met: BTreeMap<u64, usize> = BTreeMap::new();
+    let mut ranked: Vec<(usize, Listed)> = of
+        .into_iter()
+        .map(|c| {
+            let rank = met.entry(c.words[0]).or_default();
+            *rank += 1;
+            (*rank, c)
+        })
+        .collect();
+    ranked.sort_by_key(|c| c.0);
+    ranked.into_iter().take(most).map(|c| c.1).collect()
 }
 
 /// A heading of ten bytes and the number of cases, then a case a line; and the line that is to be printed.

@@ -1,12 +1,13 @@
 //! The list that crates/replay_knots reads.
-use super::CARE;
 use super::calls::{Run, clamp, next, span};
 use crate::modules::listed::{self, Listed, word};
 use crate::rng::Rng;
-use crate::tables::make;
+use crate::tables::make::{self, Care};
 use std::io::{Result, Write};
 
 const TRIED: u64 = 200_000;
+/// Fewer high degrees than a run has, so that the list stays short.
+const CARE: Care = Care { steep: [300, 300, 200, 60, 10, 4], broken: 32, long: 6000 };
 
 /// A degree, a count and a run of knots, with a parameter.
 fn on_knots(r: &mut Rng, answer: impl Fn(&mut Rng, &Run, &mut Vec<u64>) -> u32) -> Option<Listed> {
@@ -57,11 +58,11 @@ fn case(r: &mut Rng, call: &str) -> Option<Listed> {
 
 pub fn write(stdin: &mut dyn Write, stdout: &mut dyn Write) -> Result<()> {
     for (at, (call, each)) in
-        [("curve", 20), ("surface", 12), ("find_span", 20), ("next_span", 100), ("clamp", 80)].iter().enumerate()
+        [("curve", 16), ("surface", 9), ("find_span", 16), ("next_span", 80), ("clamp", 60)].iter().enumerate()
     {
         let mut r = Rng::new(1, at as u64);
         let tried = (0..TRIED).filter_map(|_| case(&mut r, call));
-        listed::write(stdin, stdout, call, &listed::chosen(tried, 300, *each))?;
+        listed::write(stdin, stdout, call, &listed::chosen(tried, 240, *each))?;
     }
     let classes: Vec<Listed> = (0..40u32)
         .map(|n| {
