@@ -1,31 +1,19 @@
 // One case of each call: its operands, the number that the Rust answers, and the answer's words.
-use crate::words::double;
-use crate::words::double_of;
-use crate::words::word;
 use interval::Interval;
 use interval::New;
 use interval::Quotient;
 use interval::Sign;
 use interval::float;
+use replaying::answers;
+use replaying::answers::same;
+use replaying::words::double;
+use replaying::words::word;
 
 // How many calls there are. The list has them in the order of `agrees`.
 pub const COUNT: u32 = 19;
 
 // What stands for 'no interval', which has no refusal number.
 const NO_INTERVAL: u64 = 99;
-
-// The bits are those of the list. A NaN is any NaN, and an open zero has either sign.
-fn same(x: f64, want: u64, open: bool) -> bool {
-    if float::is_nan(x) {
-        return float::is_nan(double_of(want));
-    }
-    if open {
-        if x == 0.0 {
-            return double_of(want) == 0.0;
-        }
-    }
-    f64::to_bits(x) == want
-}
 
 fn operand() -> New {
     let lo = double();
@@ -46,15 +34,8 @@ fn refused(number: u64) -> bool {
 
 fn ends(i: Interval, open: bool) -> bool {
     let want = word();
-    let lo = word();
-    let hi = word();
-    if want != 0 {
-        return false;
-    }
-    if same(i.lo(), lo, open) {
-        return same(i.hi(), hi, open);
-    }
-    false
+    let agree = answers::ends(i, open);
+    if want == 0 { agree } else { false }
 }
 
 fn test(call: u32) -> bool {

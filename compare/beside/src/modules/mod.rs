@@ -7,6 +7,7 @@ mod bounds;
 mod evaluate;
 mod interval;
 mod knots;
+mod listed;
 mod timed;
 
 /// A block of a run: its place and how many cases it has.

@@ -1,6 +1,74 @@
 //! The list that crates/replay_knots reads.
+use super::calls::{Run, clamp, next, span};
+use crate::modules::listed::{self, Listed, word};
+use crate::rng::Rng;
+use crate::tables::make::{self, Care};
 use std::io::{Result, Write};
 
-pub fn write(_stdin: &mut dyn Write, _stdout: &mut dyn Write) -> Result<()> {
-    Ok(())
+const TRIED: u64 = 200_000;
+/// Fewer high degrees than a run has, so that the list stays short.
+const CARE: Care = Care { steep: [300, 300, 200, 60, 10, 4], broken: 32, long: 6000 };
+
+/// A degree, a count and a run of knots, with a parameter.
+fn on_knots(r: &mut Rng, answer: impl Fn(&mut Rng, &Run, &mut Vec<u64>) -> u32) -> Option<Listed> {
+    let c = make::curve(r, &CARE);
+    let k = Run { degree: c.degree, count: super::count(r, &c), knots: &c.knots };
+    let mut words = vec![k.degree as u64, k.count as u64];
+    listed::run(&mut words, &c.knots);
+    let answer = answer(r, &k, &mut words);
+    (c.knots.len() <= 512).then_some(Listed { words, answer })
+}
+
+fn case(r: &mut Rng, call: &str) -> Option<Listed> {
+    match call {
+        "curve" => {
+            let c = make::curve(r, &CARE);
+            let mut words = listed::curve(&c)?;
+            let answer = c.rust().err().unwrap_or(0);
+            words.push(answer as u64);
+            Some(Listed { words, answer })
+        }
+        "surface" => {
+            let s = make::surface(r, &CARE);
+            let mut words = listed::surface(&s)?;
+            let answer = s.rust().err().unwrap_or(0);
+            words.extend([answer as u64 % 100, (answer as u64 / 100 + 2) % 3]);
+            Some(Listed { words, answer })
+        }
+        "find_span" => on_knots(r, |r, k, words| {
+            let u = make::parameter(r, k.knots);
+            let answer = span(k, u);
+            words.extend([word(u), answer.err().unwrap_or(0) as u64, answer.unwrap_or(0) as u64]);
+            answer.err().unwrap_or(0)
+        }),
+        "next_span" => on_knots(r, |r, k, words| {
+            let from = r.below(k.knots.len() as u64 + 2) as usize;
+            let answer = next(k, from);
+            words.extend([from as u64, answer.unwrap_or(k.count) as u64]);
+            answer.is_none() as u32
+        }),
+        _ => on_knots(r, |r, k, words| {
+            let u = make::parameter(r, k.knots);
+            let answer = clamp(k, u);
+            words.extend([word(u), word(answer)]);
+            if answer > u { 1 } else { 2 * (answer < u) as u32 }
+        }),
+    }
+}
+
+pub fn write(stdin: &mut dyn Write, stdout: &mut dyn Write) -> Result<()> {
+    for (at, (call, each)) in
+        [("curve", 16), ("surface", 9), ("find_span", 16), ("next_span", 80), ("clamp", 60)].iter().enumerate()
+    {
+        let mut r = Rng::new(1, at as u64);
+        let tried = (0..TRIED).filter_map(|_| case(&mut r, call));
+        listed::write(stdin, stdout, call, &listed::chosen(tried, 240, *each))?;
+    }
+    let classes: Vec<Listed> = (0..40u32)
+        .map(|n| {
+            let class = if (1..=33).contains(&n) { "IDUCN".find(oracle::class_of(n)).expect("a class") as u64 } else { 5 };
+            Listed { words: vec![n as u64, class], answer: 0 }
+        })
+        .collect();
+    listed::write(stdin, stdout, "class_of", &classes)
 }

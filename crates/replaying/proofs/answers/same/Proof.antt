@@ -2,8 +2,8 @@ use mathlib.Core.Path.{sym, _∙_, subst}
 use mathlib.Core.Bool.{Bool, not}
 use lib.Dec.{T}
 use borrow.Author.Needs.{needs}
-use Rattle.replay_interval.proofs.calls.same.Statement.{statement}
-use Rattle.replay_interval.proofs.calls.same.Tie as tie
+use Rattle.replaying.proofs.answers.same.Statement.{statement}
+use Rattle.replaying.proofs.answers.same.Tie as tie
 
 is-nan-requires : tie.Need-is-nan-requires
 is-nan-requires c κs = search needs

@@ -5,8 +5,8 @@ use lib.Ieee.{Float, nan, inf, fin, binary64, div, ofBits, isNan}
 use lib.Ieee.Bits.{nanBits-is, nanBits-above}
 use borrow.Author.Needs.{needs}
 use borrow.Author.Tests.{lt-ltb, le-ltb}
-use Rattle.replay_interval.proofs.words.double_of.Statement.{statement}
-use Rattle.replay_interval.proofs.words.double_of.Tie as tie
+use Rattle.replaying.proofs.words.double_of.Statement.{statement}
+use Rattle.replaying.proofs.words.double_of.Tie as tie
 
 only-nan : (x : Float) → isNan x ≡ true → nan ≡ x
 unfolding isNan

@@ -1,0 +1,100 @@
+//! Lists of tables and answers as words: what the replaying crates read.
+use crate::tables::{Curve, Surface};
+use std::collections::BTreeMap;
+use std::io::{Result, Write};
+
+/// The most numbers of a run that a replaying crate has room for.
+const ROOM: usize = 512;
+
+/// One pattern for every NaN, so that every machine writes one list.
+pub fn word(x: f64) -> u64 {
+    if x.is_nan() { 0x7ff8_0000_0000_0000 } else { x.to_bits() }
+}
+
+/// A case in words, of which the first is a degree, and what it answers.
+pub struct Listed {
+    pub words: Vec<u64>,
+    pub answer: u32,
+}
+
+pub fn run(words: &mut Vec<u64>, run: &[f64]) {
+    words.push(run.len() as u64);
+    words.extend(run.iter().map(|x| word(*x)));
+}
+
+pub fn curve(c: &Curve) -> Option<Vec<u64>> {
+    if [&c.knots, &c.points, &c.weights].iter().any(|r| r.len() > ROOM) {
+        return None;
+    }
+    let mut words = vec![c.degree as u64];
+    run(&mut words, &c.knots);
+    run(&mut words, &c.points);
+    words.push(c.rational as u64);
+    run(&mut words, if c.rational { &c.weights } else { &[] });
+    Some(words)
+}
+
+pub fn surface(s: &Surface) -> Option<Vec<u64>> {
+    if [&s.knots[0], &s.knots[1], &s.points, &s.weights].iter().any(|r| r.len() > ROOM) {
+        return None;
+    }
+    let mut words: Vec<u64> = s.degrees.iter().map(|d| *d as u64).collect();
+    run(&mut words, &s.knots[0]);
+    run(&mut words, &s.knots[1]);
+    words.extend(s.counts.iter().map(|n| *n as u64));
+    run(&mut words, &s.points);
+    words.push(s.rational as u64);
+    run(&mut words, if s.rational { &s.weights } else { &[] });
+    Some(words)
+}
+
+/// How many cases of an answer are looked at for each that is kept.
+const LOOKED_AT: usize = 8;
+
+/// `each` cases of every refusal, and of the answer 0 all that are left of `cases`: of each the degrees in turn, and of
+/// a refusal the shortest.
+pub fn chosen(tried: impl Iterator<Item = Listed>, cases: usize, each: usize) -> Vec<Listed> {
+    let mut by: BTreeMap<u32, Vec<Listed>> = BTreeMap::new();
+    for case in tried {
+        let most = LOOKED_AT * if case.answer == 0 { cases } else { each };
+        let of = by.entry(case.answer).or_default();
+        if of.len() < most {
+            of.push(case);
+        }
+    }
+    let answered = by.remove(&0).unwrap_or_default();
+    let mut kept: Vec<Listed> = Vec::new();
+    for (_, mut of) in by {
+        of.sort_by_key(|c| c.words.len());
+        of.truncate(2 * each);
+        kept.extend(in_turn(of, each));
+    }
+    let left = cases.saturating_sub(kept.len());
+    kept.extend(in_turn(answered, left));
+    kept
+}
+
+/// The first of every degree, then the second, and so on.
+fn in_turn(of: Vec<Listed>, most: usize) -> Vec<Listed> {
+    let mut met: BTreeMap<u64, usize> = BTreeMap::new();
+    let mut ranked: Vec<(usize, Listed)> = of
+        .into_iter()
+        .map(|c| {
+            let rank = met.entry(c.words[0]).or_default();
+            *rank += 1;
+            (*rank, c)
+        })
+        .collect();
+    ranked.sort_by_key(|c| c.0);
+    ranked.into_iter().take(most).map(|c| c.1).collect()
+}
+
+/// A heading of ten bytes and the number of cases, then a case a line; and the line that is to be printed.
+pub fn write(stdin: &mut dyn Write, stdout: &mut dyn Write, name: &str, cases: &[Listed]) -> Result<()> {
+    writeln!(stdin, "{name:<10}{:016x}", cases.len())?;
+    for c in cases {
+        let line: Vec<String> = c.words.iter().map(|w| format!("{w:016x}")).collect();
+        writeln!(stdin, "{}", line.join(" "))?;
+    }
+    writeln!(stdout, "{name:<10}{} cases, 0 differ", cases.len())
+}
