@@ -64,7 +64,7 @@ fn main() -> ExitCode {
         return ExitCode::from(2);
     }
     if let Some(crates) = &o.lists {
-        return picked.iter().filter(|m| m.replayed()).map(|m| write_list(*m, crates)).find(|c| *c != ExitCode::SUCCESS).unwrap_or(ExitCode::SUCCESS);
+        return picked.iter().map(|m| write_list(*m, crates)).find(|c| *c != ExitCode::SUCCESS).unwrap_or(ExitCode::SUCCESS);
     }
     if o.bench {
         picked.iter().for_each(|m| m.bench(o.rounds));

@@ -1,6 +1,7 @@
 //! Modules 3 and 4: points and derivatives of curves and surfaces, reversal, isocurves.
 mod bench;
 mod calls;
+mod list;
 
 use super::{Block, Module};
 use crate::doubles::kind;
@@ -61,12 +62,8 @@ impl Module for Evaluate {
         }
     }
 
-    fn replayed(&self) -> bool {
-        false
-    }
-
-    fn list(&self, _stdin: &mut dyn Write, _stdout: &mut dyn Write) -> Result<()> {
-        Ok(())
+    fn list(&self, stdin: &mut dyn Write, stdout: &mut dyn Write) -> Result<()> {
+        list::write(stdin, stdout)
     }
 
     fn bench(&self, rounds: u32) {

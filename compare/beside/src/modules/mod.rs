@@ -27,10 +27,6 @@ pub trait Module: Sync {
     /// How many cases a run has where the command does not say.
     fn default_cases(&self) -> u64;
     fn run(&self, r: &mut Rng, block: Block, tally: &mut Tally);
-    /// There is a program crate `crates/replay_NAME`.
-    fn replayed(&self) -> bool {
-        true
-    }
     /// Writes the list that `crates/replay_NAME` reads, and the lines that it then has to print.
     fn list(&self, stdin: &mut dyn Write, stdout: &mut dyn Write) -> Result<()>;
     /// Prints times against the Rust, the best of `rounds`.
