@@ -147,6 +147,9 @@ uint64_t tasulogi_find_span(size_t degree, size_t count, const double *knots, si
 /* The first nonempty span from `from` on, in degree..=count-1, or `count` where there is none. Any knots are taken. */
 size_t tasulogi_next_span(size_t degree, size_t count, const double *knots, size_t knots_n, size_t from);
 
+/* The search alone, on knots that were validated before; on others some place, or the degree. */
+size_t tasulogi_span_of(size_t degree, size_t count, double u, const double *knots, size_t knots_n);
+
 /* u, or the nearer end of the domain where u lies outside; a NaN stays one, a zero keeps its sign. */
 double tasulogi_clamp(size_t degree, size_t count, double u, const double *knots, size_t knots_n);
 
@@ -174,6 +177,12 @@ void tasulogi_basis_derivatives(size_t span, double u, size_t degree, size_t n, 
 /* The point and the first derivative: 6 numbers. A parameter outside the domain becomes the nearer end. Refusals in
  * this order: those of the curve, 31, 12, then 30 for the lent run. */
 uint32_t tasulogi_eval(
+    size_t degree, const double *knots, size_t knots_n, const double *points, size_t points_n, bool rational,
+    const double *weights, size_t weights_n,
+    double t, double *out, size_t n);
+
+/* The same of a curve that was validated before: only lengths, the degree and the parameter are looked at. */
+uint32_t tasulogi_eval_at(
     size_t degree, const double *knots, size_t knots_n, const double *points, size_t points_n, bool rational,
     const double *weights, size_t weights_n,
     double t, double *out, size_t n);

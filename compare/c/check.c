@@ -113,6 +113,7 @@ static void spans(void)
     for (int i = 0; i < 6; i++) {
         expect(tasulogi_find_span(2, 4, knots, 7, u[i]) == at[i], "spans of A, and outside its domain");
     }
+    expect(tasulogi_span_of(2, 4, 0.5, knots, 7) == 2 && tasulogi_span_of(2, 4, 2.0, knots, 7) == 3, "the search alone");
     expect(TASULOGI_SPAN_REFUSAL(tasulogi_find_span(2, 4, knots, 7, NAN)) == 12, "a NaN parameter");
     expect(tasulogi_next_span(2, 4, knots, 7, 0) == 2 && tasulogi_next_span(2, 4, knots, 7, 3) == 3, "next_span");
     expect(tasulogi_next_span(2, 4, knots, 7, 4) == 4, "no next span");
@@ -139,6 +140,7 @@ static void evaluations(void)
     out[6] = 7.0;
     expect(tasulogi_eval(2, knots, 7, points, 12, false, none, 0, 0.5, out, 7) == TASULOGI_DONE, "a point of A");
     expect(same(out[0], 1.75) && same(out[3], 3.0) && same(out[6], 0.0), "A at 0.5, its derivative, and the tail");
+    expect(tasulogi_eval_at(2, knots, 7, points, 12, false, none, 0, 0.5, out, 6) == TASULOGI_DONE && same(out[0], 1.75), "without validation");
     expect(tasulogi_eval(2, knots, 7, points, 12, false, none, 0, NAN, out, 6) == 12 && same(out[0], 0.0), "at a NaN");
     expect(tasulogi_eval(2, knots, 7, points, 12, false, none, 0, 0.5, out, 5) == TASULOGI_TOO_LITTLE_ROOM, "a point one short");
     expect(tasulogi_eval2(2, knots, 7, points, 12, false, none, 0, 0.5, out, 9) == TASULOGI_DONE && same(out[6], -2.0), "second derivative");

@@ -51,6 +51,7 @@ unsafe extern "C" {
     ) -> u32;
     pub fn tasulogi_find_span(degree: usize, count: usize, knots: *const f64, knots_n: usize, u: f64) -> u64;
     pub fn tasulogi_next_span(degree: usize, count: usize, knots: *const f64, knots_n: usize, from: usize) -> usize;
+    pub fn tasulogi_span_of(degree: usize, count: usize, u: f64, knots: *const f64, knots_n: usize) -> usize;
     pub fn tasulogi_clamp(degree: usize, count: usize, u: f64, knots: *const f64, knots_n: usize) -> f64;
     pub fn tasulogi_bound_curve(
         degree: usize,
@@ -98,6 +99,19 @@ unsafe extern "C" {
         out_n: usize,
     );
     pub fn tasulogi_eval(
+        degree: usize,
+        knots: *const f64,
+        knots_n: usize,
+        points: *const f64,
+        points_n: usize,
+        rational: bool,
+        weights: *const f64,
+        weights_n: usize,
+        t: f64,
+        out: *mut f64,
+        n: usize,
+    ) -> u32;
+    pub fn tasulogi_eval_at(
         degree: usize,
         knots: *const f64,
         knots_n: usize,

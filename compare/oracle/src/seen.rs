@@ -21,7 +21,8 @@ fn surface(knots: &[f64], x: f64, weight: f64) -> BSurface {
 }
 
 fn entire(c: &BCurve, lo: f64, hi: f64) -> bool {
-    bound_curve(c, ParamRange::bounded(lo, hi)).is_ok_and(|b| b.point[0].lo() == f64::NEG_INFINITY && b.point[0].hi() == f64::INFINITY)
+    bound_curve(c, ParamRange::bounded(lo, hi))
+        .is_ok_and(|b| b.point[0].lo() == f64::NEG_INFINITY && b.point[0].hi() == f64::INFINITY)
 }
 
 /// Each row by name, and whether the Rust still does it.

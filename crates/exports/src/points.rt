@@ -4,6 +4,7 @@ use crate::tables::packed;
 use basis::ders::basis_derivatives;
 use evaluate::curve::CurveAnswer;
 use evaluate::curve::eval;
+use evaluate::curve::eval_at;
 use evaluate::curve2::CurveAnswer2;
 use evaluate::curve2::eval2;
 use evaluate::surface::SurfaceAnswer;
@@ -14,7 +15,7 @@ ghost use mathlib.Core.Path.{_≡_};
 ghost use Prim.Native.Nat.{_+_, _<_};
 ghost use lib.ListN.{length};
 ghost use Rattle.basis.specs.Ders.{basisTable};
-ghost use Rattle.evaluate.specs.Curve.{evalOf};
+ghost use Rattle.evaluate.specs.Curve.{evalOf, evalAtOf};
 ghost use Rattle.evaluate.specs.Curve2.{eval2Of};
 ghost use Rattle.evaluate.specs.Surface.{evalSurfaceOf};
 ghost use Rattle.exports.specs.Answer.{Leaves, values};
@@ -85,6 +86,25 @@ pub extern "C" fn tasulogi_eval(
     ensures { λ r. ⌜ Leaves (curveAnswer (evalOf degree (now (knots .entry)) (now (points .entry)) rational (now (weights .entry)) t)) (now (out .entry)) (now (out .exit)) r ⌝ }
 {
     match eval(degree, knots, points, rational, weights, t) {
+        CurveAnswer::At(d) => put_vectors(out, d.point, d.d1),
+        CurveAnswer::Refused(r) => refuse(out, packed(r)),
+    }
+}
+
+// The same of a curve that was validated before.
+#[no_mangle]
+pub extern "C" fn tasulogi_eval_at(
+    degree: usize,
+    knots: &[f64],
+    points: &[f64],
+    rational: bool,
+    weights: &[f64],
+    t: f64,
+    out: &mut [f64],
+) -> u32
+    ensures { λ r. ⌜ Leaves (curveAnswer (evalAtOf degree (now (knots .entry)) (now (points .entry)) rational (now (weights .entry)) t)) (now (out .entry)) (now (out .exit)) r ⌝ }
+{
+    match eval_at(degree, knots, points, rational, weights, t) {
         CurveAnswer::At(d) => put_vectors(out, d.point, d.d1),
         CurveAnswer::Refused(r) => refuse(out, packed(r)),
     }

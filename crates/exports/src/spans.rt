@@ -3,10 +3,11 @@ use knots::refusal::Refusal;
 use knots::span::SpanAnswer;
 use knots::span::clamp;
 use knots::span::find_span;
+use knots::span::span_of;
 use knots::walk::NextSpan;
 use knots::walk::next_span;
 ghost use mathlib.Core.Path.{_≡_};
-ghost use Rattle.knots.specs.Span.{clamped, spanAnswer};
+ghost use Rattle.knots.specs.Span.{clamped, spanAnswer, SpanFound};
 ghost use Rattle.knots.specs.Walk.{nextSpan};
 ghost use Rattle.exports.specs.Tables.{spanNumber, nextNumber, highOf};
 
@@ -52,4 +53,12 @@ pub extern "C" fn tasulogi_clamp(degree: usize, count: usize, u: f64, knots: &[f
     ensures { λ r. ⌜ r ≡ clamped degree count (now (knots .entry)) u ⌝ }
 {
     clamp(degree, count, u, knots)
+}
+
+// The search alone: on knots validated before, the span of a parameter of the domain.
+#[no_mangle]
+pub extern "C" fn tasulogi_span_of(degree: usize, count: usize, u: f64, knots: &[f64]) -> usize
+    ensures { λ r. ⌜ SpanFound degree count (now (knots .entry)) u r ⌝ }
+{
+    span_of(degree, count, u, knots)
 }

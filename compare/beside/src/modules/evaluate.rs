@@ -18,15 +18,13 @@ pub struct Evaluate;
 const CARE: Care = Care { steep: [300, 300, 200, 100, 20, 20], broken: 6, long: 20_000 };
 const SURFACE_CARE: Care = Care { steep: [400, 300, 100, 30, 5, 5], broken: 8, long: 8000 };
 
-const CALLS: [(&str, &[u32]); 5] = [
+const CALLS: [(&str, &[u32]); 6] = [
     ("eval", &[0, 1, 2, 3, 4, 5, 6, 7, 8, 9, 10, 12, 30, 31, 32]),
     ("eval2", &[0, 1, 2, 3, 4, 5, 6, 7, 8, 9, 10, 12, 21, 30, 31, 32]),
     ("eval_surface", &[0, 8, 9, 10, 11, 12, 30, 31, 32, 101, 102, 103, 104, 105, 106, 107, 201, 202, 203, 204, 205, 206, 207]),
     ("reversed", &[0, 1, 2, 3, 4, 5, 6, 7, 8, 9, 10, 30, 32]),
-    (
-        "iso_curve",
-        &[0, 8, 9, 10, 11, 22, 23, 30, 31, 32, 101, 102, 103, 104, 105, 106, 107, 201, 202, 203, 204, 205, 206, 207],
-    ),
+    ("iso_curve", &[0, 8, 9, 10, 11, 22, 23, 30, 31, 32, 101, 102, 103, 104, 105, 106, 107, 201, 202, 203, 204, 205, 206, 207]),
+    ("eval_at", &[0, 12, 30, 31]),
 ];
 
 impl Module for Evaluate {
@@ -49,11 +47,12 @@ impl Module for Evaluate {
     fn run(&self, r: &mut Rng, block: Block, tally: &mut Tally) {
         let mut lent = [Lent::default(), Lent::default(), Lent::default()];
         for case in 0..block.cases {
-            let text = match r.below(5) {
+            let text = match r.below(6) {
                 0 => point(r, Order::One, &mut lent, tally),
                 1 => point(r, Order::Two, &mut lent, tally),
                 2 => surface_point(r, &mut lent, tally),
                 3 => reversed(r, &mut lent, tally),
+                4 => validated_point(r, &mut lent, tally),
                 _ => iso_curve(r, &mut lent, tally),
             };
             if let Some(text) = text {
@@ -144,6 +143,15 @@ fn point(r: &mut Rng, order: Order, lent: &mut [Lent], tally: &mut Tally) -> Opt
     let (row, need) = if order == Order::One { (0, 6) } else { (1, 9) };
     let text = compared(r, row, &case.rust_point(order), &[need], |l| case.ours_point(order, l[0]), lent, tally)?;
     Some(format!("{}\n  Rust literal:  {}, at {}\n{text}", CALLS[row].0, case.table.literal(), double_literal(case.t)))
+}
+
+/// Only tables that are valid: on others the call is total, and the Rust has no answer.
+fn validated_point(r: &mut Rng, lent: &mut [Lent], tally: &mut Tally) -> Option<String> {
+    let case = made_curve(r, tally);
+    case.table.rust().ok()?;
+    let order = Order::Validated;
+    let text = compared(r, 5, &case.rust_point(order), &[6], |l| case.ours_point(order, l[0]), lent, tally)?;
+    Some(format!("eval_at\n  Rust literal:  {}, at {}\n{text}", case.table.literal(), double_literal(case.t)))
 }
 
 fn surface_point(r: &mut Rng, lent: &mut [Lent], tally: &mut Tally) -> Option<String> {

@@ -1,5 +1,5 @@
-//! Times of the basis step by degree, and of whole evaluations by the number of knots. Ours validate the table at each
-//! call; the Rust's are given a valid one, and once more with the making of it counted.
+//! Times of the basis step by degree, and of whole evaluations by the number of knots. `eval_at` is beside the Rust on
+//! a valid table (`the Rust`); `eval` and `eval2` validate at each call, as the Rust does `with new`.
 use super::calls::{CurveCase, Order};
 use crate::face::tasulogi_basis_derivatives;
 use crate::modules::timed::time;
@@ -47,7 +47,7 @@ fn basis(rounds: u32) {
 fn points(rounds: u32) {
     println!("{:<34} {:>12} {:>12} {:>12} {:>8} {:>12}", "ns", "ours", "the Rust", "with new", "ratio", "to with new");
     let mut out = [0.0; 9];
-    for (order, name) in [(Order::One, "eval"), (Order::Two, "eval2")] {
+    for (order, name) in [(Order::Validated, "eval_at"), (Order::One, "eval"), (Order::Two, "eval2")] {
         for knots in [10, 1_000, 100_000] {
             let mut r = Rng::new(7, knots as u64);
             let table = curve(&mut r, 3, knots);
@@ -61,7 +61,7 @@ fn points(rounds: u32) {
                 out[0]
             });
             let x = |c: &oracle::BCurve, t: f64| {
-                if order == Order::One { c.eval(t).point.x } else { c.eval2(t).map_or(0.0, |d| d.point.x) }
+                if order != Order::Two { c.eval(t).point.x } else { c.eval2(t).map_or(0.0, |d| d.point.x) }
             };
             let rust = time(rounds, calls, &cases, |c| x(&made, c.t));
             let new = time(rounds, calls, &cases, |c| x(&c.table.rust().expect("valid"), c.t));

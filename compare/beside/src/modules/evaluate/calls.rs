@@ -18,6 +18,8 @@ pub enum Wanted {
 #[derive(Clone, Copy, PartialEq, Eq)]
 pub enum Order {
     One,
+    /// One derivative, of a table that was validated before.
+    Validated,
     Two,
 }
 
@@ -59,7 +61,7 @@ impl CurveCase {
             Err(n) => Wanted::Refused(n),
             Ok(_) if self.table.degree > HIGHEST => Wanted::Refused(31),
             Ok(_) if !self.t.is_finite() => Wanted::Refused(12),
-            Ok(c) if order == Order::One => {
+            Ok(c) if order != Order::Two => {
                 let d = c.eval(self.t);
                 run(&[point(d.point), vector(d.d1)])
             }
@@ -73,22 +75,12 @@ impl CurveCase {
     pub fn ours_point(&self, order: Order, out: (*mut f64, usize)) -> u32 {
         let c = &self.table;
         let (k, p, w) = (&c.knots, &c.points, &c.weights);
-        let call = if order == Order::One { tasulogi_eval } else { tasulogi_eval2 };
-        unsafe {
-            call(
-                c.degree,
-                k.as_ptr(),
-                k.len(),
-                p.as_ptr(),
-                p.len(),
-                c.rational,
-                w.as_ptr(),
-                w.len(),
-                self.t,
-                out.0,
-                out.1,
-            )
-        }
+        let call = match order {
+            Order::One => tasulogi_eval,
+            Order::Validated => tasulogi_eval_at,
+            Order::Two => tasulogi_eval2,
+        };
+        unsafe { call(c.degree, k.as_ptr(), k.len(), p.as_ptr(), p.len(), c.rational, w.as_ptr(), w.len(), self.t, out.0, out.1) }
     }
 
     pub fn rust_reversed(&self) -> Wanted {

@@ -1,5 +1,6 @@
 //! Times of find_span and of curve validation, for tables of 10, 1,000 and 100,000 knots.
 use super::calls::{Run, our_curve, our_span};
+use crate::face::tasulogi_span_of;
 use crate::modules::timed::time;
 use crate::rng::Rng;
 use crate::tables::Curve;
@@ -34,7 +35,10 @@ pub fn table(rounds: u32) {
         let calls = (40_000_000 / knots).clamp(200, 400_000);
         let ours = time(rounds, calls.min(us.len() * 400), &us[..calls.min(1024)], |&u| our_span(&k, u) as f64);
         let search = time(rounds, 400_000, &us, |&u| find_span(k.count - 1, DEGREE, u, k.knots) as f64);
-        table_of(&format!("find_span, {knots} knots (search alone)"), ours, search);
+        table_of(&format!("find_span, {knots} knots, validated"), ours, search);
+        let (at, n) = (c.knots.as_ptr(), c.knots.len());
+        let alone = time(rounds, 400_000, &us, |&u| unsafe { tasulogi_span_of(DEGREE, k.count, u, at, n) } as f64);
+        table_of(&format!("span_of, {knots} knots"), alone, search);
         let ours = time(rounds, calls / 4, &[&c], |c| our_curve(c) as f64);
         let points: Vec<Point3> = c.points.chunks_exact(3).map(|p| Point3::new(p[0], p[1], p[2])).collect();
         let new = time(rounds, calls / 4, &[&c], |c| {
