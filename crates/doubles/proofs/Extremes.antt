@@ -1,11 +1,14 @@
 -- The smaller and the larger of two doubles that are no NaN, and of four. Assumes nothing.
+use mathlib.Core.Path.{_≡_, refl}
 use mathlib.Core.Bool.{Bool, true, false, not, _||_, cond}
 use lib.Dec.{T, not-T}
-use lib.Ieee.{Float, inf, Format, fits, isNan, lt}
+use lib.Ieee.{Float, nan, inf, fin, Format, fits, isNan, lt}
 use lib.Ieee.Fits.{inf-fits, cond-fits}
+use lib.Ieee.Bits.{is-false}
 use Rattle.doubles.specs.Value.{Number, _⊑_}
 use Rattle.doubles.specs.Neighbour.{fmin, fmax, least4, greatest4}
-use Rattle.doubles.proofs.Order.{⊑-trans, lt-irrefl, lt-asym}
+use Rattle.doubles.proofs.Tests.{Tn-of}
+use Rattle.doubles.proofs.Order.{⊑-trans, lt-irrefl, lt-asym, lt-left, lt-right}
 
 -- m is no NaN, and stands in the relation R to both
 pub record Picked (R : Float → Float → Type 0) (a b m : Float) : Type 0 where
@@ -35,6 +38,34 @@ module _ (a b : Float) (na : Number a) (nb : Number b) where
       go true n e h g = record { number = nb; first = h tt; second = lt-irrefl b }
       go false true e h g = absurd e
       go false false e h g = record { number = na; first = lt-irrefl a; second = g (λ t. t) }
+
+-- the choice is no NaN where the first is none
+picked-number : (a b : Float) (k n : Bool) → Number a → T (not n) → (T k → Number b) → Number (cond (k || n) b a)
+picked-number a b true n h e g = g tt
+picked-number a b false true h e g = absurd e
+picked-number a b false false h e g = h
+
+module _ (a b : Float) (h : isNan a ≡ false) where
+  pub min-number : isNan (fmin a b) ≡ false
+  min-number = is-false (isNan (fmin a b)) (picked-number a b (lt b a) (isNan a) (Tn-of (isNan a) h) (Tn-of (isNan a) h) (lt-left b a))
+
+  pub max-number : isNan (fmax a b) ≡ false
+  max-number = is-false (isNan (fmax a b)) (picked-number a b (lt a b) (isNan a) (Tn-of (isNan a) h) (Tn-of (isNan a) h) (lt-right a b))
+
+-- a fold's first step takes the number
+pub min-first : (p : Float) → Number p → fmin (inf false) p ≡ p
+unfolding lt isNan
+min-first nan n = absurd n
+min-first (inf true) n = refl
+min-first (inf false) n = refl
+min-first (fin s m e) n = refl
+
+pub max-first : (p : Float) → Number p → fmax (inf true) p ≡ p
+unfolding lt isNan
+max-first nan n = absurd n
+max-first (inf true) n = refl
+max-first (inf false) n = refl
+max-first (fin s m e) n = refl
 
 -- ---- of four
 pub record Four (P : Float → Type 0) (p q r s : Float) : Type 0 where

@@ -48,7 +48,7 @@ not-top : (s : Bool) (b : Bool) → Plus (cond b (inf s) nan) → ⊥
 not-top s true p = p
 not-top s false p = p
 
-infPat<top : (f : Format) → infPat f < top f
+pub infPat<top : (f : Format) → infPat f < top f
 infPat<top f = lt-of-lt-of-le (go (ones f * hid f) (hid f) (hid-pos f)) (le-of-eq (suc-mul' (ones f) (hid f) ∙ mul-comm (suc (ones f)) (hid f)))
   where
     go : (a h : ℕ) → 0 < h → a < a + h
@@ -173,7 +173,7 @@ signed-suc (suc n) h = ap (λ (z : ℕ). signed true z) (pred n) ∙ go n
     go zero = refl
     go (suc n) = refl
 
-infPat-pos : (f : Format) → 0 < infPat f
+pub infPat-pos : (f : Format) → 0 < infPat f
 infPat-pos f = mul-pos (go (emax f)) (hid-pos f)
   where
     go : (e : ℕ) → 0 < 2 * e + 1
@@ -192,7 +192,7 @@ Above f y z = (s : Bool) × (b : ℕ) × (y ≡ ofBits f (cond s (top f) 0 + b))
 down-neg : (f : Format) (n b : ℕ) → n ≡ top f + b → 0 < b → b ≤ infPat f → Above f (ofBits f (n - 1)) (sucℤ (signed true b))
 down-neg f n b e p h = (true, b - 1, ap (ofBits f) (ap (λ (z : ℕ). z - 1) e ∙ minus-one (top f) b p), pred-le b (infPat f) h, signed-suc b p)
 
-toBits-inf : (f : Format) → toBits f (inf true) ≡ top f + infPat f
+pub toBits-inf : (f : Format) → toBits f (inf true) ≡ top f + infPat f
 unfolding toBits
 toBits-inf f = refl
 

@@ -1,4 +1,5 @@
 // Methods of Rust's f64, over bits and comparison. Each is total: it says what it does with NaN, infinities and both zeros.
+use crate::step::above;
 ghost use mathlib.Core.Path.{_≡_};
 ghost use mathlib.Core.Bool.{false};
 ghost use lib.Ieee.{isNan, inf};
@@ -29,21 +30,7 @@ pub fn is_finite(x: f64) -> bool
 pub fn next_up(x: f64) -> f64
     ensures { λ r. ⌜ r ≡ nextUp x ⌝ }
 {
-    if x == x {
-        if x == 0.0 {
-            return f64::from_bits(1);
-        }
-        let b = f64::to_bits(x);
-        if x < 0.0 {
-            return f64::from_bits(b - 1);
-        }
-        if b == 0x7ff0_0000_0000_0000 {
-            return x;
-        }
-        f64::from_bits(b + 1)
-    } else {
-        x
-    }
+    if x == x { above(x) } else { x }
 }
 
 // The greatest double below x.

@@ -6,11 +6,17 @@ use crate::float::max;
 use crate::float::min;
 use crate::float::next_down;
 use crate::float::next_up;
+use crate::step::above;
+use crate::step::below;
+use crate::step::least;
+use crate::step::most;
 ghost use mathlib.Core.Path.{_≡_};
+ghost use Rattle.doubles.specs.Neighbour.{nextUp, nextDown};
 ghost use Rattle.interval.specs.Ops.{entire, newOf, pointOf, widthOf, containsOf, hullOf, signOf, checkedOf, sqrOf, addOf, subOf, mulOf, negOf, someNan, divideOf};
 
 pub mod float;
 pub mod place;
+mod step;
 
 // A closed interval that holds the exact value it stands for.
 pub struct Interval {
@@ -148,16 +154,32 @@ impl Interval {
         Interval { lo, hi }
     }
 
+    // Both ends of an operation, rounded to nearest, one step outward.
+    fn outward(lo: f64, hi: f64) -> Interval
+        ensures { λ r. ⌜ r ≡ checkedOf (nextDown lo) (nextUp hi) ⌝ }
+    {
+        if is_nan(lo) {
+            return Interval::entire();
+        }
+        if is_nan(hi) {
+            return Interval::entire();
+        }
+        Interval {
+            lo: below(lo),
+            hi: above(hi),
+        }
+    }
+
     pub fn add(self, o: Interval) -> Interval
         ensures { λ r. ⌜ r ≡ addOf self o ⌝ }
     {
-        Interval::checked(next_down(self.lo + o.lo), next_up(self.hi + o.hi))
+        Interval::outward(self.lo + o.lo, self.hi + o.hi)
     }
 
     pub fn sub(self, o: Interval) -> Interval
         ensures { λ r. ⌜ r ≡ subOf self o ⌝ }
     {
-        Interval::checked(next_down(self.lo - o.hi), next_up(self.hi - o.lo))
+        Interval::outward(self.lo - o.hi, self.hi - o.lo)
     }
 
     pub fn mul(self, o: Interval) -> Interval
@@ -170,10 +192,9 @@ impl Interval {
         if some_nan(p, q, r, s) {
             return Interval::entire();
         }
-        let i = infinity();
-        let lo = min(min(min(min(i, p), q), r), s);
-        let hi = max(max(max(max(-i, p), q), r), s);
-        Interval::checked(next_down(lo), next_up(hi))
+        let lo = least(least(least(p, q), r), s);
+        let hi = most(most(most(p, q), r), s);
+        Interval::outward(lo, hi)
     }
 
     pub fn neg(self) -> Interval

@@ -1,33 +1,17 @@
-use Rattle.interval.specs.Ops.{addOf, checkedOf}
-use Rattle.doubles.specs.Neighbour.{nextDown}
-use lib.Ieee.{Float, binary64, add}
-use mathlib.Core.Path.{_≡_, refl, sym, ap, _∙_, subst}
+use Rattle.interval.specs.Ops.{addOf}
 use borrow.Author.Needs.{needs}
 use Rattle.interval.proofs.Interval.add.Statement.{statement}
 use Rattle.interval.proofs.Interval.add.Tie as tie
 use Rattle.interval.proofs.Interval.add.Reads as reads
 use Rattle.interval.proofs.Interval.add.Lts as lts
-use Rattle.interval.proofs.Interval.checked.Reads as checked-reads
-use Rattle.interval.proofs.float.next_down.Reads as next-down-reads
-use Rattle.interval.proofs.float.next_up.Reads as next-up-reads
+use Rattle.interval.proofs.Interval.outward.Reads as outward-reads
 
-next-down-requires : tie.Need-next-down-requires
-next-down-requires c κs = search needs
-
-next-up-requires : tie.Need-next-up-requires
-next-up-requires c κs = search needs
-
-checked-requires : tie.Need-checked-requires
-checked-requires c κs = search needs
+outward-requires : tie.Need-outward-requires
+outward-requires c κs = search needs
 
 returns : tie.Need-returns
 unfolding addOf
-returns c =
-    let a = c .before .before .before .before .before .before .before .args .self in
-    let o = c .before .before .before .before .before .before .before .args .o in
-    c .checked .ensures
-    ∙ ap (λ (z : Float). checkedOf z (c .before .next-up .result)) (c .before .before .before .before .next-down .ensures)
-    ∙ ap (λ (z : Float). checkedOf (nextDown (add binary64 (a .lo) (o .lo))) z) (c .before .next-up .ensures)
+returns c = search needs
 
 pub add-spec : {M : Type 1} → statement M
-add-spec = tie.close (tie.spec next-down-requires next-up-requires checked-requires returns)
+add-spec = tie.close (tie.spec outward-requires returns)

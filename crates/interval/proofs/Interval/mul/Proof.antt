@@ -1,20 +1,25 @@
+use mathlib.Core.Path.{_≡_, sym, ap, _∙_}
+use mathlib.Core.Bool.{false}
+use lib.Ieee.{binary64, isNan}
+use Rattle.doubles.proofs.Tests.{Tn-of}
+use Rattle.doubles.proofs.Products.{Products}
+use Rattle.doubles.proofs.Extremes.{min-number, max-number, min-first, max-first}
 use Rattle.interval.specs.Ops.{mulOf}
-use Rattle.interval.proofs.Facts.{neg-inf}
-use lib.Ieee.{Float, binary64, inf, isNan, nanBits, ofBits, toBits, neg, lt, le, eq, fits}
-use mathlib.Core.Path.{_≡_, refl, sym, ap, _∙_, subst}
+use Rattle.interval.proofs.Facts.{none-nan}
 use borrow.Author.Needs.{needs}
 use Rattle.interval.proofs.Interval.mul.Statement.{statement}
 use Rattle.interval.proofs.Interval.mul.Tie as tie
 use Rattle.interval.proofs.Interval.mul.Reads as reads
 use Rattle.interval.proofs.Interval.mul.Lts as lts
-use Rattle.interval.proofs.Interval.checked.Reads as checked-reads
 use Rattle.interval.proofs.Interval.entire.Reads as entire-reads
-use Rattle.interval.proofs.float.infinity.Reads as infinity-reads
-use Rattle.interval.proofs.float.max.Reads as max-reads
-use Rattle.interval.proofs.float.min.Reads as min-reads
-use Rattle.interval.proofs.float.next_down.Reads as next-down-reads
-use Rattle.interval.proofs.float.next_up.Reads as next-up-reads
+use Rattle.interval.proofs.Interval.outward.Reads as outward-reads
 use Rattle.interval.proofs.some_nan.Reads as some-nan-reads
+use Rattle.interval.proofs.step.least.Reads as least-reads
+use Rattle.interval.proofs.step.most.Reads as most-reads
+
+-- past the test no product is a NaN
+none : (c : tie.Else1) → (let a = c .before .before .before .before .before .before .before .before .before .before .args .self in let o = c .before .before .before .before .before .before .before .before .before .before .args .o in Products (λ x. isNan x ≡ false) binary64 (a .lo) (a .hi) (o .lo) (o .hi))
+none c = none-nan _ _ _ _ (sym (c .before .some-nan .ensures) ∙ c .if1 .left)
 
 some-nan-requires : tie.Need-some-nan-requires
 some-nan-requires c κs = search needs
@@ -26,45 +31,30 @@ returns : tie.Need-returns
 unfolding mulOf
 returns c = rw (← (c .before .before .some-nan .ensures), c .before .if1 .taken) (c .entire .ensures)
 
-infinity-requires : tie.Need-infinity-requires
-infinity-requires c κs = search needs
+least-requires : tie.Need-least-requires
+least-requires c κs = none c .one
 
-min-requires : tie.Need-min-requires
-min-requires c κs = search needs
+least-requires-2 : tie.Need-least-requires-2
+least-requires-2 c κs = ap isNan (c .least .ensures) ∙ min-number _ _ (none (c .before) .one)
 
-min-requires-2 : tie.Need-min-requires-2
-min-requires-2 c κs = search needs
+least-requires-3 : tie.Need-least-requires-3
+least-requires-3 c κs = ap isNan (c .least2 .ensures) ∙ min-number _ _ (ap isNan (c .before .least .ensures) ∙ min-number _ _ (none (c .before .before) .one))
 
-min-requires-3 : tie.Need-min-requires-3
-min-requires-3 c κs = search needs
+most-requires : tie.Need-most-requires
+most-requires c κs = none (c .before .before .before) .one
 
-min-requires-4 : tie.Need-min-requires-4
-min-requires-4 c κs = search needs
+most-requires-2 : tie.Need-most-requires-2
+most-requires-2 c κs = ap isNan (c .most .ensures) ∙ max-number _ _ (none (c .before .before .before .before) .one)
 
-max-requires : tie.Need-max-requires
-max-requires c κs = search needs
+most-requires-3 : tie.Need-most-requires-3
+most-requires-3 c κs = ap isNan (c .most2 .ensures) ∙ max-number _ _ (ap isNan (c .before .most .ensures) ∙ max-number _ _ (none (c .before .before .before .before .before) .one))
 
-max-requires-2 : tie.Need-max-requires-2
-max-requires-2 c κs = search needs
-
-max-requires-3 : tie.Need-max-requires-3
-max-requires-3 c κs = search needs
-
-max-requires-4 : tie.Need-max-requires-4
-max-requires-4 c κs = search needs
-
-next-down-requires : tie.Need-next-down-requires
-next-down-requires c κs = search needs
-
-next-up-requires : tie.Need-next-up-requires
-next-up-requires c κs = search needs
-
-checked-requires : tie.Need-checked-requires
-checked-requires c κs = search needs
+outward-requires : tie.Need-outward-requires
+outward-requires c κs = search needs
 
 returns-2 : tie.Need-returns-2
 unfolding mulOf
-returns-2 c = rw (← (c .before .before .before .before .before .before .before .before .before .before .before .before .before .some-nan .ensures), c .before .before .before .before .before .before .before .before .before .before .before .before .if1 .left) (cc neg-inf)
+returns-2 c = let n = Tn-of _ (none (c .before .before .before .before .before .before .before) .one) in rw (← (c .before .before .before .before .before .before .before .before .some-nan .ensures), c .before .before .before .before .before .before .before .if1 .left, min-first _ n, max-first _ n, c .outward .ensures, c .before .before .before .before .least3 .ensures, c .before .before .before .before .before .least2 .ensures, c .before .before .before .before .before .before .least .ensures, c .before .most3 .ensures, c .before .before .most2 .ensures, c .before .before .before .most .ensures)
 
 pub mul-spec : {M : Type 1} → statement M
 mul-spec =
@@ -73,16 +63,11 @@ mul-spec =
     some-nan-requires
     entire-requires
     returns
-    infinity-requires
-    min-requires
-    min-requires-2
-    min-requires-3
-    min-requires-4
-    max-requires
-    max-requires-2
-    max-requires-3
-    max-requires-4
-    next-down-requires
-    next-up-requires
-    checked-requires
+    least-requires
+    least-requires-2
+    least-requires-3
+    most-requires
+    most-requires-2
+    most-requires-3
+    outward-requires
     returns-2)

@@ -1,0 +1,51 @@
+// The steps and choices that operations make once no NaN is left: tests of the pattern or one comparison, so that each is a few instructions.
+ghost use mathlib.Core.Path.{_≡_};
+ghost use mathlib.Core.Bool.{false};
+ghost use lib.Ieee.{binary64, isNan, nanBits, ofBits};
+ghost use Rattle.doubles.specs.Neighbour.{nextUp, nextDown, fmin, fmax};
+
+// The pattern of the double above: one more where the sign is clear, one less where it is set; infinity stays.
+fn pattern_above(b: u64) -> u64
+    requires { ⌜ nanBits binary64 b ≡ false ⌝ }
+    ensures { λ r. ⌜ ofBits binary64 r ≡ nextUp (ofBits binary64 b) ⌝ }
+{
+    if b == 0x8000_0000_0000_0000 {
+        return 1;
+    }
+    if b == 0x7ff0_0000_0000_0000 {
+        return b;
+    }
+    if b < 0x8000_0000_0000_0000 {
+        b + 1
+    } else {
+        b - 1
+    }
+}
+
+pub fn above(x: f64) -> f64
+    requires { ⌜ isNan x ≡ false ⌝ }
+    ensures { λ r. ⌜ r ≡ nextUp x ⌝ }
+{
+    f64::from_bits(pattern_above(f64::to_bits(x)))
+}
+
+pub fn below(x: f64) -> f64
+    requires { ⌜ isNan x ≡ false ⌝ }
+    ensures { λ r. ⌜ r ≡ nextDown x ⌝ }
+{
+    -above(-x)
+}
+
+pub fn least(a: f64, b: f64) -> f64
+    requires { ⌜ isNan a ≡ false ⌝ }
+    ensures { λ r. ⌜ r ≡ fmin a b ⌝ }
+{
+    if b < a { b } else { a }
+}
+
+pub fn most(a: f64, b: f64) -> f64
+    requires { ⌜ isNan a ≡ false ⌝ }
+    ensures { λ r. ⌜ r ≡ fmax a b ⌝ }
+{
+    if a < b { b } else { a }
+}
