@@ -26,7 +26,7 @@ use Rattle.interval.specs.declared.Quotient.{Quotient}
 use Rattle.interval.specs.declared.Quotient.the-variants.{Is, HoldsZero, Unbounded}
 use Rattle.interval.specs.declared.Sign.{Sign}
 use Rattle.interval.specs.declared.Sign.the-variants.{Positive, Negative, Zero, Unknown}
-use Rattle.interval.specs.Ops.{entire, pointOf, checkedOf, addOf, subOf, mulOf, negOf, someNan, sqrOf, containsOf, newOf, timesNew, divideOf, hullOf, widthOf, signOf}
+use Rattle.interval.specs.Ops.{entire, pointOf, checkedOf, addOf, subOf, mulOf, negOf, someNan, sqrOf, containsOf, newOf, madeBy, reciprocalOf, timesBy, divideOf, hullOf, widthOf, signOf}
 use Rattle.interval.specs.Inside.{Inside, Encloses}
 
 pub entire-inside : (x : ℚ) → Inside entire x
@@ -161,13 +161,13 @@ new-inside l h x L H = go (le l h)
     go true = record { low = L; high = H }
     go false = tt
 
-times-inside : (a : Interval) (n : New) (x y : ℚ) → Inside a x → MadeInside n y → Encloses (timesNew a n) (x *q y)
-times-inside a (Made c) x y i j = mul-inside a c x y i j
-times-inside a Nothing x y i j = tt
+made-inside : (n : New) (x : ℚ) → MadeInside n x → Encloses (madeBy n) x
+made-inside (Made c) x i = i
+made-inside Nothing x i = tt
 
-pub divide-inside : (a b : Interval) (x y : ℚ) → Inside a x → Inside b y → Encloses (divideOf a b) (x /q y)
-unfolding divideOf containsOf
-divide-inside a b x y i j = subst (Encloses (divideOf a b)) (sym (div-is x y)) (go (containsOf b zero+) (off-zero (b .lo) (b .hi) y (j .low) (j .high)))
+pub reciprocal-inside : (b : Interval) (y : ℚ) → Inside b y → Encloses (reciprocalOf b) (inv y)
+unfolding reciprocalOf containsOf
+reciprocal-inside b y j = go (containsOf b zero+) (off-zero (b .lo) (b .hi) y (j .low) (j .high))
   where
     p : Float
     p = div binary64 one+ (b .lo)
@@ -187,9 +187,18 @@ divide-inside a b x y i j = subst (Encloses (divideOf a b)) (sym (div-is x y)) (
         (recip-lower binary64 (fmin p q) (min-fits binary64 p q hp hq) (l .number) y (b .hi) (elim o [ inl t ↦ inl (end-above (b .lo) y t (j .low)) | inr t ↦ inr t ]) (j .high) (l .second))
         (recip-upper binary64 (fmax p q) (max-fits binary64 p q hp hq) (g .number) y (b .lo) (elim o [ inl t ↦ inl t | inr t ↦ inr (end-below (b .hi) y t (j .high)) ]) (j .low) (g .first))
 
-    go : (t : Bool) → (T (not t) → T (lt zero+ (b .lo)) ⊎ T (lt (b .hi) zero+)) → Encloses (cond t HoldsZero (timesNew a (newOf (nextDown (fmin p q)) (nextUp (fmax p q))))) (x *q inv y)
+    go : (t : Bool) → (T (not t) → T (lt zero+ (b .lo)) ⊎ T (lt (b .hi) zero+)) → Encloses (cond t HoldsZero (madeBy (newOf (nextDown (fmin p q)) (nextUp (fmax p q))))) (inv y)
     go true o = tt
-    go false o = times-inside a (newOf (nextDown (fmin p q)) (nextUp (fmax p q))) x (inv y) i (ends (o tt))
+    go false o = made-inside (newOf (nextDown (fmin p q)) (nextUp (fmax p q))) (inv y) (ends (o tt))
+
+pub divide-inside : (a b : Interval) (x y : ℚ) → Inside a x → Inside b y → Encloses (divideOf a b) (x /q y)
+unfolding divideOf
+divide-inside a b x y i j = subst (Encloses (divideOf a b)) (sym (div-is x y)) (go (reciprocalOf b) (reciprocal-inside b y j))
+  where
+    go : (r : Quotient) → Encloses r (inv y) → Encloses (timesBy a r) (x *q inv y)
+    go (Is c) k = mul-inside a c x (inv y) i k
+    go HoldsZero k = tt
+    go Unbounded k = tt
 
 -- ---- hulls, widths, signs
 module _ (a b : Interval) (x y : ℚ) (i : Inside a x) (j : Inside b y) where

@@ -64,12 +64,21 @@ mulOf a b =
 abbrev pub negOf : Interval → Interval
 negOf a = record { lo = neg (a .hi); hi = neg (a .lo) }
 
-abbrev pub timesNew : Interval → New → Quotient
-timesNew a (Made r) = Is (mulOf a r)
-timesNew a Nothing = Unbounded
+abbrev pub madeBy : New → Quotient
+madeBy (Made r) = Is r
+madeBy Nothing = Unbounded
 
-unfoldable pub divideOf : Interval → Interval → Quotient
-divideOf a b =
+-- the outward interval of both reciprocals
+unfoldable pub reciprocalOf : Interval → Quotient
+reciprocalOf b =
     let x = div binary64 one+ (b .lo) in
     let y = div binary64 one+ (b .hi) in
-    cond (containsOf b zero+) HoldsZero (timesNew a (newOf (nextDown (fmin x y)) (nextUp (fmax x y))))
+    cond (containsOf b zero+) HoldsZero (madeBy (newOf (nextDown (fmin x y)) (nextUp (fmax x y))))
+
+abbrev pub timesBy : Interval → Quotient → Quotient
+timesBy a (Is r) = Is (mulOf a r)
+timesBy a HoldsZero = HoldsZero
+timesBy a Unbounded = Unbounded
+
+unfoldable pub divideOf : Interval → Interval → Quotient
+divideOf a b = timesBy a (reciprocalOf b)

@@ -12,7 +12,7 @@ use crate::step::least;
 use crate::step::most;
 ghost use mathlib.Core.Path.{_≡_};
 ghost use Rattle.doubles.specs.Neighbour.{nextUp, nextDown};
-ghost use Rattle.interval.specs.Ops.{entire, newOf, pointOf, widthOf, containsOf, hullOf, signOf, checkedOf, sqrOf, addOf, subOf, mulOf, negOf, someNan, divideOf};
+ghost use Rattle.interval.specs.Ops.{entire, newOf, pointOf, widthOf, containsOf, hullOf, signOf, checkedOf, sqrOf, addOf, subOf, mulOf, negOf, someNan, reciprocalOf, divideOf};
 
 pub mod float;
 pub mod place;
@@ -214,9 +214,9 @@ pub enum Quotient {
     Unbounded,
 }
 
-// a / b, where b does not hold 0.
-pub fn divide(a: Interval, b: Interval) -> Quotient
-    ensures { λ r. ⌜ r ≡ divideOf a b ⌝ }
+// The outward interval of both reciprocals, where b does not hold 0.
+pub fn reciprocal(b: Interval) -> Quotient
+    ensures { λ r. ⌜ r ≡ reciprocalOf b ⌝ }
 {
     if b.contains(0.0) {
         return Quotient::HoldsZero;
@@ -225,8 +225,19 @@ pub fn divide(a: Interval, b: Interval) -> Quotient
     let y = 1.0 / b.hi;
     let n = Interval::new(next_down(min(x, y)), next_up(max(x, y)));
     match n {
-        New::Made(r) => Quotient::Is(a.mul(r)),
+        New::Made(r) => Quotient::Is(r),
         New::Nothing => Quotient::Unbounded,
+    }
+}
+
+// a / b, where b does not hold 0.
+pub fn divide(a: Interval, b: Interval) -> Quotient
+    ensures { λ r. ⌜ r ≡ divideOf a b ⌝ }
+{
+    match reciprocal(b) {
+        Quotient::Is(r) => Quotient::Is(a.mul(r)),
+        Quotient::HoldsZero => Quotient::HoldsZero,
+        Quotient::Unbounded => Quotient::Unbounded,
     }
 }
 

@@ -1,87 +1,58 @@
-use Rattle.doubles.specs.Neighbour.{nextUp, nextDown, fmin, fmax}
-use Rattle.interval.specs.declared.Quotient.the-variants.{Is, HoldsZero, Unbounded}
-use Rattle.interval.specs.declared.New.{New}
-use Rattle.interval.specs.Ops.{containsOf, divideOf, newOf, timesNew}
-use Rattle.doubles.specs.Value.{one+}
-use lib.Ieee.{Float, binary64, inf, ofBits, div}
-use mathlib.Core.Path.{_≡_, refl, sym, ap, _∙_, subst}
+use Rattle.interval.specs.Ops.{divideOf, timesBy}
+use Rattle.interval.specs.declared.Quotient.the-variants.{Is}
+use mathlib.Core.Path.{sym, ap, _∙_}
 use borrow.Author.Needs.{needs}
 use Rattle.interval.proofs.divide.Statement.{statement}
 use Rattle.interval.proofs.divide.Tie as tie
 use Rattle.interval.proofs.divide.Reads as reads
 use Rattle.interval.proofs.divide.Lts as lts
-use Rattle.interval.proofs.Interval.contains.Reads as contains-reads
 use Rattle.interval.proofs.Interval.mul.Reads as mul-reads
-use Rattle.interval.proofs.Interval.new.Reads as new-reads
-use Rattle.interval.proofs.float.max.Reads as max-reads
-use Rattle.interval.proofs.float.min.Reads as min-reads
-use Rattle.interval.proofs.float.next_down.Reads as next-down-reads
-use Rattle.interval.proofs.float.next_up.Reads as next-up-reads
+use Rattle.interval.proofs.reciprocal.Reads as reciprocal-reads
 
--- the interval of both reciprocals
-made : (c : tie.After-new) → c .new .result ≡ newOf (nextDown (fmin (div binary64 one+ (c .before .before .before .before .before .before .before .before .before .args .b .lo)) (div binary64 one+ (c .before .before .before .before .before .before .before .before .before .args .b .hi)))) (nextUp (fmax (div binary64 one+ (c .before .before .before .before .before .before .before .before .before .args .b .lo)) (div binary64 one+ (c .before .before .before .before .before .before .before .before .before .args .b .hi))))
-unfolding ofBits
-made c =
-    c .new .ensures
-    ∙ ap (λ (z : Float). newOf z (c .before .next-up .result)) (c .before .before .before .next-down .ensures ∙ ap nextDown (c .before .before .before .before .min .ensures))
-    ∙ ap (λ (z : Float). newOf (nextDown (fmin (div binary64 one+ (c .before .before .before .before .before .before .before .before .before .args .b .lo)) (div binary64 one+ (c .before .before .before .before .before .before .before .before .before .args .b .hi)))) z) (c .before .next-up .ensures ∙ ap nextUp (c .before .before .max .ensures))
+-- src/lib.rt:237:11
+reciprocal-requires : tie.Need-reciprocal-requires
+reciprocal-requires c κs = search needs
 
-contains-requires : tie.Need-contains-requires
-contains-requires c κs = search needs
+-- src/lib.rt:238:22
+enum-known-r : tie.Need-enum-known-r
+enum-known-r c = search needs
 
-returns : tie.Need-returns
-unfolding ofBits divideOf containsOf
-returns c = rw (← (c .before .contains .ensures), c .if1 .taken)
-
-min-requires : tie.Need-min-requires
-min-requires c κs = search needs
-
-next-down-requires : tie.Need-next-down-requires
-next-down-requires c κs = search needs
-
-max-requires : tie.Need-max-requires
-max-requires c κs = search needs
-
-next-up-requires : tie.Need-next-up-requires
-next-up-requires c κs = search needs
-
-new-requires : tie.Need-new-requires
-new-requires c κs = search needs
-
-enum-known-n : tie.Need-enum-known-n
-enum-known-n c = search needs
-
+-- src/lib.rt:238:41
 mul-requires : tie.Need-mul-requires
 mul-requires c κs = search needs
 
+-- src/lib.rt:239:32
 enum-told : tie.Need-enum-told
 enum-told c = search needs
 
-returns-2 : tie.Need-returns-2
-unfolding ofBits divideOf containsOf
-returns-2 c =
-    rw (← (c .before .before .before .before .before .before .before .before .before .before .before .before .contains .ensures), c .before .before .before .before .before .before .before .before .before .before .before .if1 .left)
-    (ap Is (c .mul .ensures) ∙ sym (ap (timesNew (c .before .before .before .before .before .before .before .before .before .before .before .before .before .args .a)) (sym (made (c .before .before .before .before)) ∙ c .before .before .n .given .1)))
+-- src/lib.rt:240:32
+enum-told-2 : tie.Need-enum-told-2
+enum-told-2 c = search needs
 
+-- src/lib.rt:234:1
+returns : tie.Need-returns
+unfolding divideOf
+returns c = ap Is (c .mul .ensures) ∙ ap (timesBy (c .before .before .before .before .before .args .a)) (sym (c .before .before .r .given .1) ∙ c .before .before .before .before .reciprocal .ensures)
+
+-- src/lib.rt:234:1
+returns-2 : tie.Need-returns-2
+unfolding divideOf
+returns-2 c = ap (timesBy (c .before .before .before .args .a)) (sym (c .enum-told .given .1) ∙ c .before .before .reciprocal .ensures)
+
+-- src/lib.rt:234:1
 returns-3 : tie.Need-returns-3
-unfolding ofBits divideOf containsOf
-returns-3 c =
-    rw (← (c .before .before .before .before .before .before .before .before .before .before .contains .ensures), c .before .before .before .before .before .before .before .before .before .if1 .left)
-    (sym (ap (timesNew (c .before .before .before .before .before .before .before .before .before .before .before .args .a)) (sym (made (c .before .before)) ∙ c .enum-told .given .1)))
+unfolding divideOf
+returns-3 c = ap (timesBy (c .before .before .before .args .a)) (sym (c .enum-told2 .given .1) ∙ c .before .before .reciprocal .ensures)
 
 pub divide-spec : {M : Type 1} → statement M
 divide-spec =
     tie.close
     (tie.spec
-    contains-requires
-    returns
-    min-requires
-    next-down-requires
-    max-requires
-    next-up-requires
-    new-requires
-    enum-known-n
+    reciprocal-requires
+    enum-known-r
     mul-requires
     enum-told
+    enum-told-2
+    returns
     returns-2
     returns-3)
