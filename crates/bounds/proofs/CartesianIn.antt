@@ -8,54 +8,40 @@ use lib.Ieee.{Float, lt, le, isNan}
 use lib.Ieee.Scale.{finite}
 use Rattle.doubles.specs.Neighbour.{fmin, fmax}
 use Rattle.doubles.specs.Value.{Lower, Upper, val}
-use Rattle.exact.proofs.Field.{qring, q-ring}
+use Rattle.exact.proofs.Field.{div-is}
 use Rattle.exact.specs.Rational.{ℚ, _+q_, _-q_, _*q_, _/q_, inv, q0, q1, _≤q_, _<q_}
 use Rattle.exact.specs.Spline.{quotient}
-use Rattle.interval.proofs.Contain.{point-inside, add-inside, sub-inside, mul-inside, divide-inside}
+use Rattle.interval.proofs.Contain.{point-inside, add-inside, sub-inside, mul-inside, reciprocal-inside}
 use Rattle.interval.specs.Inside.{Inside, Encloses as Divides}
-use Rattle.interval.specs.Ops.{pointOf, addOf, subOf, mulOf, newOf, divideOf}
+use Rattle.interval.specs.Ops.{pointOf, addOf, subOf, mulOf, newOf, reciprocalOf}
 use Rattle.interval.specs.declared.Interval.{Interval}
 use Rattle.interval.specs.declared.New.{New}
 use Rattle.interval.specs.declared.New.the-variants.{Made, Nothing}
 use Rattle.interval.specs.declared.Quotient.{Quotient}
 use Rattle.interval.specs.declared.Quotient.the-variants as Q
 use Rattle.bounds.specs.declared.jet.Jet.{Jet}
-use Rattle.bounds.specs.declared.jet.JetAnswer.{JetAnswer}
-use Rattle.bounds.specs.declared.jet.JetAnswer.the-variants as J
 use Rattle.bounds.specs.declared.net.Control.{Control}
 use Rattle.bounds.specs.declared.start.Point.{Point}
 use Rattle.bounds.specs.declared.cartesian.Bounds.{Bounds}
 use Rattle.bounds.specs.declared.cartesian.BoundAnswer.{BoundAnswer}
 use Rattle.bounds.specs.declared.cartesian.BoundAnswer.the-variants as B
-use Rattle.bounds.specs.Cartesian.{dvBy, duBy, vBy, coordinateOf, boxBy, cutBy, cartesianOf}
+use Rattle.bounds.specs.Cartesian.{coordinateOf, boxBy, cutBy, cartesianOf}
 use Rattle.bounds.proofs.WeightIn.{FinitePoint}
 use Rattle.bounds.proofs.JetIn.{JetIn}
 
-abbrev pub Answers : JetAnswer → ℚ → ℚ → ℚ → Type 0
-Answers (J.Is j) x u v = JetIn j x u v
-Answers (J.Refused n) x u v = Unit
+times-in : (a r : Interval) (x W : ℚ) → Inside a x → Inside r (inv W) → Inside (mulOf a r) (x /q W)
+times-in a r x W i j = subst (Inside (mulOf a r)) (sym (div-is x W)) (mul-inside a r x (inv W) i j)
 
-module _ (h weight : Jet) (w : Interval) (o : Float) {X X′ X″ W W′ W″ : ℚ} (i : JetIn h X X′ X″) (j : JetIn weight W W′ W″) (k : Inside w W) (n : W ≢ q0) (f : T (finite o)) where
-  pub coordinate-in : Answers (coordinateOf h weight w o) (X /q W +q val o) (quotient X X′ W W′) (quotient X X″ W W″)
+module _ (h weight : Jet) (r : Interval) (o : Float) {X X′ X″ W W′ W″ : ℚ} (i : JetIn h X X′ X″) (j : JetIn weight W W′ W″) (k : Inside r (inv W)) (f : T (finite o)) where
+  pub coordinate-in : JetIn (coordinateOf h weight r o) (X /q W +q val o) (quotient X X′ W W′) (quotient X X″ W W″)
   unfolding coordinateOf quotient
-  coordinate-in = go (divideOf (h .v) w) (divide-inside _ _ _ _ (i .value) k)
+  coordinate-in = record { value = add-inside _ _ _ _ q (point-inside o f); du = part (h .du) (weight .du) X′ W′ (i .du) (j .du); dv = part (h .dv) (weight .dv) X″ W″ (i .dv) (j .dv) }
     where
-      third : (q du : Interval) → Inside q (X /q W) → Inside du ((X′ -q X /q W *q W′) /q W) → (a : Quotient) → Divides a ((X″ -q X /q W *q W″) /q W)
-          → Answers (dvBy (addOf q (pointOf o)) du a) (X /q W +q val o) ((X′ -q X /q W *q W′) /q W) ((X″ -q X /q W *q W″) /q W)
-      third q du c d (Q.Is a) e = record { value = add-inside _ _ _ _ c (point-inside o f); du = d; dv = e }
-      third q du c d Q.HoldsZero e = tt
-      third q du c d Q.Unbounded e = tt
+      q : Inside (mulOf (h .v) r) (X /q W)
+      q = times-in (h .v) r X W (i .value) k
 
-      second : (q : Interval) → Inside q (X /q W) → (a : Quotient) → Divides a ((X′ -q X /q W *q W′) /q W)
-          → Answers (duBy h weight w o q a) (X /q W +q val o) ((X′ -q X /q W *q W′) /q W) ((X″ -q X /q W *q W″) /q W)
-      second q c (Q.Is a) d = third q a c d (divideOf (subOf (h .dv) (mulOf q (weight .dv))) w) (divide-inside _ _ _ _ (sub-inside _ _ _ _ (i .dv) (mul-inside _ _ _ _ c (j .dv))) k)
-      second q c Q.HoldsZero d = tt
-      second q c Q.Unbounded d = tt
-
-      go : (a : Quotient) → Divides a (X /q W) → Answers (vBy h weight w o a) (X /q W +q val o) ((X′ -q X /q W *q W′) /q W) ((X″ -q X /q W *q W″) /q W)
-      go (Q.Is q) c = second q c (divideOf (subOf (h .du) (mulOf q (weight .du))) w) (divide-inside _ _ _ _ (sub-inside _ _ _ _ (i .du) (mul-inside _ _ _ _ c (j .du))) k)
-      go Q.HoldsZero c = tt
-      go Q.Unbounded c = tt
+      part : (a b : Interval) (A B : ℚ) → Inside a A → Inside b B → Inside (mulOf (subOf a (mulOf (mulOf (h .v) r) b)) r) ((A -q X /q W *q B) /q W)
+      part a b A B c d = times-in _ r _ W (sub-inside _ _ _ _ c (mul-inside _ _ _ _ q d)) k
 
 -- each coordinate, with its two derivatives
 pub record Three : Type 0 where
@@ -71,12 +57,6 @@ pub record Encloses (b : Bounds) (X Y Z : Three) : Type 0 where
 abbrev pub Boxes : BoundAnswer → Three → Three → Three → Type 0
 Boxes (B.Are b) X Y Z = Encloses b X Y Z
 Boxes (B.Refused n) X Y Z = Unit
-
-box-in : (X Y Z : Three) (a b c : JetAnswer) → Answers a (X .value) (X .du) (X .dv) → Answers b (Y .value) (Y .du) (Y .dv) → Answers c (Z .value) (Z .du) (Z .dv) → Boxes (boxBy a b c) X Y Z
-box-in X Y Z (J.Refused n) b c h k l = tt
-box-in X Y Z (J.Is x) (J.Refused n) c h k l = tt
-box-in X Y Z (J.Is x) (J.Is y) (J.Refused n) h k l = tt
-box-in X Y Z (J.Is x) (J.Is y) (J.Is z) h k l = record { x = h; y = k; z = l }
 
 -- the quotient of two homogeneous numbers with their derivatives, moved by o
 abbrev pub over : Three → Three → ℚ → Three
@@ -95,10 +75,10 @@ high-either false x y W h k = k
 
 -- the four jets of the last point hold; W lies in the other enclosure too
 pub cartesian-in : (h : Control) (o : Point) (bound : Interval) (X Y Z W : Three) → InThree (h .x) X → InThree (h .y) Y → InThree (h .z) Z → InThree (h .w) W
-    → Inside bound (W .value) → W .value ≢ q0 → FinitePoint o
+    → Inside bound (W .value) → FinitePoint o
     → Boxes (cartesianOf h o bound) (over X W (val (o .x))) (over Y W (val (o .y))) (over Z W (val (o .z)))
 unfolding cartesianOf newOf
-cartesian-in h o bound X Y Z W a b c d e n f = go (le lo hi)
+cartesian-in h o bound X Y Z W a b c d e f = go (le lo hi)
   where
     lo : Float
     lo = fmax (h .w .v .lo) (bound .lo)
@@ -115,10 +95,13 @@ cartesian-in h o bound X Y Z W a b c d e n f = go (le lo hi)
       high = high-either (lt (bound .hi) (h .w .v .hi) || isNan (h .w .v .hi)) (bound .hi) (h .w .v .hi) (W .value) (e .high) (d .value .high);
     }
 
+    box : (r : Quotient) → Divides r (inv (W .value)) → Boxes (boxBy h o r) (over X W (val (o .x))) (over Y W (val (o .y))) (over Z W (val (o .z)))
+    box (Q.Is r) k = record { x = coordinate-in (h .x) (h .w) r (o .x) a d k (f .x); y = coordinate-in (h .y) (h .w) r (o .y) b d k (f .y); z = coordinate-in (h .z) (h .w) r (o .z) c d k (f .z) }
+    box Q.HoldsZero k = tt
+    box Q.Unbounded k = tt
+
     go : (t : Bool) → Boxes (cutBy h o (cond t (Made w) Nothing)) (over X W (val (o .x))) (over Y W (val (o .y))) (over Z W (val (o .z)))
-    go true = box-in (over X W (val (o .x))) (over Y W (val (o .y))) (over Z W (val (o .z)))
-        (coordinateOf (h .x) (h .w) w (o .x)) (coordinateOf (h .y) (h .w) w (o .y)) (coordinateOf (h .z) (h .w) w (o .z))
-        (coordinate-in (h .x) (h .w) w (o .x) a d cut n (f .x)) (coordinate-in (h .y) (h .w) w (o .y) b d cut n (f .y)) (coordinate-in (h .z) (h .w) w (o .z) c d cut n (f .z))
+    go true = box (reciprocalOf w) (reciprocal-inside w (W .value) cut)
     go false = tt
 
 pub boxes-eq : (a : BoundAnswer) (X Y Z X′ Y′ Z′ : Three) → X ≡ X′ → Y ≡ Y′ → Z ≡ Z′ → Boxes a X Y Z → Boxes a X′ Y′ Z′

@@ -23,9 +23,12 @@ use Rattle.exact.proofs.Jets.{dwork, dexact-work}
 use Rattle.exact.proofs.Source.{work}
 use Rattle.exact.specs.Rational.{ℚ, _+q_, _-q_, _*q_, _/q_, inv, q0, q1, _≤q_, _<q_}
 use Rattle.exact.specs.Spline.{Knots, exact, whole, dexact, quotient}
-use Rattle.interval.specs.Inside.{Inside}
-use Rattle.interval.specs.Ops.{pointOf, newOf}
+use Rattle.interval.proofs.Contain.{point-inside, reciprocal-inside}
+use Rattle.interval.specs.Inside.{Inside, Encloses as Divides}
+use Rattle.interval.specs.Ops.{pointOf, newOf, reciprocalOf}
 use Rattle.interval.specs.declared.Interval.{Interval}
+use Rattle.interval.specs.declared.Quotient.{Quotient}
+use Rattle.interval.specs.declared.Quotient.the-variants as Q
 use Rattle.interval.specs.declared.New.{New}
 use Rattle.interval.specs.declared.New.the-variants.{Made, Nothing}
 use Rattle.bounds.specs.declared.jet.Jet.{Jet}
@@ -33,19 +36,18 @@ use Rattle.bounds.specs.declared.net.Control.{Control}
 use Rattle.bounds.specs.declared.net.NetAnswer.{NetAnswer}
 use Rattle.bounds.specs.declared.net.NetAnswer.the-variants as N
 use Rattle.bounds.specs.declared.start.Point.{Point}
-use Rattle.bounds.specs.declared.start.Place.{Place}
 use Rattle.bounds.specs.declared.start.Weights.{Weights}
 use Rattle.bounds.specs.declared.start.Weights.the-variants as W
 use Rattle.bounds.specs.declared.cartesian.BoundAnswer.{BoundAnswer}
 use Rattle.bounds.specs.declared.cartesian.BoundAnswer.the-variants as B
 use Rattle.bounds.specs.Net.{orElse, mixJet, mixOf, netOf, refusalLevels, lastBy, deboorOf}
-use Rattle.bounds.specs.Start.{weightsOf, maxOf, minOf, startAt, placeControl, refusalUp, pointAt, placeRefused}
-use Rattle.bounds.specs.Cartesian.{cartesianOf}
+use Rattle.bounds.specs.Start.{weightsOf, maxFrom, minFrom, startAt, pointAt, rowBy, rowOf}
+use Rattle.bounds.specs.Cartesian.{cartesianOf, netBy}
 use Rattle.bounds.specs.Range.{weightAt, spanOver, takenSpan, rangeRefusal}
-use Rattle.bounds.specs.Curve.{parameterOf, refuse, netBy, rangeIs, weightsAre, spanBound, boundOf, boundAt}
+use Rattle.bounds.specs.Curve.{parameterOf, rangeIs, weightsAre, spanBound, boundOf, boundAt}
 use Rattle.bounds.proofs.JetIn.{JetIn, jet-eq, in-one, in-zero}
 use Rattle.bounds.proofs.NetIn.{orElse-0, none, Family, along, across, nowhere, net-in}
-use Rattle.bounds.proofs.WeightIn.{Cut, Cuts, Largest, Least, largest, least, range-in, ControlIn, FinitePoint, place-in, control-in, up-0}
+use Rattle.bounds.proofs.WeightIn.{Cut, Cuts, Largest, Least, largest, least, range-in, ControlIn, FinitePoint, control-in}
 use Rattle.bounds.proofs.CartesianIn.{Three, Encloses, Boxes, over, cartesian-in, boxes-eq, three-eq}
 use Rattle.bounds.proofs.SpanIn.{SpanValid, span-valid, TakenSpan, taken-valid, taken-first, InSpan, in-span, weight-finite, weight-positive}
 use Rattle.bounds.specs.Answer.{boundsOf, boundedOf}
@@ -72,10 +74,6 @@ abbrev pub Z : List Float → ℕ → ℚ
 Z ps i = val (at ps (i * 3 + 2))
 
 -- ---- helpers
-
-pub refuse-in : (n : ℕ) (a : BoundAnswer) (X Y Z : Three) → (n ≡ 0 → Boxes a X Y Z) → Boxes (refuse n a) X Y Z
-refuse-in zero a X Y Z h = h refl
-refuse-in (suc n) a X Y Z h = tt
 
 pub low-of : (x : Float) (t : ℚ) → T (finite x) → val x ≤q t → Lower x t
 low-of nan t f h = absurd f
@@ -150,17 +148,17 @@ module _ (p s : ℕ) (ks ps ws : List Float) (r : Bool) (lo hi : Float) (Va : Va
   abbrev w : ℕ → Float
   w m = weightAt r ws (s - p + m)
 
-  least-is : Least w (suc p) (minOf w (suc p))
+  least-is : Least w (suc p) (minFrom (inf false) w (suc p))
   least-is = let h = fits in let e = base in least w p (λ i l. heavy (s - p + i) (omega arith)) (λ i l. positive (s - p + i) (omega arith))
 
-  most-is : Largest w (suc p) (maxOf w (suc p))
+  most-is : Largest w (suc p) (maxFrom zero+ w (suc p))
   most-is = let h = fits in let e = base in largest w (suc p) (λ i l. heavy (s - p + i) (omega arith))
 
   abbrev a : ℚ
-  a = val (minOf w (suc p))
+  a = val (minFrom (inf false) w (suc p))
 
   abbrev σ : ℚ
-  σ = val (maxOf w (suc p))
+  σ = val (maxFrom zero+ w (suc p))
 
   a-pos : q0 <q a
   a-pos = least-is .positive
@@ -190,9 +188,6 @@ module _ (p s : ℕ) (ks ps ws : List Float) (r : Bool) (lo hi : Float) (Va : Va
 
   abbrev wh : ℚ
   wh = work (valAt ks) t p s HW p p
-
-  quot-pos : q0 <q a /q σ
-  quot-pos = subst (λ z. q0 <q z) (sym (div-is a σ)) (mul-pos a-pos (lt-of-le-ne (inv-nonneg σ-pos) (λ e. inv-ne-0 (pos-ne σ-pos) (sym e))))
 
   wh-low : a /q σ ≤q wh
   wh-low = divisor-low knots p b n base fits room above below (weight r ws) a σ σ-pos lows
@@ -226,61 +221,67 @@ module _ (p s : ℕ) (ks ps ws : List Float) (r : Bool) (lo hi : Float) (Va : Va
   abbrev Good : BoundAnswer → Type 0
   Good A = Boxes A (EX (X ps)) (EX (Y ps)) (EX (Z ps))
 
-  module _ (scale : Float) (bound : Interval) (cut : Cut (minOf w (suc p)) (maxOf w (suc p)) scale bound) (clear : refusalUp (startAt ps ws r (s - p) scale) (p + 1) 0 ≡ 0) where
-    abbrev net : ℕ → Control
-    net m = placeControl (startAt ps ws r (s - p) scale m)
-
-    start-in : (m : ℕ) → m ≤ p → ControlIn (net m) (H (X ps) m) (H (Y ps) m) (H (Z ps) m) (HW m)
-    unfolding startAt pointAt
-    start-in m l =
-        let e = cut .scaled in
-        let h = fits in
-        let k = base in
-        let z : 0 + m ≡ m = omega arith in
-        subst (λ c. ControlIn (placeControl (startAt ps ws r (s - p) c m)) (H (X ps) m) (H (Y ps) m) (H (Z ps) m) (HW m)) (sym e)
-        (control-in (startAt ps ws r (s - p) (maxOf w (suc p)) m)
-        (place-in (pointAt ps (s - p + m)) (pointAt ps (s - p)) (weightAt r ws (s - p + m)) (maxOf w (suc p)) (point-finite (s - p + m) (omega arith)) (point-finite (s - p) (omega arith)) (heavy (s - p + m) (omega arith)) (most-is .held) (pos-ne σ-pos))
-        (subst (λ c. placeRefused (startAt ps ws r (s - p) c m) ≡ 0) e (subst (λ i. placeRefused (startAt ps ws r (s - p) scale i) ≡ 0) z (up-0 (startAt ps ws r (s - p) scale) (p + 1) 0 clear m (omega arith)))))
-
+  module _ (scale : Float) (bound : Interval) (cut : Cut (minFrom (inf false) w (suc p)) (maxFrom zero+ w (suc p)) scale bound) where
     bound-in : Inside bound wh
     bound-in = record {
       low = lower-le (bound .lo) (cut .low) wh-low;
       high = subst (λ x. Upper x wh) (sym (cut .one)) (subst (λ x. wh ≤q x) (sym val-one) wh-high);
     }
 
-    run : (j : Jet) → JetIn j t q1 q0 → refusalLevels ks p s j 1 p ≡ 0 → (sel : Control → Jet) → ((α : Jet) (a b : Control) → sel (mixOf α a b) ≡ mixJet α (sel a) (sel b))
-        → (C : ℕ → ℚ) → ((m : ℕ) → m ≤ p → JetIn (sel (net m)) (C m) q0 q0) → JetIn (sel (netOf ks p s j net p p)) (work (valAt ks) t p s C p p) (dwork (valAt ks) t p s C (λ m. q0) p p) q0
-    unfolding dwork
-    run j h e sel mixes C start = net-in ks p s j finites knots (Sp .span .first) room t q1 q0 h sel mixes net C (dwork (valAt ks) t p s C (λ m. q0)) (λ l j. q0)
-        (along (valAt ks) t p s C (λ m. q0)) (nowhere (valAt ks) t p s C) start (none ks p s j e) p p (omega arith)
+    -- the levels on the row, weighed by the scale's reciprocal
+    module _ (q : Interval) (k : Inside q (inv σ)) where
+      abbrev net : ℕ → Control
+      net = startAt ps ws r (s - p) (pointAt ps (s - p)) q
 
-    levels-in : (j : Jet) → JetIn j t q1 q0 → (k : ℕ) → refusalLevels ks p s j 1 p ≡ k → Good (netBy (pointAt ps (s - p)) bound (lastBy k (netOf ks p s j net p p)))
-    unfolding lastBy pointAt
-    levels-in j h (suc k) e = tt
-    levels-in j h zero e =
-        boxes-eq (cartesianOf (netOf ks p s j net p p) (pointAt ps (s - p)) bound) (over (HT (H (X ps))) (HT HW) (X ps b)) (over (HT (H (Y ps))) (HT HW) (Y ps b)) (over (HT (H (Z ps))) (HT HW) (Z ps b))
-        (EX (X ps)) (EX (Y ps)) (EX (Z ps)) (exact-eq (X ps)) (exact-eq (Y ps)) (exact-eq (Z ps))
-        (cartesian-in (netOf ks p s j net p p) (pointAt ps (s - p)) bound (HT (H (X ps))) (HT (H (Y ps))) (HT (H (Z ps))) (HT HW)
-        (run j h e (λ c. c .x) mix-x (H (X ps)) (λ m l. start-in m l .x))
-        (run j h e (λ c. c .y) mix-y (H (Y ps)) (λ m l. start-in m l .y))
-        (run j h e (λ c. c .z) mix-z (H (Z ps)) (λ m l. start-in m l .z))
-        (run j h e (λ c. c .w) mix-w HW (λ m l. start-in m l .w))
-        bound-in (pos-ne (<-≤-trans quot-pos wh-low)) (point-finite (s - p) (let h = fits in let k = base in omega arith)))
+      start-in : (m : ℕ) → m ≤ p → ControlIn (net m) (H (X ps) m) (H (Y ps) m) (H (Z ps) m) (HW m)
+      unfolding startAt pointAt
+      start-in m l =
+          let h = fits in
+          let e = base in
+          control-in (pointAt ps (s - p + m)) (pointAt ps (s - p)) (weightAt r ws (s - p + m)) q σ (point-finite (s - p + m) (omega arith)) (point-finite (s - p) (omega arith)) (heavy (s - p + m) (omega arith)) k
+
+      run : (j : Jet) → JetIn j t q1 q0 → refusalLevels ks p s j 1 p ≡ 0 → (sel : Control → Jet) → ((α : Jet) (a b : Control) → sel (mixOf α a b) ≡ mixJet α (sel a) (sel b))
+          → (C : ℕ → ℚ) → ((m : ℕ) → m ≤ p → JetIn (sel (net m)) (C m) q0 q0) → JetIn (sel (netOf ks p s j net p p)) (work (valAt ks) t p s C p p) (dwork (valAt ks) t p s C (λ m. q0) p p) q0
+      unfolding dwork
+      run j h e sel mixes C start = net-in ks p s j finites knots (Sp .span .first) room t q1 q0 h sel mixes net C (dwork (valAt ks) t p s C (λ m. q0)) (λ l j. q0)
+          (along (valAt ks) t p s C (λ m. q0)) (nowhere (valAt ks) t p s C) start (none ks p s j e) p p (omega arith)
+
+      levels-in : (j : Jet) → JetIn j t q1 q0 → (k : ℕ) → refusalLevels ks p s j 1 p ≡ k → Good (netBy (pointAt ps (s - p)) bound (lastBy k (netOf ks p s j net p p)))
+      unfolding lastBy pointAt
+      levels-in j h (suc k) e = tt
+      levels-in j h zero e =
+          boxes-eq (cartesianOf (netOf ks p s j net p p) (pointAt ps (s - p)) bound) (over (HT (H (X ps))) (HT HW) (X ps b)) (over (HT (H (Y ps))) (HT HW) (Y ps b)) (over (HT (H (Z ps))) (HT HW) (Z ps b))
+          (EX (X ps)) (EX (Y ps)) (EX (Z ps)) (exact-eq (X ps)) (exact-eq (Y ps)) (exact-eq (Z ps))
+          (cartesian-in (netOf ks p s j net p p) (pointAt ps (s - p)) bound (HT (H (X ps))) (HT (H (Y ps))) (HT (H (Z ps))) (HT HW)
+          (run j h e (λ c. c .x) mix-x (H (X ps)) (λ m l. start-in m l .x))
+          (run j h e (λ c. c .y) mix-y (H (Y ps)) (λ m l. start-in m l .y))
+          (run j h e (λ c. c .z) mix-z (H (Z ps)) (λ m l. start-in m l .z))
+          (run j h e (λ c. c .w) mix-w HW (λ m l. start-in m l .w))
+          bound-in (point-finite (s - p) (let h = fits in let k = base in omega arith)))
+
+    row-in : (j : Jet) → JetIn j t q1 q0 → (a : Quotient) → Divides a (inv σ) → Good (netBy (pointAt ps (s - p)) bound (rowBy ps ws r (s - p) (pointAt ps (s - p)) ks p s j a))
+    unfolding deboorOf
+    row-in j h (Q.Is q) k = levels-in q k j h (refusalLevels ks p s j 1 p) refl
+    row-in j h Q.HoldsZero k = tt
+    row-in j h Q.Unbounded k = tt
+
+    scale-in : Divides (reciprocalOf (pointOf scale)) (inv σ)
+    scale-in = subst (λ (x : Float). Divides (reciprocalOf (pointOf x)) (inv σ)) (sym (cut .scaled)) (reciprocal-inside _ σ (point-inside (maxFrom zero+ w (suc p)) (most-is .held)))
 
     range-is-in : Good (rangeIs p s ks ps ws r lo hi scale bound (newOf lo hi))
-    unfolding newOf deboorOf
+    unfolding newOf rowOf
     range-is-in = go (le lo hi)
       where
         go : (x : Bool) → Good (rangeIs p s ks ps ws r lo hi scale bound (cond x (Made (record { lo = lo; hi = hi })) Nothing))
-        go true = levels-in (parameterOf (record { lo = lo; hi = hi })) (param-in lo hi t (Sp .lo-finite) (Sp .hi-finite) from upto) (refusalLevels ks p s (parameterOf (record { lo = lo; hi = hi })) 1 p) refl
+        go true = row-in (parameterOf (record { lo = lo; hi = hi })) (param-in lo hi t (Sp .lo-finite) (Sp .hi-finite) from upto) (reciprocalOf (pointOf scale)) scale-in
         go false = tt
 
   pub span-bound-in : Good (spanBound p s ks ps ws r lo hi)
   unfolding spanBound weightsOf
-  span-bound-in = go (weightsOf w (p + 1)) (subst (λ k. Cuts (minOf w (suc p)) (maxOf w (suc p)) (weightsOf w k)) (sym (add-one p)) (range-in (minOf w (suc p)) (maxOf w (suc p)) (least-is .held) (most-is .held) (pos-ne σ-pos)))
+  span-bound-in = go (weightsOf w (p + 1)) (subst (λ k. Cuts (minFrom (inf false) w (suc p)) (maxFrom zero+ w (suc p)) (weightsOf w k)) (sym (add-one p)) (range-in (minFrom (inf false) w (suc p)) (maxFrom zero+ w (suc p)) (least-is .held) (most-is .held) (pos-ne σ-pos)))
     where
-      go : (A : Weights) → Cuts (minOf w (suc p)) (maxOf w (suc p)) A → Good (weightsAre p s ks ps ws r lo hi A)
-      go (W.Are scale bound) c = refuse-in (refusalUp (startAt ps ws r (s - p) scale) (p + 1) 0) (rangeIs p s ks ps ws r lo hi scale bound (newOf lo hi)) (EX (X ps)) (EX (Y ps)) (EX (Z ps)) (range-is-in scale bound c)
+      go : (A : Weights) → Cuts (minFrom (inf false) w (suc p)) (maxFrom zero+ w (suc p)) A → Good (weightsAre p s ks ps ws r lo hi A)
+      go (W.Are scale bound) c = range-is-in scale bound c
       go (W.Refused k) c = tt
 
 -- ---- the whole answer

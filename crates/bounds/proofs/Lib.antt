@@ -1,5 +1,4 @@
 pub mod Steps
-pub mod RowSteps
 pub mod JetIn
 pub mod NetIn
 pub mod WeightIn

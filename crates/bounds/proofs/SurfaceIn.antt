@@ -23,31 +23,35 @@ use Rattle.exact.proofs.Surface.{net, net-du, net-dv, exact₂-net, exact₂-du
 use Rattle.exact.specs.Rational.{ℚ, _+q_, _-q_, _*q_, _/q_, inv, q0, q1, _≤q_, _<q_}
 use Rattle.exact.specs.Spline.{basis, Knots, dbasis, quotient}
 use Rattle.exact.specs.Surface.{whole₂, exact₂, dexact₂u, dexact₂v}
-use Rattle.interval.specs.Inside.{Inside}
-use Rattle.interval.specs.Ops.{pointOf, newOf}
+use Rattle.interval.proofs.Contain.{point-inside, reciprocal-inside}
+use Rattle.interval.specs.Inside.{Inside, Encloses as Divides}
+use Rattle.interval.specs.Ops.{pointOf, newOf, reciprocalOf}
 use Rattle.knots.specs.Knots.{ValidKnots}
 use Rattle.interval.specs.declared.Interval.{Interval}
+use Rattle.interval.specs.declared.Quotient.{Quotient}
+use Rattle.interval.specs.declared.Quotient.the-variants as Q
 use Rattle.interval.specs.declared.New.{New}
 use Rattle.interval.specs.declared.New.the-variants.{Made, Nothing}
 use Rattle.bounds.specs.declared.jet.Jet.{Jet}
 use Rattle.bounds.specs.declared.net.Control.{Control}
 use Rattle.bounds.specs.declared.net.NetAnswer.{NetAnswer}
 use Rattle.bounds.specs.declared.net.NetAnswer.the-variants as N
+use Rattle.bounds.specs.declared.start.Point.{Point}
 use Rattle.bounds.specs.declared.start.Weights.{Weights}
 use Rattle.bounds.specs.declared.start.Weights.the-variants as W
 use Rattle.bounds.specs.declared.cartesian.BoundAnswer.{BoundAnswer}
 use Rattle.bounds.specs.declared.cartesian.BoundAnswer.the-variants as B
-use Rattle.bounds.specs.Net.{orElse, mixJet, mixOf, netOf, refusalLevels, lastBy, deboorOf}
-use Rattle.bounds.specs.Start.{maxOf, minOf, rangeOf, placeControl, placeRefused, refusalUp, pointAt}
-use Rattle.bounds.specs.Cartesian.{cartesianOf}
+use Rattle.bounds.specs.Net.{orElse, mixJet, mixOf, netOf, refusalLevels, lastBy, deboorOf, netRefused, netControl, refusalUp, refuseNet, filledOf}
+use Rattle.bounds.specs.Start.{maxFrom, minFrom, rangeOf, pointAt, startAt, rowBy, rowOf}
+use Rattle.bounds.specs.Cartesian.{cartesianOf, netBy}
 use Rattle.bounds.specs.Range.{weightAt, spanOver, rangeRefusal}
-use Rattle.bounds.specs.Curve.{parameterOf, refuse, netBy, unless}
-use Rattle.bounds.specs.Surface.{rangesRefusal, maxFrom, minFrom, maxRows, minRows, refuseNet, netRefused, netControl, rowsUp, secondOf, placeAt, firstAt, startOf, rowOf, rangesAre, weightsBy, spansBound, surfaceOf, SpansFit}
+use Rattle.bounds.specs.Curve.{parameterOf, unless}
+use Rattle.bounds.specs.Surface.{rangesRefusal, maxRows, minRows, secondOf, firstAt, corner, rowAt, rangesAre, weightsBy, spansBound, boundedBy, surfaceOf, SpansFit}
 use Rattle.bounds.proofs.JetIn.{JetIn, in-one, in-zero}
 use Rattle.bounds.proofs.NetIn.{orElse-0, none, along, across, nowhere, net-in}
-use Rattle.bounds.proofs.WeightIn.{Above, Below, max-above, min-below, Least, least, Cut, Cuts, range-in, ControlIn, FinitePoint, place-in, control-in, up-0}
+use Rattle.bounds.proofs.WeightIn.{max-from, min-from, Least, least, Cut, Cuts, range-in, ControlIn, FinitePoint, control-in, up-0}
 use Rattle.bounds.proofs.CartesianIn.{Three, Boxes, over, cartesian-in, boxes-eq, three-eq}
-use Rattle.bounds.proofs.CurveIn.{mix-x, mix-y, mix-z, mix-w, low-of, high-of, refuse-in, X, Y, Z, param-in, Boxed, boxed, unless-in}
+use Rattle.bounds.proofs.CurveIn.{mix-x, mix-y, mix-z, mix-w, low-of, high-of, X, Y, Z, param-in, Boxed, boxed, unless-in}
 use Rattle.bounds.proofs.SpanIn.{SpanValid, span-valid, InSpan, in-span, weight-finite, weight-positive}
 use Rattle.bounds.specs.Holds.{weight}
 use Rattle.bounds.specs.Answer.{boundedOf}
@@ -60,51 +64,6 @@ use Rattle.doubles.proofs.Tests.{T-of}
 use Rattle.doubles.proofs.Value.{val-one}
 
 -- ---- the least and the largest weight of a net
-
-pub record From (a : Float) (w : ℕ → Float) (k : ℕ) (m : Float) : Type 0 where
-  pub held : T (finite m)
-  pub first : val a ≤q val m
-  pub all : (i : ℕ) → i < k → val (w i) ≤q val m
-
-pub record Under (a : Float) (w : ℕ → Float) (k : ℕ) (m : Float) : Type 0 where
-  pub held : T (finite m)
-  pub first : val m ≤q val a
-  pub all : (i : ℕ) → i < k → val m ≤q val (w i)
-  pub positive : q0 <q val a → q0 <q val m
-
-max-from : (a : Float) (w : ℕ → Float) (k : ℕ) → T (finite a) → ((i : ℕ) → i < k → T (finite (w i))) → From a w k (maxFrom a w k)
-unfolding maxFrom
-max-from a w zero g f = record { held = g; first = ≤-refl (val a); all = λ i l. absurd (omega arith) }
-max-from a w (suc k) g f = go (max-from a w k g (λ i l. f i (omega arith)))
-  where
-    go : From a w k (maxFrom a w k) → From a w (suc k) (fmax (maxFrom a w k) (w k))
-    go r =
-        let m = max-above (maxFrom a w k) (w k) (r .held) (f k (omega arith)) in
-        record {
-          held = m .held;
-          first = ≤-trans (r .first) (m .first);
-          all = λ i l. elim (eq-or-lt-of-le (le-of-suc-le-suc l)) [ inl e ↦ subst (λ j. val (w j) ≤q val (fmax (maxFrom a w k) (w k))) (sym e) (m .second) | inr h ↦ ≤-trans (r .all i h) (m .first) ];
-        }
-
-min-from : (a : Float) (w : ℕ → Float) (k : ℕ) → T (finite a) → ((i : ℕ) → i < k → T (finite (w i))) → ((i : ℕ) → i < k → q0 <q val (w i)) → Under a w k (minFrom a w k)
-unfolding minFrom
-min-from a w zero g f p = record { held = g; first = ≤-refl (val a); all = λ i l. absurd (omega arith); positive = λ x. x }
-min-from a w (suc k) g f p = go (min-from a w k g (λ i l. f i (omega arith)) (λ i l. p i (omega arith)))
-  where
-    go : Under a w k (minFrom a w k) → Under a w (suc k) (fmin (minFrom a w k) (w k))
-    go r =
-        let m = min-below (minFrom a w k) (w k) (r .held) (f k (omega arith)) in
-        record {
-          held = m .held;
-          first = ≤-trans (m .first) (r .first);
-          all = λ i l. elim (eq-or-lt-of-le (le-of-suc-le-suc l)) [ inl e ↦ subst (λ j. val (fmin (minFrom a w k) (w k)) ≤q val (w j)) (sym e) (m .second) | inr h ↦ ≤-trans (m .first) (r .all i h) ];
-          positive = λ x. m .positive (r .positive x) (p k (omega arith));
-        }
-
-min-same : (w : ℕ → Float) (k : ℕ) → minFrom (inf false) w k ≡ minOf w k
-unfolding minFrom minOf
-min-same w zero = refl
-min-same w (suc k) = ap (λ (x : Float). fmin x (w k)) (min-same w k)
 
 pub record Largest₂ (w : ℕ → ℕ → Float) (k m : ℕ) (x : Float) : Type 0 where
   pub held : T (finite x)
@@ -132,11 +91,11 @@ pub least₂ : (w : ℕ → ℕ → Float) (k m : ℕ) → ((i j : ℕ) → i < 
 unfolding minRows
 least₂ w k zero f p =
     let x = least (w 0) k (λ j l. f 0 j (omega arith) l) (λ j l. p 0 j (omega arith) l) in
-    rw (min-same (w 0) (suc k)) (record {
+    record {
       held = x .held;
-      all = λ i j l h. let e : 0 ≡ i = omega arith in subst (λ a. val (minOf (w 0) (suc k)) ≤q val (w a j)) e (x .all j h);
+      all = λ i j l h. let e : 0 ≡ i = omega arith in subst (λ a. val (minFrom (inf false) (w 0) (suc k)) ≤q val (w a j)) e (x .all j h);
       positive = x .positive;
-    })
+    }
 least₂ w k (suc m) f p = go (least₂ w k m (λ i j l h. f i j (omega arith) h) (λ i j l h. p i j (omega arith) h))
   where
     go : Least₂ w (suc k) (suc m) (minRows w (suc k) (suc m)) → Least₂ w (suc k) (suc (suc m)) (minFrom (minRows w (suc k) (suc m)) (w (suc m)) (suc k))
@@ -150,19 +109,15 @@ least₂ w k (suc m) f p = go (least₂ w k m (λ i j l h. f i j (omega arith) h
 
 -- ---- helpers
 
-rows-0 : (f : ℕ → NetAnswer) (k i : ℕ) → rowsUp f k i ≡ 0 → (m : ℕ) → m < k → netRefused (f (i + m)) ≡ 0
-unfolding rowsUp
-rows-0 f zero i h m l = absurd (omega arith)
-rows-0 f (suc k) i h zero l = let e : i + 0 ≡ i = omega arith in rw e (orElse-0 _ _ h .0)
-rows-0 f (suc k) i h (suc m) l =
-    let e : i + suc m ≡ i + 1 + m = omega arith in
-    rw e (rows-0 f k (i + 1) (orElse-0 (netRefused (f i)) _ h .1) m (omega arith))
-
-row-split : (R L : ℕ) (x : Control) → netRefused (refuseNet R (lastBy L x)) ≡ 0 → (R ≡ 0) × (L ≡ 0) × (netControl (refuseNet R (lastBy L x)) ≡ x)
+-- a net that is not refused, and what it stands on
+last-0 : (L : ℕ) (x : Control) → netRefused (lastBy L x) ≡ 0 → (L ≡ 0) × (netControl (lastBy L x) ≡ x)
 unfolding lastBy
-row-split zero zero x h = (refl, refl, refl)
-row-split zero (suc L) x h = absurd (omega arith)
-row-split (suc R) L x h = absurd (omega arith)
+last-0 zero x h = (refl, refl)
+last-0 (suc L) x h = absurd (omega arith)
+
+refuse-in : (o : Point) (bound : Interval) (n : ℕ) (a : NetAnswer) (X Y Z : Three) → (n ≡ 0 → Boxes (netBy o bound a) X Y Z) → Boxes (netBy o bound (refuseNet n a)) X Y Z
+refuse-in o bound zero a X Y Z h = h refl
+refuse-in o bound (suc n) a X Y Z h = tt
 
 below-product : (i j nu nv : ℕ) → i < nu → j < nv → i * nv + j < nu * nv
 below-product i j nu nv h k =
@@ -232,16 +187,22 @@ module _ (p q us vs : ℕ) (uk vk : List Float) (nu nv : ℕ) (ps ws : List Floa
       (below-product (us - p) (vs - q) nu nv (omega arith) (omega arith))
 
   abbrev w : ℕ → ℕ → Float
-  w m k = weightAt r ws ((us - p + m) * nv + (vs - q + k))
+  w m k = weightAt r ws ((us - p + m) * nv + (vs - q) + k)
+
+  same-place : (m k : ℕ) → (us - p + m) * nv + (vs - q) + k ≡ (us - p + m) * nv + (vs - q + k)
+  same-place m k = omega arith
+
+  here′ : (m k : ℕ) → m ≤ p → k ≤ q → (us - p + m) * nv + (vs - q) + k < nu * nv
+  here′ m k h l = subst (λ (i : ℕ). i < nu * nv) (sym (same-place m k)) (here m k h l)
 
   abbrev w₂ : ℕ → ℕ → ℚ
   w₂ = grid (weight r ws) nv
 
   least-is : Least₂ w (suc q) (suc p) (minRows w (suc q) (suc p))
-  least-is = least₂ w q p (λ i j l h. heavy _ (here i j (omega arith) (omega arith))) (λ i j l h. positive _ (here i j (omega arith) (omega arith)))
+  least-is = least₂ w q p (λ i j l h. heavy _ (here′ i j (omega arith) (omega arith))) (λ i j l h. positive _ (here′ i j (omega arith) (omega arith)))
 
   most-is : Largest₂ w (suc q) (suc p) (maxRows w (suc q) (suc p))
-  most-is = largest₂ w (suc q) (suc p) (λ i j l h. heavy _ (here i j (omega arith) (omega arith)))
+  most-is = largest₂ w (suc q) (suc p) (λ i j l h. heavy _ (here′ i j (omega arith) (omega arith)))
 
   abbrev a : ℚ
   a = val (minRows w (suc q) (suc p))
@@ -250,10 +211,10 @@ module _ (p q us vs : ℕ) (uk vk : List Float) (nu nv : ℕ) (ps ws : List Floa
   σ = val (maxRows w (suc q) (suc p))
 
   lows : (m k : ℕ) → m ≤ p → k ≤ q → a ≤q w₂ (us - p + m) (vs - q + k)
-  lows m k h l = least-is .all m k (omega arith) (omega arith)
+  lows m k h l = subst (λ (i : ℕ). a ≤q weight r ws i) (same-place m k) (least-is .all m k (omega arith) (omega arith))
 
   highs : (m k : ℕ) → m ≤ p → k ≤ q → w₂ (us - p + m) (vs - q + k) ≤q σ
-  highs m k h l = most-is .all m k (omega arith) (omega arith)
+  highs m k h l = subst (λ (i : ℕ). weight r ws i ≤q σ) (same-place m k) (most-is .all m k (omega arith) (omega arith))
 
   σ-pos : q0 <q σ
   σ-pos = <-≤-trans (least-is .positive) (≤-trans (lows 0 0 (omega arith) (omega arith)) (highs 0 0 (omega arith) (omega arith)))
@@ -291,9 +252,6 @@ module _ (p q us vs : ℕ) (uk vk : List Float) (nu nv : ℕ) (ps ws : List Floa
   sum-ne : whole₂ (valAt uk) u us p nu (valAt vk) v vs q nv w₂ ≢ q0
   sum-ne = pos-ne (weight₂-pos (Iu .knots) (Iv .knots) p (us - p) nu q (vs - q) nv (Iu .base) (Iu .fits) (Iu .room) (Iv .base) (Iv .fits) (Iv .room) (Iu .above) (Iu .below) (Iv .above) (Iv .below) w₂ a σ (least-is .positive) lows highs)
 
-  quot-pos : q0 <q a /q σ
-  quot-pos = subst (λ z. q0 <q z) (sym (div-is a σ)) (mul-pos (least-is .positive) (lt-of-le-ne (inv-nonneg σ-pos) (λ e. inv-ne-0 (pos-ne σ-pos) (sym e))))
-
   abbrev EX : (ℕ → ℚ) → Three
   EX P = at-uv p q us vs uk vk nu nv ws r u v P
 
@@ -313,23 +271,22 @@ module _ (p q us vs : ℕ) (uk vk : List Float) (nu nv : ℕ) (ps ws : List Floa
   iv = record { lo = vlo; hi = vhi }
 
   module _ (scale : Float) (bound : Interval) (cut : Cut (minRows w (suc q) (suc p)) (maxRows w (suc q) (suc p)) scale bound) where
-    abbrev start : ℕ → ℕ → Control
-    start m k = placeControl (startOf p q us vs uk vk nv ps ws r ulo uhi vlo vhi scale m k)
-
     abbrev row : ℕ → NetAnswer
-    row m = rowOf p q us vs uk vk nv ps ws r ulo uhi vlo vhi scale iv m
+    row m = rowAt p q us vs uk vk nv ps ws r ulo uhi vlo vhi scale iv m
 
-    start-in : (m : ℕ) → m ≤ p → refusalUp (startOf p q us vs uk vk nv ps ws r ulo uhi vlo vhi scale m) (q + 1) 0 ≡ 0 → (k : ℕ) → k ≤ q
-        → ControlIn (start m k) (H (X ps) (us - p + m) (vs - q + k)) (H (Y ps) (us - p + m) (vs - q + k)) (H (Z ps) (us - p + m) (vs - q + k)) (HW (us - p + m) (vs - q + k))
-    unfolding startOf pointAt
-    start-in m l clear k h =
-        let e = cut .scaled in
-        let z : 0 + k ≡ k = omega arith in
-        subst (λ c. ControlIn (placeControl (startOf p q us vs uk vk nv ps ws r ulo uhi vlo vhi c m k)) (H (X ps) (us - p + m) (vs - q + k)) (H (Y ps) (us - p + m) (vs - q + k)) (H (Z ps) (us - p + m) (vs - q + k)) (HW (us - p + m) (vs - q + k))) (sym e)
-        (control-in (startOf p q us vs uk vk nv ps ws r ulo uhi vlo vhi (maxRows w (suc q) (suc p)) m k)
-        (place-in (pointAt ps ((us - p + m) * nv + (vs - q + k))) (pointAt ps ((us - p) * nv + (vs - q))) (weightAt r ws ((us - p + m) * nv + (vs - q + k))) (maxRows w (suc q) (suc p))
-        (point-finite ((us - p + m) * nv + (vs - q + k)) (here m k l h)) (point-finite ((us - p) * nv + (vs - q)) first-here) (heavy ((us - p + m) * nv + (vs - q + k)) (here m k l h)) (most-is .held) (pos-ne σ-pos))
-        (subst (λ c. placeRefused (startOf p q us vs uk vk nv ps ws r ulo uhi vlo vhi c m k) ≡ 0) e (subst (λ i. placeRefused (startOf p q us vs uk vk nv ps ws r ulo uhi vlo vhi scale m i) ≡ 0) z (up-0 (startOf p q us vs uk vk nv ps ws r ulo uhi vlo vhi scale m) (q + 1) 0 clear k (omega arith)))))
+    abbrev start : Interval → ℕ → ℕ → Control
+    start c m = startAt ps ws r ((us - p + m) * nv + (vs - q)) (pointAt ps ((us - p) * nv + (vs - q))) c
+
+    start-in : (c : Interval) → Inside c (inv σ) → (m : ℕ) → m ≤ p → (k : ℕ) → k ≤ q
+        → ControlIn (start c m k) (H (X ps) (us - p + m) (vs - q + k)) (H (Y ps) (us - p + m) (vs - q + k)) (H (Z ps) (us - p + m) (vs - q + k)) (HW (us - p + m) (vs - q + k))
+    unfolding startAt pointAt
+    start-in c d m l k h =
+        subst (λ (i : ℕ). ControlIn (start c m k) ((X ps i -q X ps ((us - p) * nv + (vs - q))) *q (weight r ws i /q σ)) ((Y ps i -q Y ps ((us - p) * nv + (vs - q))) *q (weight r ws i /q σ)) ((Z ps i -q Z ps ((us - p) * nv + (vs - q))) *q (weight r ws i /q σ)) (weight r ws i /q σ)) (same-place m k)
+        (control-in (pointAt ps ((us - p + m) * nv + (vs - q) + k)) (pointAt ps ((us - p) * nv + (vs - q))) (weightAt r ws ((us - p + m) * nv + (vs - q) + k)) c σ
+        (point-finite ((us - p + m) * nv + (vs - q) + k) (here′ m k l h)) (point-finite ((us - p) * nv + (vs - q)) first-here) (heavy ((us - p + m) * nv + (vs - q) + k) (here′ m k l h)) d)
+
+    scale-in : Divides (reciprocalOf (pointOf scale)) (inv σ)
+    scale-in = subst (λ (x : Float). Divides (reciprocalOf (pointOf x)) (inv σ)) (sym (cut .scaled)) (reciprocal-inside _ σ (point-inside (maxRows w (suc q) (suc p)) (most-is .held)))
 
     bound-in : Inside bound wh
     bound-in = record {
@@ -339,18 +296,26 @@ module _ (p q us vs : ℕ) (uk vk : List Float) (nu nv : ℕ) (ps ws : List Floa
 
     -- a row along v
     module _ (sel : Control → Jet) (mixes : (α : Jet) (a b : Control) → sel (mixOf α a b) ≡ mixJet α (sel a) (sel b)) (C : ℕ → ℕ → ℚ)
-        (holds : (m : ℕ) → m ≤ p → refusalUp (startOf p q us vs uk vk nv ps ws r ulo uhi vlo vhi scale m) (q + 1) 0 ≡ 0 → (k : ℕ) → k ≤ q → JetIn (sel (start m k)) (C (us - p + m) (vs - q + k)) q0 q0) where
-      row-in : (m : ℕ) → m ≤ p → netRefused (row m) ≡ 0
-          → JetIn (sel (netControl (row m))) (work (valAt vk) v q vs (λ k. C (us - p + m) (vs - q + k)) q q) q0 (dwork (valAt vk) v q vs (λ k. C (us - p + m) (vs - q + k)) (λ k. q0) q q)
-      unfolding rowOf deboorOf dwork
-      row-in m h ok =
-          let x = row-split (refusalUp (startOf p q us vs uk vk nv ps ws r ulo uhi vlo vhi scale m) (q + 1) 0) (refusalLevels vk q vs (secondOf iv) 1 q) (netOf vk q vs (secondOf iv) (start m) q q) ok in
-          subst (λ c. JetIn (sel c) (work (valAt vk) v q vs (λ k. C (us - p + m) (vs - q + k)) q q) q0 (dwork (valAt vk) v q vs (λ k. C (us - p + m) (vs - q + k)) (λ k. q0) q q)) (sym (x .2))
-          (net-in vk q vs (secondOf iv) (Iv .finites) (Iv .knots) (Iv .low) (Iv .room) v q0 q1 (second-in vlo vhi v (Sv .lo-finite) (Sv .hi-finite) v-from v-upto) sel mixes (start m) (λ k. C (us - p + m) (vs - q + k)) (λ l j. q0) (dwork (valAt vk) v q vs (λ k. C (us - p + m) (vs - q + k)) (λ k. q0))
-          (nowhere (valAt vk) v q vs (λ k. C (us - p + m) (vs - q + k))) (along (valAt vk) v q vs (λ k. C (us - p + m) (vs - q + k)) (λ k. q0)) (holds m h (x .0)) (none vk q vs (secondOf iv) (x .1)) q q (omega arith))
+        (holds : (c : Interval) → Inside c (inv σ) → (m : ℕ) → m ≤ p → (k : ℕ) → k ≤ q → JetIn (sel (start c m k)) (C (us - p + m) (vs - q + k)) q0 q0) where
+      abbrev RowIn : ℕ → NetAnswer → Type 0
+      RowIn m A = netRefused A ≡ 0 → JetIn (sel (netControl A)) (work (valAt vk) v q vs (λ k. C (us - p + m) (vs - q + k)) q q) q0 (dwork (valAt vk) v q vs (λ k. C (us - p + m) (vs - q + k)) (λ k. q0) q q)
+
+      by-scale : (m : ℕ) → m ≤ p → (a : Quotient) → Divides a (inv σ) → RowIn m (rowBy ps ws r ((us - p + m) * nv + (vs - q)) (pointAt ps ((us - p) * nv + (vs - q))) vk q vs (secondOf iv) a)
+      unfolding deboorOf dwork
+      by-scale m h (Q.Is c) d ok =
+          let x = last-0 (refusalLevels vk q vs (secondOf iv) 1 q) (netOf vk q vs (secondOf iv) (start c m) q q) ok in
+          subst (λ c. JetIn (sel c) (work (valAt vk) v q vs (λ k. C (us - p + m) (vs - q + k)) q q) q0 (dwork (valAt vk) v q vs (λ k. C (us - p + m) (vs - q + k)) (λ k. q0) q q)) (sym (x .1))
+          (net-in vk q vs (secondOf iv) (Iv .finites) (Iv .knots) (Iv .low) (Iv .room) v q0 q1 (second-in vlo vhi v (Sv .lo-finite) (Sv .hi-finite) v-from v-upto) sel mixes (start c m) (λ k. C (us - p + m) (vs - q + k)) (λ l j. q0) (dwork (valAt vk) v q vs (λ k. C (us - p + m) (vs - q + k)) (λ k. q0))
+          (nowhere (valAt vk) v q vs (λ k. C (us - p + m) (vs - q + k))) (along (valAt vk) v q vs (λ k. C (us - p + m) (vs - q + k)) (λ k. q0)) (holds c d m h) (none vk q vs (secondOf iv) (x .0)) q q (omega arith))
+      by-scale m h Q.HoldsZero d ok = absurd (omega arith)
+      by-scale m h Q.Unbounded d ok = absurd (omega arith)
+
+      row-in : (m : ℕ) → m ≤ p → RowIn m (row m)
+      unfolding rowAt rowOf
+      row-in m h = by-scale m h (reciprocalOf (pointOf scale)) scale-in
 
       -- and the column of the rows along u
-      column-in : rowsUp row (p + 1) 0 ≡ 0 → refusalLevels uk p us (parameterOf iu) 1 p ≡ 0
+      column-in : refusalUp row (p + 1) 0 ≡ 0 → refusalLevels uk p us (parameterOf iu) 1 p ≡ 0
           → JetIn (sel (netOf uk p us (parameterOf iu) (λ m. netControl (row m)) p p)) (HT C .value) (HT C .du) (HT C .dv)
       unfolding net net-du net-dv work dwork
       column-in clear ok =
@@ -360,10 +325,10 @@ module _ (p q us vs : ℕ) (uk vk : List Float) (nu nv : ℕ) (ps ws : List Floa
           (work (valAt uk) u p us (λ m. dwork (valAt vk) v q vs (λ k. C (us - p + m) (vs - q + k)) (λ k. q0) q q))
           (along (valAt uk) u p us (λ m. work (valAt vk) v q vs (λ k. C (us - p + m) (vs - q + k)) q q) (λ m. q0))
           (across (valAt uk) u p us (λ m. work (valAt vk) v q vs (λ k. C (us - p + m) (vs - q + k)) q q) (λ m. dwork (valAt vk) v q vs (λ k. C (us - p + m) (vs - q + k)) (λ k. q0) q q))
-          (λ m h. let z : 0 + m ≡ m = omega arith in row-in m h (subst (λ i. netRefused (row i) ≡ 0) z (rows-0 row (p + 1) 0 clear m (omega arith))))
+          (λ m h. let z : 0 + m ≡ m = omega arith in row-in m h (subst (λ i. netRefused (row i) ≡ 0) z (up-0 row (p + 1) 0 clear m (omega arith))))
           (none uk p us (parameterOf iu) ok) p p (omega arith)
 
-    levels-in : rowsUp row (p + 1) 0 ≡ 0 → (k : ℕ) → refusalLevels uk p us (parameterOf iu) 1 p ≡ k
+    levels-in : refusalUp row (p + 1) 0 ≡ 0 → (k : ℕ) → refusalLevels uk p us (parameterOf iu) 1 p ≡ k
         → Good (netBy (pointAt ps ((us - p) * nv + (vs - q))) bound (lastBy k (netOf uk p us (parameterOf iu) (λ m. netControl (row m)) p p)))
     unfolding lastBy pointAt
     levels-in clear (suc k) e = tt
@@ -372,18 +337,18 @@ module _ (p q us vs : ℕ) (uk vk : List Float) (nu nv : ℕ) (ps ws : List Floa
         (over (HT (H (X ps))) (HT HW) (X ps ((us - p) * nv + (vs - q)))) (over (HT (H (Y ps))) (HT HW) (Y ps ((us - p) * nv + (vs - q)))) (over (HT (H (Z ps))) (HT HW) (Z ps ((us - p) * nv + (vs - q))))
         (EX (X ps)) (EX (Y ps)) (EX (Z ps)) (exact-eq (X ps)) (exact-eq (Y ps)) (exact-eq (Z ps))
         (cartesian-in (netOf uk p us (parameterOf iu) (λ m. netControl (row m)) p p) (pointAt ps ((us - p) * nv + (vs - q))) bound (HT (H (X ps))) (HT (H (Y ps))) (HT (H (Z ps))) (HT HW)
-        (column-in (λ c. c .x) mix-x (H (X ps)) (λ m l g k n. start-in m l g k n .x) clear e)
-        (column-in (λ c. c .y) mix-y (H (Y ps)) (λ m l g k n. start-in m l g k n .y) clear e)
-        (column-in (λ c. c .z) mix-z (H (Z ps)) (λ m l g k n. start-in m l g k n .z) clear e)
-        (column-in (λ c. c .w) mix-w HW (λ m l g k n. start-in m l g k n .w) clear e)
-        bound-in (pos-ne (<-≤-trans quot-pos wh-low)) (point-finite ((us - p) * nv + (vs - q)) first-here))
+        (column-in (λ c. c .x) mix-x (H (X ps)) (λ c d m l k n. start-in c d m l k n .x) clear e)
+        (column-in (λ c. c .y) mix-y (H (Y ps)) (λ c d m l k n. start-in c d m l k n .y) clear e)
+        (column-in (λ c. c .z) mix-z (H (Z ps)) (λ c d m l k n. start-in c d m l k n .z) clear e)
+        (column-in (λ c. c .w) mix-w HW (λ c d m l k n. start-in c d m l k n .w) clear e)
+        bound-in (point-finite ((us - p) * nv + (vs - q)) first-here))
 
     ranges-in : Good (rangesAre p q us vs uk vk nv ps ws r ulo uhi vlo vhi scale bound (newOf vlo vhi) (newOf ulo uhi))
-    unfolding newOf deboorOf
+    unfolding newOf deboorOf filledOf
     ranges-in = go (le vlo vhi) (le ulo uhi)
       where
         go : (x y : Bool) → Good (rangesAre p q us vs uk vk nv ps ws r ulo uhi vlo vhi scale bound (cond x (Made iv) Nothing) (cond y (Made iu) Nothing))
-        go true true = refuse-in (rowsUp row (p + 1) 0) (netBy (pointAt ps ((us - p) * nv + (vs - q))) bound (deboorOf uk p us (parameterOf iu) (λ m. netControl (row m)))) (EX (X ps)) (EX (Y ps)) (EX (Z ps))
+        go true true = refuse-in (pointAt ps ((us - p) * nv + (vs - q))) bound (refusalUp row (p + 1) 0) (deboorOf uk p us (parameterOf iu) (λ m. netControl (row m))) (EX (X ps)) (EX (Y ps)) (EX (Z ps))
             (λ clear. levels-in clear (refusalLevels uk p us (parameterOf iu) 1 p) refl)
         go true false = tt
         go false y = tt
@@ -406,7 +371,7 @@ pub surface-holds : (p q : ℕ) (uk vk : List Float) (nu nv : ℕ) (ps ws : List
     → val ulo ≤q u → u ≤q val uhi → val vlo ≤q v → v ≤q val vhi →
     let e = at-uv p q (spanOver p nu uk ulo uhi) (spanOver q nv vk vlo vhi) uk vk nu nv ws r u v in
     Boxed (surfaceOf p q uk vk nu nv ps r ws ulo uhi vlo vhi) (e (X ps)) (e (Y ps)) (e (Z ps))
-unfolding surfaceOf
+unfolding surfaceOf boundedBy
 surface-holds p q uk vk nu nv ps ws r ulo uhi vlo vhi u v uf ut vf vt =
     let us = spanOver p nu uk ulo uhi in
     let vs = spanOver q nv vk vlo vhi in
@@ -433,7 +398,7 @@ spans-fit p q uk vk nu nv ps ws r ulo uhi vlo vhi us vs Va Su Sv =
     let g = Va .short-u in
     let h = Va .short .points in
     let m3 = Va .triples in
-    let here : (m : ℕ) → m ≤ p → (us - p + m) * nv + (vs - q + q) < nu * nv = λ m l. below-product (us - p + m) (vs - q + q) nu nv (omega arith) (omega arith) in
+    let here : (m : ℕ) → m < p + 1 → (us - p + m) * nv + (vs - q + q) < nu * nv = λ m l. below-product (us - p + m) (vs - q + q) nu nv (omega arith) (omega arith) in
     record {
       p-small = Su .small;
       q-small = Sv .small;
@@ -441,8 +406,6 @@ spans-fit p q uk vk nu nv ps ws r ulo uhi vlo vhi us vs Va Su Sv =
       v-low = c;
       u-room = omega arith;
       v-room = omega arith;
-      few = omega arith;
-      small = λ m l. omega (arith, here m l);
+      fit = record { few = omega arith; small = λ m l. omega (arith, here m l); inside = λ x m l. omega (arith, here m l, Va .controls .weights x) };
       inside = λ m l. omega (arith, here m l);
-      weighed = λ x m l. omega (arith, here m l, Va .controls .weights x);
     }

@@ -13,7 +13,7 @@ use Rattle.doubles.proofs.Tests.{or-split}
 use Rattle.doubles.proofs.Value.{val-lt, val-le, val-zero, val-one}
 use Rattle.doubles.specs.Neighbour.{fmin, fmax}
 use Rattle.doubles.specs.Value.{Lower, Upper, val, zero+, one+}
-use Rattle.exact.proofs.Field.{qring, q-ring, ≤-refl, ≤-trans, <-≤-trans, lt→le, pos-ne}
+use Rattle.exact.proofs.Field.{qring, q-ring, ≤-refl, ≤-trans, <-≤-trans, lt→le, pos-ne, div-is}
 use Rattle.exact.specs.Rational.{ℚ, _+q_, _-q_, _*q_, _/q_, negq, inv, q0, q1, _≤q_, _<q_}
 use Rattle.interval.proofs.Contain.{point-inside, sub-inside, mul-inside, divide-inside}
 use Rattle.interval.specs.Inside.{Inside, Encloses as Divides}
@@ -26,13 +26,13 @@ use Rattle.interval.specs.declared.Quotient.the-variants as Q
 use Rattle.bounds.specs.declared.jet.Jet.{Jet}
 use Rattle.bounds.specs.declared.net.Control.{Control}
 use Rattle.bounds.specs.declared.start.Point.{Point}
-use Rattle.bounds.specs.declared.start.Place.{Place}
-use Rattle.bounds.specs.declared.start.Place.the-variants as P
+use Rattle.bounds.specs.declared.net.NetAnswer.{NetAnswer}
+use Rattle.bounds.specs.declared.net.NetAnswer.the-variants as N
 use Rattle.bounds.specs.declared.start.Weights.{Weights}
 use Rattle.bounds.specs.declared.start.Weights.the-variants as W
-use Rattle.bounds.specs.Net.{orElse}
+use Rattle.bounds.specs.Net.{orElse, netRefused, refusalUp}
 use Rattle.bounds.proofs.NetIn.{orElse-0}
-use Rattle.bounds.specs.Start.{maxOf, minOf, areBy, rangeBy, rangeOf, movedOf, placeBy, placeOf, placeRefused, placeControl, refusalUp}
+use Rattle.bounds.specs.Start.{maxFrom, minFrom, areBy, rangeBy, rangeOf, movedOf, controlOf}
 use Rattle.bounds.proofs.JetIn.{JetIn, jet-const}
 
 not-left : (x y : Bool) → T (not (x || y)) → T (not x)
@@ -78,6 +78,48 @@ min-first nan f = absurd f
 min-first (inf s) f = absurd f
 min-first (fin s m e) f = refl
 
+-- ---- of a number and k weights
+
+pub record From (a : Float) (w : ℕ → Float) (k : ℕ) (m : Float) : Type 0 where
+  pub held : T (finite m)
+  pub first : val a ≤q val m
+  pub all : (i : ℕ) → i < k → val (w i) ≤q val m
+
+pub record Under (a : Float) (w : ℕ → Float) (k : ℕ) (m : Float) : Type 0 where
+  pub held : T (finite m)
+  pub first : val m ≤q val a
+  pub all : (i : ℕ) → i < k → val m ≤q val (w i)
+  pub positive : q0 <q val a → q0 <q val m
+
+pub max-from : (a : Float) (w : ℕ → Float) (k : ℕ) → T (finite a) → ((i : ℕ) → i < k → T (finite (w i))) → From a w k (maxFrom a w k)
+unfolding maxFrom
+max-from a w zero g f = record { held = g; first = ≤-refl (val a); all = λ i l. absurd (omega arith) }
+max-from a w (suc k) g f = go (max-from a w k g (λ i l. f i (omega arith)))
+  where
+    go : From a w k (maxFrom a w k) → From a w (suc k) (fmax (maxFrom a w k) (w k))
+    go r =
+        let m = max-above (maxFrom a w k) (w k) (r .held) (f k (omega arith)) in
+        record {
+          held = m .held;
+          first = ≤-trans (r .first) (m .first);
+          all = λ i l. elim (eq-or-lt-of-le (le-of-suc-le-suc l)) [ inl e ↦ subst (λ j. val (w j) ≤q val (fmax (maxFrom a w k) (w k))) (sym e) (m .second) | inr h ↦ ≤-trans (r .all i h) (m .first) ];
+        }
+
+pub min-from : (a : Float) (w : ℕ → Float) (k : ℕ) → T (finite a) → ((i : ℕ) → i < k → T (finite (w i))) → ((i : ℕ) → i < k → q0 <q val (w i)) → Under a w k (minFrom a w k)
+unfolding minFrom
+min-from a w zero g f p = record { held = g; first = ≤-refl (val a); all = λ i l. absurd (omega arith); positive = λ x. x }
+min-from a w (suc k) g f p = go (min-from a w k g (λ i l. f i (omega arith)) (λ i l. p i (omega arith)))
+  where
+    go : Under a w k (minFrom a w k) → Under a w (suc k) (fmin (minFrom a w k) (w k))
+    go r =
+        let m = min-below (minFrom a w k) (w k) (r .held) (f k (omega arith)) in
+        record {
+          held = m .held;
+          first = ≤-trans (m .first) (r .first);
+          all = λ i l. elim (eq-or-lt-of-le (le-of-suc-le-suc l)) [ inl e ↦ subst (λ j. val (fmin (minFrom a w k) (w k)) ≤q val (w j)) (sym e) (m .second) | inr h ↦ ≤-trans (m .first) (r .all i h) ];
+          positive = λ x. m .positive (r .positive x) (p k (omega arith));
+        }
+
 -- ---- of k weights
 
 pub record Largest (w : ℕ → Float) (k : ℕ) (m : Float) : Type 0 where
@@ -89,31 +131,21 @@ pub record Least (w : ℕ → Float) (k : ℕ) (m : Float) : Type 0 where
   pub all : (i : ℕ) → i < k → val m ≤q val (w i)
   pub positive : q0 <q val m
 
-pub largest : (w : ℕ → Float) (k : ℕ) → ((i : ℕ) → i < k → T (finite (w i))) → Largest w k (maxOf w k)
-unfolding maxOf
-largest w zero f = record { held = tt; all = λ i l. absurd (omega arith) }
-largest w (suc k) f = go (largest w k (λ i l. f i (omega arith)))
-  where
-    go : Largest w k (maxOf w k) → Largest w (suc k) (fmax (maxOf w k) (w k))
-    go r =
-        let m = max-above (maxOf w k) (w k) (r .held) (f k (omega arith)) in
-        record {
-          held = m .held;
-          all = λ i l. elim (eq-or-lt-of-le (le-of-suc-le-suc l)) [ inl e ↦ subst (λ j. val (w j) ≤q val (fmax (maxOf w k) (w k))) (sym e) (m .second) | inr h ↦ ≤-trans (r .all i h) (m .first) ];
-        }
+pub largest : (w : ℕ → Float) (k : ℕ) → ((i : ℕ) → i < k → T (finite (w i))) → Largest w k (maxFrom zero+ w k)
+largest w k f = let r = max-from zero+ w k tt f in record { held = r .held; all = r .all }
 
-pub least : (w : ℕ → Float) (k : ℕ) → ((i : ℕ) → i < suc k → T (finite (w i))) → ((i : ℕ) → i < suc k → q0 <q val (w i)) → Least w (suc k) (minOf w (suc k))
-unfolding minOf
+pub least : (w : ℕ → Float) (k : ℕ) → ((i : ℕ) → i < suc k → T (finite (w i))) → ((i : ℕ) → i < suc k → q0 <q val (w i)) → Least w (suc k) (minFrom (inf false) w (suc k))
+unfolding minFrom
 least w zero f g = rw (min-first (w 0) (f 0 (omega arith)))
     (record { held = f 0 (omega arith); all = λ i l. let e : 0 ≡ i = omega arith in subst (λ j. val (w 0) ≤q val (w j)) e (≤-refl (val (w 0))); positive = g 0 (omega arith) })
 least w (suc k) f g = go (least w k (λ i l. f i (omega arith)) (λ i l. g i (omega arith)))
   where
-    go : Least w (suc k) (minOf w (suc k)) → Least w (suc (suc k)) (fmin (minOf w (suc k)) (w (suc k)))
+    go : Least w (suc k) (minFrom (inf false) w (suc k)) → Least w (suc (suc k)) (fmin (minFrom (inf false) w (suc k)) (w (suc k)))
     go r =
-        let m = min-below (minOf w (suc k)) (w (suc k)) (r .held) (f (suc k) (omega arith)) in
+        let m = min-below (minFrom (inf false) w (suc k)) (w (suc k)) (r .held) (f (suc k) (omega arith)) in
         record {
           held = m .held;
-          all = λ i l. elim (eq-or-lt-of-le (le-of-suc-le-suc l)) [ inl e ↦ subst (λ j. val (fmin (minOf w (suc k)) (w (suc k))) ≤q val (w j)) (sym e) (m .second) | inr h ↦ ≤-trans (m .first) (r .all i h) ];
+          all = λ i l. elim (eq-or-lt-of-le (le-of-suc-le-suc l)) [ inl e ↦ subst (λ j. val (fmin (minFrom (inf false) w (suc k)) (w (suc k))) ≤q val (w j)) (sym e) (m .second) | inr h ↦ ≤-trans (m .first) (r .all i h) ];
           positive = m .positive (r .positive) (g (suc k) (omega arith));
         }
 
@@ -153,10 +185,6 @@ pub record ControlIn (c : Control) (X Y Z W : ℚ) : Type 0 where
   pub z : JetIn (c .z) Z q0 q0
   pub w : JetIn (c .w) W q0 q0
 
-abbrev pub Places : Place → ℚ → ℚ → ℚ → ℚ → Type 0
-Places (P.Is c) X Y Z W = ControlIn c X Y Z W
-Places (P.Refused n) X Y Z W = n ≡ 0 → ⊥
-
 pub record FinitePoint (p : Point) : Type 0 where
   pub x : T (finite (p .x))
   pub y : T (finite (p .y))
@@ -166,32 +194,22 @@ moved-in : (p o : Float) (q : Interval) (W : ℚ) → T (finite p) → T (finite
 unfolding movedOf
 moved-in p o q W f g d = jet-const _ (mul-inside _ q _ W (sub-inside _ _ _ _ (point-inside p f) (point-inside o g)) d)
 
-pub place-in : (p o : Point) (w scale : Float) → FinitePoint p → FinitePoint o → T (finite w) → T (finite scale) → val scale ≢ q0
-    → Places (placeOf p o w scale) ((val (p .x) -q val (o .x)) *q (val w /q val scale)) ((val (p .y) -q val (o .y)) *q (val w /q val scale))
-    ((val (p .z) -q val (o .z)) *q (val w /q val scale)) (val w /q val scale)
-unfolding placeOf
-place-in p o w scale f g h k n = go (divideOf (pointOf w) (pointOf scale)) (divide-inside _ _ _ _ (point-inside w h) (point-inside scale k))
-  where
-    go : (q : Quotient) → Divides q (val w /q val scale)
-        → Places (placeBy p o q) ((val (p .x) -q val (o .x)) *q (val w /q val scale)) ((val (p .y) -q val (o .y)) *q (val w /q val scale))
-        ((val (p .z) -q val (o .z)) *q (val w /q val scale)) (val w /q val scale)
-    go (Q.Is q) d = record {
-      x = moved-in (p .x) (o .x) q (val w /q val scale) (f .x) (g .x) d;
-      y = moved-in (p .y) (o .y) q (val w /q val scale) (f .y) (g .y) d;
-      z = moved-in (p .z) (o .z) q (val w /q val scale) (f .z) (g .z) d;
-      w = jet-const q d;
+pub control-in : (p o : Point) (w : Float) (r : Interval) (σ : ℚ) → FinitePoint p → FinitePoint o → T (finite w) → Inside r (inv σ)
+    → ControlIn (controlOf p o w r) ((val (p .x) -q val (o .x)) *q (val w /q σ)) ((val (p .y) -q val (o .y)) *q (val w /q σ)) ((val (p .z) -q val (o .z)) *q (val w /q σ)) (val w /q σ)
+unfolding controlOf
+control-in p o w r σ f g h k =
+    let d : Inside (mulOf (pointOf w) r) (val w /q σ) = subst (Inside (mulOf (pointOf w) r)) (sym (div-is (val w) σ)) (mul-inside _ r _ (inv σ) (point-inside w h) k) in
+    record {
+      x = moved-in (p .x) (o .x) (mulOf (pointOf w) r) (val w /q σ) (f .x) (g .x) d;
+      y = moved-in (p .y) (o .y) (mulOf (pointOf w) r) (val w /q σ) (f .y) (g .y) d;
+      z = moved-in (p .z) (o .z) (mulOf (pointOf w) r) (val w /q σ) (f .z) (g .z) d;
+      w = jet-const (mulOf (pointOf w) r) d;
     }
-    go Q.HoldsZero d = λ e. absurd (omega arith)
-    go Q.Unbounded d = λ e. absurd (omega arith)
 
-pub control-in : (f : Place) {X Y Z W : ℚ} → Places f X Y Z W → placeRefused f ≡ 0 → ControlIn (placeControl f) X Y Z W
-control-in (P.Is c) h e = h
-control-in (P.Refused n) h e = absurd (h e)
-
-pub up-0 : (f : ℕ → Place) (k i : ℕ) → refusalUp f k i ≡ 0 → (m : ℕ) → m < k → placeRefused (f (i + m)) ≡ 0
+pub up-0 : (f : ℕ → NetAnswer) (k i : ℕ) → refusalUp f k i ≡ 0 → (m : ℕ) → m < k → netRefused (f (i + m)) ≡ 0
 unfolding refusalUp
 up-0 f zero i h m l = absurd (omega arith)
 up-0 f (suc k) i h zero l = let e : i + 0 ≡ i = omega arith in rw e (orElse-0 _ _ h .0)
 up-0 f (suc k) i h (suc m) l =
     let e : i + suc m ≡ i + 1 + m = omega arith in
-    rw e (up-0 f k (i + 1) (orElse-0 (placeRefused (f i)) _ h .1) m (omega arith))
+    rw e (up-0 f k (i + 1) (orElse-0 (netRefused (f i)) _ h .1) m (omega arith))

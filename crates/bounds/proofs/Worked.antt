@@ -6,14 +6,14 @@ use Prim.Native.Nat.{ℕ}
 use lib.Dec.{T, eqb}
 use lib.Ieee.{Float, binary64, ofBits, toBits, isNan, lt, le, eq, add, sub, mul, div, neg}
 use Rattle.doubles.specs.Neighbour.{upFrom, downFrom}
-use Rattle.interval.specs.Ops.{newOf, pointOf, containsOf, checkedOf, addOf, subOf, mulOf, someNan, divideOf}
+use Rattle.interval.specs.Ops.{newOf, pointOf, containsOf, checkedOf, addOf, subOf, mulOf, someNan, reciprocalOf, divideOf}
 use Rattle.knots.specs.Below.{allBelow}
 use Rattle.knots.specs.Knots.{allFinite, inOrder, ordered, apart, orderRefusal, knotRefusal}
 use Rattle.knots.specs.Curve.{overLong, anyLong, isWeight, allWeights, controlRefusal, formedRefusal, curveRefusal}
 use Rattle.bounds.specs.Jet.{constantOf, jetSub, jetAdd, jetMul, jetScale}
 use Rattle.bounds.specs.Net.{shareOf, mixJet, mixOf, shareAt, levelOf, refusalFrom, netOf, refusalLevels, lastBy, deboorOf}
 use Rattle.bounds.specs.Range.{inSpan, firstFrom, spanOver, rangeRefusal, weightAt}
-use Rattle.bounds.specs.Start.{maxOf, minOf, rangeOf, weightsOf, movedOf, placeOf, pointAt, refusalUp, startAt}
+use Rattle.bounds.specs.Start.{maxFrom, minFrom, rangeOf, weightsOf, movedOf, controlOf, pointAt, startAt, rowOf}
 use Rattle.bounds.specs.Cartesian.{coordinateOf, cartesianOf}
 use Rattle.bounds.specs.Answer.{boundsOf}
 use Rattle.bounds.specs.Curve.{parameterOf, spanBound, boundOf}
@@ -73,5 +73,5 @@ all [] = true
 all (r ∷ rs) = eqb (r .0) (r .1) && all rs
 
 pub worked : T (all rows)
-unfolding constantOf jetSub jetAdd jetMul jetScale shareOf mixJet mixOf shareAt levelOf refusalFrom netOf refusalLevels lastBy deboorOf inSpan firstFrom spanOver rangeRefusal weightAt maxOf minOf rangeOf weightsOf movedOf placeOf pointAt refusalUp startAt coordinateOf cartesianOf boundsOf parameterOf spanBound boundOf overLong anyLong isWeight allWeights controlRefusal formedRefusal curveRefusal allFinite inOrder ordered apart orderRefusal knotRefusal allBelow newOf pointOf containsOf checkedOf addOf subOf mulOf someNan divideOf upFrom downFrom ofBits toBits isNan lt le eq add sub mul div neg
+unfolding constantOf jetSub jetAdd jetMul jetScale shareOf mixJet mixOf shareAt levelOf refusalFrom netOf refusalLevels lastBy deboorOf inSpan firstFrom spanOver rangeRefusal weightAt maxFrom minFrom rangeOf weightsOf movedOf controlOf pointAt startAt rowOf coordinateOf cartesianOf boundsOf parameterOf spanBound boundOf overLong anyLong isWeight allWeights controlRefusal formedRefusal curveRefusal allFinite inOrder ordered apart orderRefusal knotRefusal allBelow newOf pointOf containsOf checkedOf addOf subOf mulOf someNan reciprocalOf divideOf upFrom downFrom ofBits toBits isNan lt le eq add sub mul div neg
 worked = tt

@@ -2,50 +2,40 @@
 use Prim.Native.Nat.{ℕ, zero, suc}
 use lib.Ieee.{Float}
 use Rattle.doubles.specs.Neighbour.{fmin, fmax}
-use Rattle.interval.specs.Ops.{pointOf, addOf, subOf, mulOf, newOf, divideOf}
+use Rattle.interval.specs.Ops.{pointOf, addOf, subOf, mulOf, newOf, reciprocalOf}
 use Rattle.interval.specs.declared.Interval.{Interval}
 use Rattle.interval.specs.declared.New.{New}
 use Rattle.interval.specs.declared.New.the-variants.{Made, Nothing}
 use Rattle.interval.specs.declared.Quotient.{Quotient}
 use Rattle.interval.specs.declared.Quotient.the-variants as Q
 use Rattle.bounds.specs.declared.jet.Jet.{Jet}
-use Rattle.bounds.specs.declared.jet.JetAnswer.{JetAnswer}
-use Rattle.bounds.specs.declared.jet.JetAnswer.the-variants as J
 use Rattle.bounds.specs.declared.net.Control.{Control}
+use Rattle.bounds.specs.declared.net.NetAnswer.{NetAnswer}
+use Rattle.bounds.specs.declared.net.NetAnswer.the-variants as N
 use Rattle.bounds.specs.declared.start.Point.{Point}
 use Rattle.bounds.specs.declared.cartesian.Bounds.{Bounds}
 use Rattle.bounds.specs.declared.cartesian.BoundAnswer.{BoundAnswer}
 use Rattle.bounds.specs.declared.cartesian.BoundAnswer.the-variants as B
 
-abbrev pub dvBy : Interval → Interval → Quotient → JetAnswer
-dvBy v du (Q.Is dv) = J.Is (record { v = v; du = du; dv = dv })
-dvBy v du Q.HoldsZero = J.Refused 26
-dvBy v du Q.Unbounded = J.Refused 28
+-- one coordinate, r the weight's reciprocal: the quotient moved by the reference, and (h' - q weight') r twice
+unfoldable pub coordinateOf : Jet → Jet → Interval → Float → Jet
+coordinateOf h weight r o =
+    let q = mulOf (h .v) r in
+    record { v = addOf q (pointOf o); du = mulOf (subOf (h .du) (mulOf q (weight .du))) r; dv = mulOf (subOf (h .dv) (mulOf q (weight .dv))) r }
 
-abbrev pub duBy : Jet → Jet → Interval → Float → Interval → Quotient → JetAnswer
-duBy h weight w o q (Q.Is du) = dvBy (addOf q (pointOf o)) du (divideOf (subOf (h .dv) (mulOf q (weight .dv))) w)
-duBy h weight w o q Q.HoldsZero = J.Refused 26
-duBy h weight w o q Q.Unbounded = J.Refused 28
-
-abbrev pub vBy : Jet → Jet → Interval → Float → Quotient → JetAnswer
-vBy h weight w o (Q.Is q) = duBy h weight w o q (divideOf (subOf (h .du) (mulOf q (weight .du))) w)
-vBy h weight w o Q.HoldsZero = J.Refused 26
-vBy h weight w o Q.Unbounded = J.Refused 28
-
--- one coordinate: the quotient moved by the reference, and (h' - q weight') / w twice
-unfoldable pub coordinateOf : Jet → Jet → Interval → Float → JetAnswer
-coordinateOf h weight w o = vBy h weight w o (divideOf (h .v) w)
-
--- the first refusal, or the three
-abbrev pub boxBy : JetAnswer → JetAnswer → JetAnswer → BoundAnswer
-boxBy (J.Refused n) y z = B.Refused n
-boxBy (J.Is x) (J.Refused n) z = B.Refused n
-boxBy (J.Is x) (J.Is y) (J.Refused n) = B.Refused n
-boxBy (J.Is x) (J.Is y) (J.Is z) = B.Are (record { x = x; y = y; z = z })
+abbrev pub boxBy : Control → Point → Quotient → BoundAnswer
+boxBy h o (Q.Is r) = B.Are (record { x = coordinateOf (h .x) (h .w) r (o .x); y = coordinateOf (h .y) (h .w) r (o .y); z = coordinateOf (h .z) (h .w) r (o .z) })
+boxBy h o Q.HoldsZero = B.Refused 26
+boxBy h o Q.Unbounded = B.Refused 28
 
 abbrev pub cutBy : Control → Point → New → BoundAnswer
-cutBy h o (Made w) = boxBy (coordinateOf (h .x) (h .w) w (o .x)) (coordinateOf (h .y) (h .w) w (o .y)) (coordinateOf (h .z) (h .w) w (o .z))
+cutBy h o (Made w) = boxBy h o (reciprocalOf w)
 cutBy h o Nothing = B.Refused 29
 
+-- the weight is cut with its other enclosure before it divides
 unfoldable pub cartesianOf : Control → Point → Interval → BoundAnswer
 cartesianOf h o bound = cutBy h o (newOf (fmax (h .w .v .lo) (bound .lo)) (fmin (h .w .v .hi) (bound .hi)))
+
+abbrev pub netBy : Point → Interval → NetAnswer → BoundAnswer
+netBy o bound (N.Is h) = cartesianOf h o bound
+netBy o bound (N.Refused n) = B.Refused n

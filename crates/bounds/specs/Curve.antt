@@ -11,16 +11,12 @@ use Rattle.interval.specs.declared.New.the-variants.{Made, Nothing}
 use Rattle.doubles.specs.Value.{zero+, one+}
 use Rattle.interval.specs.Ops.{pointOf, newOf}
 use Rattle.bounds.specs.declared.jet.Jet.{Jet}
-use Rattle.bounds.specs.declared.net.NetAnswer.{NetAnswer}
-use Rattle.bounds.specs.declared.net.NetAnswer.the-variants as N
-use Rattle.bounds.specs.declared.start.Point.{Point}
 use Rattle.bounds.specs.declared.start.Weights.{Weights}
 use Rattle.bounds.specs.declared.start.Weights.the-variants as W
 use Rattle.bounds.specs.declared.cartesian.BoundAnswer.{BoundAnswer}
 use Rattle.bounds.specs.declared.cartesian.BoundAnswer.the-variants as B
-use Rattle.bounds.specs.Net.{deboorOf}
-use Rattle.bounds.specs.Start.{weightsOf, startAt, placeControl, refusalUp, pointAt}
-use Rattle.bounds.specs.Cartesian.{cartesianOf}
+use Rattle.bounds.specs.Start.{weightsOf, pointAt, rowOf}
+use Rattle.bounds.specs.Cartesian.{netBy}
 use Rattle.bounds.specs.Range.{weightAt, spanOver, takenSpan, rangeRefusal}
 use Rattle.bounds.specs.Answer.{boundedOf}
 use Rattle.bounds.specs.declared.answer.Bounded.{Bounded}
@@ -33,22 +29,13 @@ use lib.Dec.{eqb}
 unfoldable pub parameterOf : Interval → Jet
 parameterOf range = record { v = range; du = pointOf one+; dv = pointOf zero+ }
 
--- a refusal that is not 0, or the answer
-abbrev pub refuse : ℕ → BoundAnswer → BoundAnswer
-refuse zero a = a
-refuse (suc n) a = B.Refused (suc n)
-
-abbrev pub netBy : Point → Interval → NetAnswer → BoundAnswer
-netBy o bound (N.Is h) = cartesianOf h o bound
-netBy o bound (N.Refused n) = B.Refused n
-
 module _ (p s : ℕ) (ks ps ws : List Float) (r : Bool) (lo hi : Float) where
   abbrev pub rangeIs : Float → Interval → New → BoundAnswer
-  rangeIs scale bound (Made i) = netBy (pointAt ps (s - p)) bound (deboorOf ks p s (parameterOf i) (λ m. placeControl (startAt ps ws r (s - p) scale m)))
+  rangeIs scale bound (Made i) = let o = pointAt ps (s - p) in netBy o bound (rowOf ps ws r (s - p) o scale ks p s (parameterOf i))
   rangeIs scale bound Nothing = B.Refused 24
 
   abbrev pub weightsAre : Weights → BoundAnswer
-  weightsAre (W.Are scale bound) = refuse (refusalUp (startAt ps ws r (s - p) scale) (p + 1) 0) (rangeIs scale bound (newOf lo hi))
+  weightsAre (W.Are scale bound) = rangeIs scale bound (newOf lo hi)
   weightsAre (W.Refused n) = B.Refused n
 
   -- the bounds on span s

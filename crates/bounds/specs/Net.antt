@@ -4,7 +4,6 @@ use mathlib.Core.Bool.{Bool, true, false, cond}
 use mathlib.Core.List.{List}
 use Prim.Native.Nat.{ℕ, zero, suc, _+_, _-_, _≤_, _<_}
 use lib.Dec.{leb}
-use lib.ListN.{length, getD}
 use lib.Ieee.{Float}
 use Rattle.doubles.specs.Run.{at}
 use Rattle.doubles.specs.Value.{zero+, one+}
@@ -16,7 +15,6 @@ use Rattle.bounds.specs.declared.jet.Jet.{Jet}
 use Rattle.bounds.specs.declared.net.Control.{Control}
 use Rattle.bounds.specs.declared.jet.JetAnswer.{JetAnswer}
 use Rattle.bounds.specs.declared.jet.JetAnswer.the-variants as F
-use Rattle.bounds.specs.declared.net.Net.{Net}
 use Rattle.bounds.specs.declared.net.NetAnswer.{NetAnswer}
 use Rattle.bounds.specs.declared.net.NetAnswer.the-variants as N
 use Rattle.bounds.specs.Jet.{constantOf, jetSub, jetAdd, jetMul, jetScale}
@@ -30,6 +28,7 @@ shareBy t l Unbounded = F.Refused 28
 unfoldable pub shareOf : Jet → Float → Float → JetAnswer
 shareOf t left right = shareBy t (pointOf left) (divideOf (pointOf one+) (subOf (pointOf right) (pointOf left)))
 
+-- (1 - alpha) a + alpha b
 unfoldable pub mixJet : Jet → Jet → Jet → Jet
 mixJet alpha a b = jetAdd (jetMul (jetSub (constantOf (pointOf one+)) alpha) a) (jetMul alpha b)
 
@@ -44,6 +43,11 @@ refusedBy (F.Refused n) = n
 abbrev pub mixBy : JetAnswer → Control → Control → Control
 mixBy (F.Is alpha) a b = mixOf alpha a b
 mixBy (F.Refused n) a b = b
+
+-- two neighbours under their share, or its refusal
+abbrev pub neighbours : JetAnswer → Control → Control → NetAnswer
+neighbours (F.Is alpha) a b = N.Is (mixOf alpha a b)
+neighbours (F.Refused n) a b = N.Refused n
 
 -- the first that is not 0
 abbrev pub orElse : ℕ → ℕ → ℕ
@@ -74,12 +78,6 @@ module _ (ks : List Float) (p s : ℕ) (t : Jet) where
   refusalLevels l zero = 0
   refusalLevels l (suc k) = orElse (refusalFrom l (p + 1 - l) p) (refusalLevels (l + 1) k)
 
--- what one level leaves; the default d is never read
-pub record LevelDone (ks : List Float) (p s : ℕ) (t : Jet) (l : ℕ) (before : List Control) (after : Net) : Type 0 where
-  pub long : length (after .work) ≡ 65
-  pub refused : after .refused ≡ refusalFrom ks p s t l (p + 1 - l) p
-  pub done : after .refused ≡ 0 → (d : Control) (i : ℕ) → i ≤ p → getD (after .work) i d ≡ levelOf ks p s t l (λ k. getD before k d) i
-
 -- the answer of all levels
 unfoldable pub lastBy : ℕ → Control → NetAnswer
 lastBy zero c = N.Is c
@@ -88,5 +86,28 @@ lastBy (suc n) c = N.Refused (suc n)
 unfoldable pub deboorOf : List Float → ℕ → ℕ → Jet → (ℕ → Control) → NetAnswer
 deboorOf ks p s t c = lastBy (refusalLevels ks p s t 1 p) (netOf ks p s t c p p)
 
-abbrev pub NetMeets : List Float → ℕ → ℕ → Jet → List Control → NetAnswer → Type 0
-NetMeets ks p s t work r = (d : Control) → r ≡ deboorOf ks p s t (λ k. getD work k d)
+-- ---- a net whose places may be refused
+
+abbrev pub netRefused : NetAnswer → ℕ
+netRefused (N.Is c) = 0
+netRefused (N.Refused n) = n
+
+abbrev pub zeroControl : Control
+zeroControl = let z = constantOf (pointOf zero+) in record { x = z; y = z; z = z; w = z }
+
+abbrev pub netControl : NetAnswer → Control
+netControl (N.Is c) = c
+netControl (N.Refused n) = zeroControl
+
+-- the first refusal of k places from i up
+unfoldable pub refusalUp : (ℕ → NetAnswer) → ℕ → ℕ → ℕ
+refusalUp f zero i = 0
+refusalUp f (suc k) i = orElse (netRefused (f i)) (refusalUp f k (i + 1))
+
+abbrev pub refuseNet : ℕ → NetAnswer → NetAnswer
+refuseNet zero a = a
+refuseNet (suc n) a = N.Refused (suc n)
+
+-- all levels on places 0 to p
+unfoldable pub filledOf : List Float → ℕ → ℕ → Jet → (ℕ → NetAnswer) → NetAnswer
+filledOf ks p s t f = refuseNet (refusalUp f (p + 1) 0) (deboorOf ks p s t (λ m. netControl (f m)))

@@ -1,7 +1,7 @@
 // From the homogeneous net to Cartesian bounds.
 use crate::jet::Jet;
-use crate::jet::JetAnswer;
 use crate::net::Control;
+use crate::net::NetAnswer;
 use crate::start::Point;
 use interval::Interval;
 use interval::New;
@@ -9,7 +9,7 @@ use interval::Quotient;
 use interval::float::max;
 use interval::float::min;
 ghost use mathlib.Core.Path.{_≡_};
-ghost use Rattle.bounds.specs.Cartesian.{coordinateOf, cartesianOf};
+ghost use Rattle.bounds.specs.Cartesian.{coordinateOf, cartesianOf, netBy};
 
 // Enclosures of the three coordinates, each with its derivatives.
 pub struct Bounds {
@@ -23,24 +23,15 @@ pub enum BoundAnswer {
     Refused(u32),
 }
 
-fn coordinate(h: Jet, weight: Jet, w: Interval, o: f64) -> JetAnswer
-    ensures { λ r. ⌜ r ≡ coordinateOf h weight w o ⌝ }
+// One coordinate, r the weight's reciprocal.
+fn coordinate(h: Jet, weight: Jet, r: Interval, o: f64) -> Jet
+    ensures { λ j. ⌜ j ≡ coordinateOf h weight r o ⌝ }
 {
-    match interval::divide(h.v, w) {
-        Quotient::Is(q) => match interval::divide(h.du.sub(q.mul(weight.du)), w) {
-            Quotient::Is(du) => match interval::divide(h.dv.sub(q.mul(weight.dv)), w) {
-                Quotient::Is(dv) => {
-                    let v = q.add(Interval::point(o));
-                    JetAnswer::Is(Jet { v, du, dv })
-                }
-                Quotient::HoldsZero => JetAnswer::Refused(26),
-                Quotient::Unbounded => JetAnswer::Refused(28),
-            },
-            Quotient::HoldsZero => JetAnswer::Refused(26),
-            Quotient::Unbounded => JetAnswer::Refused(28),
-        },
-        Quotient::HoldsZero => JetAnswer::Refused(26),
-        Quotient::Unbounded => JetAnswer::Refused(28),
+    let q = h.v.mul(r);
+    Jet {
+        v: q.add(Interval::point(o)),
+        du: h.du.sub(q.mul(weight.du)).mul(r),
+        dv: h.dv.sub(q.mul(weight.dv)).mul(r),
     }
 }
 
@@ -52,16 +43,25 @@ pub fn cartesian(h: Control, o: Point, bound: Interval) -> BoundAnswer
     let lo = max(own.lo(), bound.lo());
     let hi = min(own.hi(), bound.hi());
     match Interval::new(lo, hi) {
-        New::Made(w) => match coordinate(h.x, weight, w, o.x) {
-            JetAnswer::Is(x) => match coordinate(h.y, weight, w, o.y) {
-                JetAnswer::Is(y) => match coordinate(h.z, weight, w, o.z) {
-                    JetAnswer::Is(z) => BoundAnswer::Are(Bounds { x, y, z }),
-                    JetAnswer::Refused(n) => BoundAnswer::Refused(n),
-                },
-                JetAnswer::Refused(n) => BoundAnswer::Refused(n),
-            },
-            JetAnswer::Refused(n) => BoundAnswer::Refused(n),
+        New::Made(w) => match interval::reciprocal(w) {
+            Quotient::Is(r) => BoundAnswer::Are(Bounds {
+                x: coordinate(h.x, weight, r, o.x),
+                y: coordinate(h.y, weight, r, o.y),
+                z: coordinate(h.z, weight, r, o.z),
+            }),
+            Quotient::HoldsZero => BoundAnswer::Refused(26),
+            Quotient::Unbounded => BoundAnswer::Refused(28),
         },
         New::Nothing => BoundAnswer::Refused(29),
+    }
+}
+
+// The bounds by the net's last point.
+pub fn cartesian_of(a: NetAnswer, o: Point, bound: Interval) -> BoundAnswer
+    ensures { λ r. ⌜ r ≡ netBy o bound a ⌝ }
+{
+    match a {
+        NetAnswer::Is(h) => cartesian(h, o, bound),
+        NetAnswer::Refused(n) => BoundAnswer::Refused(n),
     }
 }

@@ -2,16 +2,14 @@
 use crate::answer::Bounded;
 use crate::answer::answer_of;
 use crate::cartesian::BoundAnswer;
-use crate::cartesian::cartesian;
+use crate::cartesian::cartesian_of;
 use crate::jet::Jet;
-use crate::net::NetAnswer;
-use crate::net::deboor;
 use crate::range::range_refusal;
 use crate::range::span_over;
 use crate::range::taken_span;
 use crate::start::Weights;
 use crate::start::point_at;
-use crate::start::start;
+use crate::start::row_of;
 use crate::start::weights_of;
 use interval::Interval;
 use interval::New;
@@ -58,17 +56,24 @@ fn on_span(
     let first = s - degree;
     match weights_of(rational, weights, first, degree + 1) {
         Weights::Are(scale, bound) => {
-            let net = start(points, weights, rational, first, degree, scale);
-            let refused = net.refused;
-            if refused != 0 {
-                return BoundAnswer::Refused(refused);
-            }
-            let work = net.work;
+            let o = point_at(points, first);
             match Interval::new(lo, hi) {
-                New::Made(range) => match deboor(work, knots, degree, s, parameter(range)) {
-                    NetAnswer::Is(h) => cartesian(h, point_at(points, first), bound),
-                    NetAnswer::Refused(n) => BoundAnswer::Refused(n),
-                },
+                New::Made(range) => cartesian_of(
+                    row_of(
+                        points,
+                        weights,
+                        rational,
+                        first,
+                        o,
+                        scale,
+                        knots,
+                        degree,
+                        s,
+                        parameter(range),
+                    ),
+                    o,
+                    bound,
+                ),
                 New::Nothing => BoundAnswer::Refused(24),
             }
         }

@@ -1,12 +1,11 @@
-// The homogeneous net of a span, and de Boor's levels on it.
+// The homogeneous net of a span, and de Boor's step on it.
 use crate::jet::Jet;
 use crate::jet::JetAnswer;
 use interval::Interval;
 use interval::Quotient;
 ghost use mathlib.Core.Path.{_≡_};
-ghost use Prim.Native.Nat.{_+_, _≤_, _<_};
-ghost use lib.ListN.{length};
-ghost use Rattle.bounds.specs.Net.{shareOf, mixJet, mixOf, LevelDone, NetMeets};
+ghost use Rattle.bounds.specs.Jet.{jetAdd, jetMul};
+ghost use Rattle.bounds.specs.Net.{shareOf, mixOf, neighbours, zeroControl};
 
 // A point of the net: three weighted coordinates and the weight.
 pub struct Control {
@@ -14,6 +13,24 @@ pub struct Control {
     pub y: Jet,
     pub z: Jet,
     pub w: Jet,
+}
+
+// A point of the net, or the number of a refusal.
+pub enum NetAnswer {
+    Is(Control),
+    Refused(u32),
+}
+
+pub fn zero_control() -> Control
+    ensures { λ r. ⌜ r ≡ zeroControl ⌝ }
+{
+    let zero = Jet::constant(Interval::point(0.0));
+    Control {
+        x: zero,
+        y: zero,
+        z: zero,
+        w: zero,
+    }
 }
 
 // The share of the right neighbour, (t - left) / (right - left).
@@ -29,99 +46,31 @@ fn share_at(t: Jet, left: f64, right: f64) -> JetAnswer
     }
 }
 
-fn mix_jet(alpha: Jet, a: Jet, b: Jet) -> Jet
-    ensures { λ r. ⌜ r ≡ mixJet alpha a b ⌝ }
+fn mix_jet(beta: Jet, a: Jet, alpha: Jet, b: Jet) -> Jet
+    ensures { λ r. ⌜ r ≡ jetAdd (jetMul beta a) (jetMul alpha b) ⌝ }
 {
-    let one = Jet::constant(Interval::point(1.0));
-    one.sub(alpha).mul(a).add(alpha.mul(b))
+    beta.mul(a).add(alpha.mul(b))
 }
 
+// 1 - alpha is worked out once for the four.
 fn mix(alpha: Jet, a: Control, b: Control) -> Control
     ensures { λ r. ⌜ r ≡ mixOf alpha a b ⌝ }
 {
+    let beta = Jet::constant(Interval::point(1.0)).sub(alpha);
     Control {
-        x: mix_jet(alpha, a.x, b.x),
-        y: mix_jet(alpha, a.y, b.y),
-        z: mix_jet(alpha, a.z, b.z),
-        w: mix_jet(alpha, a.w, b.w),
+        x: mix_jet(beta, a.x, alpha, b.x),
+        y: mix_jet(beta, a.y, alpha, b.y),
+        z: mix_jet(beta, a.z, alpha, b.z),
+        w: mix_jet(beta, a.w, alpha, b.w),
     }
 }
 
-// A net, or the number of a refusal where that is not 0.
-pub struct Net {
-    pub work: [Control; 65],
-    pub refused: u32,
-}
-
-// One level: the places from the degree down to the level.
-fn one_level(
-    work: [Control; 65],
-    knots: &[f64],
-    degree: usize,
-    span: usize,
-    level: usize,
-    t: Jet,
-) -> Net
-    requires { ⌜ 0 < level ⌝ }
-    requires { ⌜ level ≤ degree ⌝ }
-    requires { ⌜ degree ≤ 64 ⌝ }
-    requires { ⌜ degree ≤ span ⌝ }
-    requires { ⌜ span + degree < length (now knots) ⌝ }
-    requires { ⌜ length work ≡ 65 ⌝ }
-    ensures { λ r. ⌜ LevelDone (now (knots .entry)) degree span t level work r ⌝ }
+// Two neighbours under the share between two knots.
+pub fn step(t: Jet, left: f64, right: f64, a: Control, b: Control) -> NetAnswer
+    ensures { λ r. ⌜ r ≡ neighbours (shareOf t left right) a b ⌝ }
 {
-    let mut net = work;
-    let mut j = degree;
-    while j >= level {
-        let a = span - degree + j;
-        let b = span + j - level + 1;
-        match share_at(t, knots[a], knots[b]) {
-            JetAnswer::Is(alpha) => {
-                let k = j - 1;
-                let left = net[k];
-                let right = net[j];
-                net[j] = mix(alpha, left, right);
-            }
-            JetAnswer::Refused(n) => {
-                return Net {
-                    work: net,
-                    refused: n,
-                };
-            }
-        }
-        j -= 1;
+    match share_at(t, left, right) {
+        JetAnswer::Is(alpha) => NetAnswer::Is(mix(alpha, a, b)),
+        JetAnswer::Refused(n) => NetAnswer::Refused(n),
     }
-    Net {
-        work: net,
-        refused: 0,
-    }
-}
-
-// The net's last point, or the number of a refusal.
-pub enum NetAnswer {
-    Is(Control),
-    Refused(u32),
-}
-
-// All levels.
-pub fn deboor(work: [Control; 65], knots: &[f64], degree: usize, span: usize, t: Jet) -> NetAnswer
-    requires { ⌜ degree ≤ 64 ⌝ }
-    requires { ⌜ degree ≤ span ⌝ }
-    requires { ⌜ span + degree < length (now knots) ⌝ }
-    requires { ⌜ length work ≡ 65 ⌝ }
-    ensures { λ r. ⌜ NetMeets (now (knots .entry)) degree span t work r ⌝ }
-{
-    let mut net = work;
-    let mut level = 1usize;
-    while level <= degree {
-        let next = one_level(net, knots, degree, span, level, t);
-        let refused = next.refused;
-        if refused != 0 {
-            return NetAnswer::Refused(refused);
-        }
-        let w = next.work;
-        net = w;
-        level += 1;
-    }
-    NetAnswer::Is(net[degree])
 }

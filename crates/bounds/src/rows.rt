@@ -1,74 +1,29 @@
 // Bounds of a surface on one rectangle of nonempty spans.
 use crate::cartesian::BoundAnswer;
-use crate::cartesian::cartesian;
+use crate::cartesian::cartesian_of;
 use crate::curve::parameter;
 use crate::jet::Jet;
-use crate::net::Control;
-use crate::net::Net;
 use crate::net::NetAnswer;
-use crate::net::deboor;
-use crate::start::Place;
+use crate::net::step;
+use crate::net::zero_control;
 use crate::start::Point;
 use crate::start::Weights;
-use crate::start::control;
+use crate::start::max_weight;
+use crate::start::min_weight;
 use crate::start::point_at;
 use crate::start::range_of;
-use crate::start::weight_at;
+use crate::start::row_of;
 use interval::Interval;
 use interval::New;
 use interval::float::infinity;
-use interval::float::max;
-use interval::float::min;
 ghost use mathlib.Core.Path.{_≡_};
 ghost use mathlib.Core.Bool.{true};
 ghost use Prim.Native.Nat.{ℕ, _+_, _-_, _*_, _≤_, _<_};
 ghost use lib.ListN.{length};
+ghost use Rattle.bounds.specs.Net.{filledOf};
 ghost use Rattle.bounds.specs.Range.{weightAt};
-ghost use Rattle.bounds.specs.Surface.{maxFrom, minFrom, maxRows, minRows, secondOf, RowDone, rowAnswer, RowsDone, spansBound, RowsFit, RowsIn, SpansFit};
-
-fn max_from(
-    best: f64,
-    rational: bool,
-    weights: &[f64],
-    base: usize,
-    col: usize,
-    count: usize,
-) -> f64
-    requires { ⌜ base + (col + count) < 2097152 ⌝ }
-    requires { ⌜ (rational ≡ true → base + (col + count) ≤ length (now weights)) ⌝ }
-    ensures { λ r. ⌜ r ≡ maxFrom best (λ k. weightAt rational (now (weights .entry)) (base + (col + k))) count ⌝ }
-{
-    let mut most = best;
-    let mut k = 0usize;
-    while k < count {
-        let j = col + k;
-        most = max(most, weight_at(rational, weights, base + j));
-        k += 1;
-    }
-    most
-}
-
-fn min_from(
-    best: f64,
-    rational: bool,
-    weights: &[f64],
-    base: usize,
-    col: usize,
-    count: usize,
-) -> f64
-    requires { ⌜ base + (col + count) < 2097152 ⌝ }
-    requires { ⌜ (rational ≡ true → base + (col + count) ≤ length (now weights)) ⌝ }
-    ensures { λ r. ⌜ r ≡ minFrom best (λ k. weightAt rational (now (weights .entry)) (base + (col + k))) count ⌝ }
-{
-    let mut least = best;
-    let mut k = 0usize;
-    while k < count {
-        let j = col + k;
-        least = min(least, weight_at(rational, weights, base + j));
-        k += 1;
-    }
-    least
-}
+ghost use Rattle.bounds.specs.Start.{rowOf, rangeOf};
+ghost use Rattle.bounds.specs.Surface.{maxRows, minRows, secondOf, RowsFit, RowsIn, SpansFit, spansBound};
 
 fn max_rows(
     rational: bool,
@@ -80,13 +35,13 @@ fn max_rows(
     cols: usize,
 ) -> f64
     requires { ⌜ RowsFit rational (length (now weights)) row rows nv col cols ⌝ }
-    ensures { λ r. ⌜ r ≡ maxRows (λ m k. weightAt rational (now (weights .entry)) ((row + m) * nv + (col + k))) cols rows ⌝ }
+    ensures { λ r. ⌜ r ≡ maxRows (λ m k. weightAt rational (now (weights .entry)) ((row + m) * nv + col + k)) cols rows ⌝ }
 {
     let mut most = 0.0;
     let mut m = 0usize;
     while m < rows {
         let i = row + m;
-        most = max_from(most, rational, weights, i * nv, col, cols);
+        most = max_weight(most, rational, weights, i * nv + col, cols);
         m += 1;
     }
     most
@@ -102,100 +57,19 @@ fn min_rows(
     cols: usize,
 ) -> f64
     requires { ⌜ RowsFit rational (length (now weights)) row rows nv col cols ⌝ }
-    ensures { λ r. ⌜ r ≡ minRows (λ m k. weightAt rational (now (weights .entry)) ((row + m) * nv + (col + k))) cols rows ⌝ }
+    ensures { λ r. ⌜ r ≡ minRows (λ m k. weightAt rational (now (weights .entry)) ((row + m) * nv + col + k)) cols rows ⌝ }
 {
     let mut least = infinity();
     let mut m = 0usize;
     while m < rows {
         let i = row + m;
-        least = min_from(least, rational, weights, i * nv, col, cols);
+        least = min_weight(least, rational, weights, i * nv + col, cols);
         m += 1;
     }
     least
 }
 
-// The net of one row.
-fn row_net(
-    points: &[f64],
-    weights: &[f64],
-    rational: bool,
-    base: usize,
-    col: usize,
-    o: Point,
-    degree: usize,
-    scale: f64,
-) -> Net
-    requires { ⌜ degree ≤ 64 ⌝ }
-    requires { ⌜ base * 3 + (col + degree) * 3 + 2 < length (now points) ⌝ }
-    requires { ⌜ (rational ≡ true → base + (col + degree) < length (now weights)) ⌝ }
-    ensures { λ r. ⌜ RowDone (now (points .entry)) (now (weights .entry)) rational base col o degree scale r ⌝ }
-{
-    let zero = Jet::constant(Interval::point(0.0));
-    let mut net = [Control {
-        x: zero,
-        y: zero,
-        z: zero,
-        w: zero,
-    }; 65];
-    let mut k = 0usize;
-    while k <= degree {
-        let j = col + k;
-        let i = base + j;
-        match control(
-            point_at(points, i),
-            o,
-            weight_at(rational, weights, i),
-            scale,
-        ) {
-            Place::Is(c) => {
-                net[k] = c;
-            }
-            Place::Refused(n) => {
-                return Net {
-                    work: net,
-                    refused: n,
-                };
-            }
-        }
-        k += 1;
-    }
-    Net {
-        work: net,
-        refused: 0,
-    }
-}
-
-// One row, along v.
-fn row_of(
-    points: &[f64],
-    weights: &[f64],
-    rational: bool,
-    base: usize,
-    col: usize,
-    o: Point,
-    degree: usize,
-    scale: f64,
-    knots: &[f64],
-    span: usize,
-    t: Jet,
-) -> NetAnswer
-    requires { ⌜ degree ≤ 64 ⌝ }
-    requires { ⌜ base * 3 + (col + degree) * 3 + 2 < length (now points) ⌝ }
-    requires { ⌜ (rational ≡ true → base + (col + degree) < length (now weights)) ⌝ }
-    requires { ⌜ degree ≤ span ⌝ }
-    requires { ⌜ span + degree < length (now knots) ⌝ }
-    ensures { λ r. ⌜ r ≡ rowAnswer (now (points .entry)) (now (weights .entry)) rational base col o degree scale (now (knots .entry)) span t ⌝ }
-{
-    let net = row_net(points, weights, rational, base, col, o, degree, scale);
-    let refused = net.refused;
-    if refused != 0 {
-        return NetAnswer::Refused(refused);
-    }
-    let work = net.work;
-    deboor(work, knots, degree, span, t)
-}
-
-// The rows, along v: the net that is left for u.
+// The rows along v, and all levels along u on the column of them.
 fn rows_of(
     points: &[f64],
     weights: &[f64],
@@ -204,60 +78,63 @@ fn rows_of(
     nv: usize,
     col: usize,
     o: Point,
-    p: usize,
-    q: usize,
     scale: f64,
-    knots: &[f64],
-    span: usize,
-    t: Jet,
-) -> Net
+    vk: &[f64],
+    q: usize,
+    vs: usize,
+    v: Jet,
+    uk: &[f64],
+    p: usize,
+    us: usize,
+    u: Jet,
+) -> NetAnswer
     requires { ⌜ p ≤ 64 ⌝ }
+    requires { ⌜ p ≤ us ⌝ }
+    requires { ⌜ us + p < length (now uk) ⌝ }
     requires { ⌜ q ≤ 64 ⌝ }
-    requires { ⌜ q ≤ span ⌝ }
-    requires { ⌜ span + q < length (now knots) ⌝ }
-    requires { ⌜ RowsIn rational (length (now points)) (length (now weights)) row p nv col q ⌝ }
-    ensures { λ r. ⌜ RowsDone (λ m. rowAnswer (now (points .entry)) (now (weights .entry)) rational ((row + m) * nv) col o q scale (now (knots .entry)) span t) p r ⌝ }
+    requires { ⌜ q ≤ vs ⌝ }
+    requires { ⌜ vs + q < length (now vk) ⌝ }
+    requires { ⌜ RowsFit rational (length (now weights)) row (p + 1) nv col (q + 1) ⌝ }
+    requires { ⌜ RowsIn (length (now points)) row (p + 1) nv col (q + 1) ⌝ }
+    ensures { λ a. ⌜ a ≡ filledOf (now (uk .entry)) p us u (λ m. rowOf (now (points .entry)) (now (weights .entry)) rational ((row + m) * nv + col) o scale (now (vk .entry)) q vs v) ⌝ }
 {
-    let zero = Jet::constant(Interval::point(0.0));
-    let mut net = [Control {
-        x: zero,
-        y: zero,
-        z: zero,
-        w: zero,
-    }; 65];
+    let mut net = [zero_control(); 65];
     let mut m = 0usize;
     while m <= p {
         let i = row + m;
-        let base = i * nv;
-        match row_of(
-            points,
-            weights,
-            rational,
-            base,
-            col,
-            o,
-            q,
-            scale,
-            knots,
-            span,
-            t,
-        ) {
+        let base = i * nv + col;
+        match row_of(points, weights, rational, base, o, scale, vk, q, vs, v) {
             NetAnswer::Is(c) => {
                 net[m] = c;
             }
             NetAnswer::Refused(n) => {
-                return Net {
-                    work: net,
-                    refused: n,
-                };
+                return NetAnswer::Refused(n);
             }
         }
         m += 1;
     }
-    Net {
-        work: net,
-        refused: 0,
+    let mut level = 1usize;
+    let mut j = p;
+    while level <= p {
+        let a = us - p + j;
+        let b = us + j - level + 1;
+        let k = j - 1;
+        match step(u, uk[a], uk[b], net[k], net[j]) {
+            NetAnswer::Is(c) => {
+                net[j] = c;
+            }
+            NetAnswer::Refused(n) => {
+                return NetAnswer::Refused(n);
+            }
+        }
+        if j > level {
+            j -= 1;
+        } else {
+            level += 1;
+            j = p;
+        }
     }
+    NetAnswer::Is(net[p])
 }
 
 // The second parameter as a jet.
@@ -269,6 +146,24 @@ fn second(range: Interval) -> Jet
         du: Interval::point(0.0),
         dv: Interval::point(1.0),
     }
+}
+
+// The scale and the enclosure of the active weights.
+fn weights_in(
+    rational: bool,
+    weights: &[f64],
+    row: usize,
+    rows: usize,
+    nv: usize,
+    col: usize,
+    cols: usize,
+) -> Weights
+    requires { ⌜ RowsFit rational (length (now weights)) row rows nv col cols ⌝ }
+    ensures { λ r. ⌜ r ≡ rangeOf (minRows (λ m k. weightAt rational (now (weights .entry)) ((row + m) * nv + col + k)) cols rows) (maxRows (λ m k. weightAt rational (now (weights .entry)) ((row + m) * nv + col + k)) cols rows) ⌝ }
+{
+    let most = max_rows(rational, weights, row, rows, nv, col, cols);
+    let least = min_rows(rational, weights, row, rows, nv, col, cols);
+    range_of(least, most)
 }
 
 // The bounds on spans us and vs.
@@ -293,38 +188,35 @@ pub fn on_spans(
 {
     let row = us - p;
     let col = vs - q;
-    let most = max_rows(rational, weights, row, p + 1, nv, col, q + 1);
-    let least = min_rows(rational, weights, row, p + 1, nv, col, q + 1);
-    match range_of(least, most) {
+    match weights_in(rational, weights, row, p + 1, nv, col, q + 1) {
         Weights::Are(scale, bound) => match Interval::new(vlo, vhi) {
             New::Made(iv) => match Interval::new(ulo, uhi) {
                 New::Made(iu) => {
-                    let first = row * nv;
-                    let o = point_at(points, first + col);
-                    let net = rows_of(
-                        points,
-                        weights,
-                        rational,
-                        row,
-                        nv,
-                        col,
+                    let o = point_at(points, row * nv + col);
+                    let v = second(iv);
+                    let u = parameter(iu);
+                    cartesian_of(
+                        rows_of(
+                            points,
+                            weights,
+                            rational,
+                            row,
+                            nv,
+                            col,
+                            o,
+                            scale,
+                            vk,
+                            q,
+                            vs,
+                            v,
+                            uk,
+                            p,
+                            us,
+                            u,
+                        ),
                         o,
-                        p,
-                        q,
-                        scale,
-                        vk,
-                        vs,
-                        second(iv),
-                    );
-                    let refused = net.refused;
-                    if refused != 0 {
-                        return BoundAnswer::Refused(refused);
-                    }
-                    let work = net.work;
-                    match deboor(work, uk, p, us, parameter(iu)) {
-                        NetAnswer::Is(h) => cartesian(h, o, bound),
-                        NetAnswer::Refused(n) => BoundAnswer::Refused(n),
-                    }
+                        bound,
+                    )
                 }
                 New::Nothing => BoundAnswer::Refused(24),
             },

@@ -1,7 +1,9 @@
 // The net that a bound starts with: weights over the largest, and points relative to the first.
 use crate::jet::Jet;
 use crate::net::Control;
-use crate::net::Net;
+use crate::net::NetAnswer;
+use crate::net::step;
+use crate::net::zero_control;
 use interval::Interval;
 use interval::New;
 use interval::Quotient;
@@ -12,8 +14,9 @@ ghost use mathlib.Core.Path.{_≡_};
 ghost use mathlib.Core.Bool.{true};
 ghost use Prim.Native.Nat.{_+_, _*_, _≤_, _<_};
 ghost use lib.ListN.{length};
+ghost use Rattle.bounds.specs.Net.{deboorOf};
 ghost use Rattle.bounds.specs.Range.{weightAt};
-ghost use Rattle.bounds.specs.Start.{maxOf, minOf, rangeOf, weightsOf, movedOf, placeOf, pointAt, StartDone};
+ghost use Rattle.bounds.specs.Start.{maxFrom, minFrom, rangeOf, weightsOf, movedOf, controlOf, pointAt, startAt, rowOf};
 
 pub fn weight_at(rational: bool, weights: &[f64], i: usize) -> f64
     requires { ⌜ (rational ≡ true → i < length (now weights)) ⌝ }
@@ -22,34 +25,33 @@ pub fn weight_at(rational: bool, weights: &[f64], i: usize) -> f64
     if rational { weights[i] } else { 1.0 }
 }
 
-// The largest active weight, or 0.
-fn max_weight(rational: bool, weights: &[f64], first: usize, count: usize) -> f64
+// The largest of a number and some weights.
+pub fn max_weight(best: f64, rational: bool, weights: &[f64], first: usize, count: usize) -> f64
     requires { ⌜ first + count < 2097152 ⌝ }
     requires { ⌜ (rational ≡ true → first + count ≤ length (now weights)) ⌝ }
-    ensures { λ r. ⌜ r ≡ maxOf (λ m. weightAt rational (now (weights .entry)) (first + m)) count ⌝ }
+    ensures { λ r. ⌜ r ≡ maxFrom best (λ m. weightAt rational (now (weights .entry)) (first + m)) count ⌝ }
 {
-    let mut best = 0.0;
+    let mut most = best;
     let mut m = 0usize;
     while m < count {
-        best = max(best, weight_at(rational, weights, first + m));
+        most = max(most, weight_at(rational, weights, first + m));
         m += 1;
     }
-    best
+    most
 }
 
-// The smallest active weight, or infinity.
-fn min_weight(rational: bool, weights: &[f64], first: usize, count: usize) -> f64
+pub fn min_weight(best: f64, rational: bool, weights: &[f64], first: usize, count: usize) -> f64
     requires { ⌜ first + count < 2097152 ⌝ }
     requires { ⌜ (rational ≡ true → first + count ≤ length (now weights)) ⌝ }
-    ensures { λ r. ⌜ r ≡ minOf (λ m. weightAt rational (now (weights .entry)) (first + m)) count ⌝ }
+    ensures { λ r. ⌜ r ≡ minFrom best (λ m. weightAt rational (now (weights .entry)) (first + m)) count ⌝ }
 {
-    let mut best = infinity();
+    let mut least = best;
     let mut m = 0usize;
     while m < count {
-        best = min(best, weight_at(rational, weights, first + m));
+        least = min(least, weight_at(rational, weights, first + m));
         m += 1;
     }
-    best
+    least
 }
 
 // The scale and the enclosure of the weight, or the number of a refusal.
@@ -82,15 +84,9 @@ pub fn weights_of(rational: bool, weights: &[f64], first: usize, count: usize) -
     requires { ⌜ (rational ≡ true → first + count ≤ length (now weights)) ⌝ }
     ensures { λ r. ⌜ r ≡ weightsOf (λ m. weightAt rational (now (weights .entry)) (first + m)) count ⌝ }
 {
-    let most = max_weight(rational, weights, first, count);
-    let least = min_weight(rational, weights, first, count);
+    let most = max_weight(0.0, rational, weights, first, count);
+    let least = min_weight(infinity(), rational, weights, first, count);
     range_of(least, most)
-}
-
-// A point of the net, or the number of a refusal.
-pub enum Place {
-    Is(Control),
-    Refused(u32),
 }
 
 pub struct Point {
@@ -105,18 +101,15 @@ fn moved(p: f64, o: f64, weight: Interval) -> Jet
     Jet::constant(Interval::point(p).sub(Interval::point(o)).mul(weight))
 }
 
-pub fn control(p: Point, o: Point, w: f64, scale: f64) -> Place
-    ensures { λ r. ⌜ r ≡ placeOf p o w scale ⌝ }
+fn control(p: Point, o: Point, w: f64, r: Interval) -> Control
+    ensures { λ c. ⌜ c ≡ controlOf p o w r ⌝ }
 {
-    match interval::divide(Interval::point(w), Interval::point(scale)) {
-        Quotient::Is(q) => Place::Is(Control {
-            x: moved(p.x, o.x, q),
-            y: moved(p.y, o.y, q),
-            z: moved(p.z, o.z, q),
-            w: Jet::constant(q),
-        }),
-        Quotient::HoldsZero => Place::Refused(26),
-        Quotient::Unbounded => Place::Refused(28),
+    let q = Interval::point(w).mul(r);
+    Control {
+        x: moved(p.x, o.x, q),
+        y: moved(p.y, o.y, q),
+        z: moved(p.z, o.z, q),
+        w: Jet::constant(q),
     }
 }
 
@@ -132,51 +125,91 @@ pub fn point_at(points: &[f64], i: usize) -> Point
     }
 }
 
-// The net of the active points.
-pub fn start(
+// The net of a row, and all levels on it: the places from the degree down to the level. The array is filled and used here, since a net that is passed is copied.
+fn row_by(
     points: &[f64],
     weights: &[f64],
     rational: bool,
-    first: usize,
+    base: usize,
+    o: Point,
+    r: Interval,
+    knots: &[f64],
     degree: usize,
-    scale: f64,
-) -> Net
+    span: usize,
+    t: Jet,
+) -> NetAnswer
     requires { ⌜ degree ≤ 64 ⌝ }
-    requires { ⌜ first * 3 + degree * 3 + 2 < length (now points) ⌝ }
-    requires { ⌜ (rational ≡ true → first + degree < length (now weights)) ⌝ }
-    ensures { λ r. ⌜ StartDone (now (points .entry)) (now (weights .entry)) rational first degree scale r ⌝ }
+    requires { ⌜ degree ≤ span ⌝ }
+    requires { ⌜ span + degree < length (now knots) ⌝ }
+    requires { ⌜ base * 3 + degree * 3 + 2 < length (now points) ⌝ }
+    requires { ⌜ (rational ≡ true → base + degree < length (now weights)) ⌝ }
+    ensures { λ a. ⌜ a ≡ deboorOf (now (knots .entry)) degree span t (startAt (now (points .entry)) (now (weights .entry)) rational base o r) ⌝ }
 {
-    let o = point_at(points, first);
-    let zero = Jet::constant(Interval::point(0.0));
-    let mut net = [Control {
-        x: zero,
-        y: zero,
-        z: zero,
-        w: zero,
-    }; 65];
+    let mut net = [zero_control(); 65];
     let mut m = 0usize;
     while m <= degree {
-        let i = first + m;
-        match control(
-            point_at(points, i),
-            o,
-            weight_at(rational, weights, i),
-            scale,
-        ) {
-            Place::Is(c) => {
-                net[m] = c;
-            }
-            Place::Refused(n) => {
-                return Net {
-                    work: net,
-                    refused: n,
-                };
-            }
-        }
+        let i = base + m;
+        net[m] = control(point_at(points, i), o, weight_at(rational, weights, i), r);
         m += 1;
     }
-    Net {
-        work: net,
-        refused: 0,
+    let mut level = 1usize;
+    let mut j = degree;
+    while level <= degree {
+        let a = span - degree + j;
+        let b = span + j - level + 1;
+        let k = j - 1;
+        match step(t, knots[a], knots[b], net[k], net[j]) {
+            NetAnswer::Is(c) => {
+                net[j] = c;
+            }
+            NetAnswer::Refused(n) => {
+                return NetAnswer::Refused(n);
+            }
+        }
+        if j > level {
+            j -= 1;
+        } else {
+            level += 1;
+            j = degree;
+        }
+    }
+    NetAnswer::Is(net[degree])
+}
+
+// All levels on the row at base, its weights over the scale.
+pub fn row_of(
+    points: &[f64],
+    weights: &[f64],
+    rational: bool,
+    base: usize,
+    o: Point,
+    scale: f64,
+    knots: &[f64],
+    degree: usize,
+    span: usize,
+    t: Jet,
+) -> NetAnswer
+    requires { ⌜ degree ≤ 64 ⌝ }
+    requires { ⌜ degree ≤ span ⌝ }
+    requires { ⌜ span + degree < length (now knots) ⌝ }
+    requires { ⌜ base * 3 + degree * 3 + 2 < length (now points) ⌝ }
+    requires { ⌜ (rational ≡ true → base + degree < length (now weights)) ⌝ }
+    ensures { λ a. ⌜ a ≡ rowOf (now (points .entry)) (now (weights .entry)) rational base o scale (now (knots .entry)) degree span t ⌝ }
+{
+    match interval::reciprocal(Interval::point(scale)) {
+        Quotient::Is(r) => row_by(
+            points,
+            weights,
+            rational,
+            base,
+            o,
+            r,
+            knots,
+            degree,
+            span,
+            t,
+        ),
+        Quotient::HoldsZero => NetAnswer::Refused(26),
+        Quotient::Unbounded => NetAnswer::Refused(28),
     }
 }

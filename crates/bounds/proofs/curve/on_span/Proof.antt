@@ -1,85 +1,82 @@
-use denote.Ref.{now}
-use Rattle.bounds.proofs.Steps.{net-is, refuse-first}
-use Rattle.bounds.specs.Curve.{spanBound, refuse}
-use mathlib.Core.Path.{_≡_, refl, sym, _∙_, ap, ap₂, subst}
+use mathlib.Core.Path.{_≡_, refl, sym, ap, ap₂, _∙_, subst}
 use native.Mathlib.Omega.{arith}
+use denote.Ref.{now}
+use Prim.Native.Nat.{ℕ, _+_, _-_, _*_}
+use Rattle.bounds.specs.Curve.{spanBound}
 use borrow.Author.Needs.{needs}
 use Rattle.bounds.proofs.curve.on_span.Statement.{statement}
 use Rattle.bounds.proofs.curve.on_span.Tie as tie
 use Rattle.bounds.proofs.curve.on_span.Reads as reads
 use Rattle.bounds.proofs.curve.on_span.Lts as lts
-use Rattle.bounds.proofs.cartesian.cartesian.Reads as cartesian-reads
+use Rattle.bounds.proofs.cartesian.cartesian_of.Reads as cartesian-of-reads
 use Rattle.bounds.proofs.curve.parameter.Reads as parameter-reads
-use Rattle.bounds.proofs.net.deboor.Reads as deboor-reads
 use Rattle.bounds.proofs.start.point_at.Reads as point-at-reads
-use Rattle.bounds.proofs.start.start.Reads as start-reads
+use Rattle.bounds.proofs.start.row_of.Reads as row-of-reads
 use Rattle.bounds.proofs.start.weights_of.Reads as weights-of-reads
 use Rattle.interval.proofs.Interval.new.Reads as new-reads
 
+-- src/curve.rt:56:17
 sub-first : tie.Need-sub-first
 sub-first c = search needs
 
+-- src/curve.rt:57:48
 add-weights-of : tie.Need-add-weights-of
 add-weights-of c = search needs
 
+-- src/curve.rt:57:11
 weights-of-requires : tie.Need-weights-of-requires
 weights-of-requires c κs = (omega (arith, c .before .before .before .pre .1 .0, c .before .before .before .pre .1 .1 .1 .0, c .before .before .before .pre .1 .1 .1 .1 .0), λ r. omega (arith, c .before .before .before .pre .1 .0, c .before .before .before .pre .1 .1 .1 .1 .1 r))
 
+-- src/curve.rt:58:22
 enum-known-scale : tie.Need-enum-known-scale
 enum-known-scale c = search needs
 
-start-requires : tie.Need-start-requires
-start-requires c κs = (c .before .before .before .before .before .before .before .pre .0, (omega (arith, c .before .before .before .before .before .before .before .pre .1 .0, c .before .before .before .before .before .before .before .pre .1 .1 .1 .0), λ r. omega (arith, c .before .before .before .before .before .before .before .pre .1 .0, c .before .before .before .before .before .before .before .pre .1 .1 .1 .1 .1 r)))
+-- src/curve.rt:59:17
+point-at-requires : tie.Need-point-at-requires
+point-at-requires c κs = search needs
 
-returns : tie.Need-returns
-unfolding spanBound
-returns c = rw (← (c .before .before .before .before .before .weights-of .ensures), c .before .before .before .scale .given .1, ← (c .before .start .ensures .refused)) (refuse-first _ _ (c .if1 .taken))
-
+-- src/curve.rt:60:19
 new-requires : tie.Need-new-requires
 new-requires c κs = search needs
 
+-- src/curve.rt:61:27
 enum-known-range : tie.Need-enum-known-range
 enum-known-range c = search needs
 
+-- src/curve.rt:72:25
 parameter-requires : tie.Need-parameter-requires
 parameter-requires c κs = search needs
 
-deboor-requires : tie.Need-deboor-requires
-deboor-requires c κs = (c .before .before .before .before .before .before .before .before .before .before .before .before .before .before .before .pre .0, (c .before .before .before .before .before .before .before .before .before .before .before .before .before .before .before .pre .1 .0, (c .before .before .before .before .before .before .before .before .before .before .before .before .before .before .before .pre .1 .1 .0, c .before .before .before .before .before .before .before .start .ensures .long)))
+-- src/curve.rt:62:21
+row-of-requires : tie.Need-row-of-requires
+row-of-requires c κs = (c .before .before .before .before .before .before .before .before .before .before .before .before .before .pre .0, (c .before .before .before .before .before .before .before .before .before .before .before .before .before .pre .1 .0, (c .before .before .before .before .before .before .before .before .before .before .before .before .before .pre .1 .1 .0, (omega (arith, c .before .before .before .before .before .before .before .before .before .before .before .before .before .pre .1 .0, c .before .before .before .before .before .before .before .before .before .before .before .before .before .pre .1 .1 .1 .0), λ r. omega (arith, c .before .before .before .before .before .before .before .before .before .before .before .before .before .pre .1 .0, c .before .before .before .before .before .before .before .before .before .before .before .before .before .pre .1 .1 .1 .1 .1 r)))))
 
-enum-known-h : tie.Need-enum-known-h
-enum-known-h c = search needs
+-- src/curve.rt:61:37
+cartesian-of-requires : tie.Need-cartesian-of-requires
+cartesian-of-requires c κs = search needs
 
-point-at-requires : tie.Need-point-at-requires
-point-at-requires c κs = omega (arith, c .before .before .before .before .before .before .before .before .before .before .before .before .before .before .before .before .before .before .before .pre .1 .0, c .before .before .before .before .before .before .before .before .before .before .before .before .before .before .before .before .before .before .before .pre .1 .1 .1 .0)
-
-cartesian-requires : tie.Need-cartesian-requires
-cartesian-requires c κs = search needs
-
-enum-known-n : tie.Need-enum-known-n
-enum-known-n c = search needs
-
+-- src/curve.rt:77:33
 enum-told : tie.Need-enum-told
 enum-told c = search needs
 
-enum-known-n-2 : tie.Need-enum-known-n-2
-enum-known-n-2 c = search needs
+-- src/curve.rt:80:26
+enum-known-n : tie.Need-enum-known-n
+enum-known-n c = search needs
 
+-- src/curve.rt:38:1
+returns : tie.Need-returns
+unfolding spanBound
+returns c = rw (← (c .before .before .before .before .before .before .before .before .before .before .before .weights-of .ensures), c .before .before .before .before .before .before .before .before .before .scale .given .1, ← (c .before .before .before .before .before .before .new .ensures), c .before .before .before .before .range .given .1, ← (c .before .before .parameter .ensures), ← (c .before .before .before .before .before .before .before .point-at .ensures), ← (c .before .row-of .ensures)) (c .cartesian-of .ensures)
+
+-- src/curve.rt:38:1
 returns-2 : tie.Need-returns-2
 unfolding spanBound
-returns-2 c = rw (← (c .before .before .before .before .before .before .before .before .before .before .before .before .before .before .before .before .before .weights-of .ensures), c .before .before .before .before .before .before .before .before .before .before .before .before .before .before .before .scale .given .1, ← (c .before .before .before .before .before .before .before .before .before .before .before .before .before .start .ensures .refused), c .before .before .before .before .before .before .before .before .before .before .before .before .if1 .left, ← (c .before .before .before .before .before .before .before .before .before .before .new .ensures), c .before .before .before .before .before .before .before .before .range .given .1, ← (c .before .before .before .before .before .before .parameter .ensures), ← (net-is (now ((c .before .before .before .before .before .before .before .before .before .before .before .before .before .before .before .before .before .before .before .before .before .args) .knots)) (now ((c .before .before .before .before .before .before .before .before .before .before .before .before .before .before .before .before .before .before .before .before .before .args) .points)) (now ((c .before .before .before .before .before .before .before .before .before .before .before .before .before .before .before .before .before .before .before .before .before .args) .weights)) ((c .before .before .before .before .before .before .before .before .before .before .before .before .before .before .before .before .before .before .before .before .before .args) .rational) _ ((c .before .before .before .before .before .before .before .before .before .before .before .before .before .before .before .before .before .before .before .before .before .args) .degree) ((c .before .before .before .before .before .before .before .before .before .before .before .before .before .before .before .before .before .before .before .before .before .args) .s) _ _ (c .before .before .before .before .before .before .before .before .before .before .before .before .before .start .result) (c .before .before .before .before .before .before .before .before .before .before .before .before .before .start .ensures) (c .before .before .before .before .before .before .before .before .before .before .before .before .if1 .left) (c .before .before .before .before .before .deboor .result) (c .before .before .before .before .before .deboor .ensures)), c .before .before .before .h .given .1, ← (c .before .point-at .ensures), ← (c .cartesian .ensures))
+returns-2 c = rw (← (c .before .before .before .before .before .before .before .weights-of .ensures), c .before .before .before .before .before .scale .given .1, ← (c .before .before .new .ensures), c .enum-told .given .1)
 
+-- src/curve.rt:38:1
 returns-3 : tie.Need-returns-3
 unfolding spanBound
-returns-3 c = rw (← (c .before .before .before .before .before .before .before .before .before .before .before .before .before .before .before .weights-of .ensures), c .before .before .before .before .before .before .before .before .before .before .before .before .before .scale .given .1, ← (c .before .before .before .before .before .before .before .before .before .before .before .start .ensures .refused), c .before .before .before .before .before .before .before .before .before .before .if1 .left, ← (c .before .before .before .before .before .before .before .before .new .ensures), c .before .before .before .before .before .before .range .given .1, ← (c .before .before .before .before .parameter .ensures), ← (net-is (now ((c .before .before .before .before .before .before .before .before .before .before .before .before .before .before .before .before .before .before .before .args) .knots)) (now ((c .before .before .before .before .before .before .before .before .before .before .before .before .before .before .before .before .before .before .before .args) .points)) (now ((c .before .before .before .before .before .before .before .before .before .before .before .before .before .before .before .before .before .before .before .args) .weights)) ((c .before .before .before .before .before .before .before .before .before .before .before .before .before .before .before .before .before .before .before .args) .rational) _ ((c .before .before .before .before .before .before .before .before .before .before .before .before .before .before .before .before .before .before .before .args) .degree) ((c .before .before .before .before .before .before .before .before .before .before .before .before .before .before .before .before .before .before .before .args) .s) _ _ (c .before .before .before .before .before .before .before .before .before .before .before .start .result) (c .before .before .before .before .before .before .before .before .before .before .before .start .ensures) (c .before .before .before .before .before .before .before .before .before .before .if1 .left) (c .before .before .before .deboor .result) (c .before .before .before .deboor .ensures)), c .before .n .given .1)
-
-returns-4 : tie.Need-returns-4
-unfolding spanBound
-returns-4 c = rw (← (c .before .before .before .before .before .before .before .before .before .weights-of .ensures), c .before .before .before .before .before .before .before .scale .given .1, ← (c .before .before .before .before .before .start .ensures .refused), c .before .before .before .before .if1 .left, ← (c .before .before .new .ensures), c .enum-told .given .1)
-
-returns-5 : tie.Need-returns-5
-unfolding spanBound
-returns-5 c = rw (← (c .before .before .before .weights-of .ensures), c .before .n2 .given .1)
+returns-3 c = rw (← (c .before .before .before .weights-of .ensures), c .before .n .given .1)
 
 pub on-span-spec : {M : Type 1} → statement M
 on-span-spec =
@@ -89,19 +86,14 @@ on-span-spec =
     add-weights-of
     weights-of-requires
     enum-known-scale
-    start-requires
-    returns
+    point-at-requires
     new-requires
     enum-known-range
     parameter-requires
-    deboor-requires
-    enum-known-h
-    point-at-requires
-    cartesian-requires
-    enum-known-n
+    row-of-requires
+    cartesian-of-requires
     enum-told
-    enum-known-n-2
+    enum-known-n
+    returns
     returns-2
-    returns-3
-    returns-4
-    returns-5)
+    returns-3)

@@ -1,55 +1,61 @@
-use Rattle.bounds.proofs.RowSteps.{max-rows-more}
-use lib.Ieee.{ofBits}
-use lib.Ieee.{Float}
-use denote.Ref.{now}
-use Prim.Native.Nat.{ℕ, _+_, _-_, _*_, _≤_}
-use Rattle.bounds.specs.Range.{weightAt}
-use Rattle.bounds.specs.Surface.{maxRows, maxFrom}
-use borrow.Author.Needs.{needs}
+use mathlib.Core.Path.{_≡_, refl, sym, ap, ap₂, _∙_, subst}
 use native.Mathlib.Omega.{arith}
-use mathlib.Core.Path.{_≡_, refl, sym, _∙_, ap, ap₂, subst}
+use denote.Ref.{now}
+use borrow.Author.Needs.{needs}
+use Prim.Native.Nat.{ℕ, _+_, _-_, _*_, _≤_}
+use Rattle.bounds.specs.Start.{maxFrom}
+use Rattle.bounds.specs.Surface.{maxRows}
+use Rattle.bounds.specs.Range.{weightAt}
+use Rattle.bounds.proofs.Steps.{max-rows-more}
+use lib.Ieee.{Float, ofBits}
 use Rattle.bounds.proofs.rows.max_rows.Statement.{statement}
 use Rattle.bounds.proofs.rows.max_rows.Tie as tie
 use Rattle.bounds.proofs.rows.max_rows.Reads as reads
 use Rattle.bounds.proofs.rows.max_rows.Lts as lts
-use Rattle.bounds.proofs.rows.max_from.Reads as max-from-reads
+use Rattle.bounds.proofs.start.max_weight.Reads as max-weight-reads
 
 abbrev Inv-loop : tie.InvT-loop
-Inv-loop rational weights row rows nv col cols most₀ m₀ most m = (m ≤ rows) × (most ≡ maxRows (λ i j. weightAt rational weights ((row + i) * nv + (col + j))) cols m)
+Inv-loop rational weights row rows nv col cols most₀ m₀ most m = (m ≤ rows) × (most ≡ maxRows (λ i j. weightAt rational weights ((row + i) * nv + col + j)) cols m)
 
 abbrev μ-loop : tie.MeasureT-loop
 μ-loop rational weights row rows nv col cols most₀ m₀ most m = rows - m
 
+-- src/rows.rt:42:5
 loop-holds : tie.Need-loop-holds Inv-loop μ-loop
 unfolding maxRows ofBits
 loop-holds c = (omega arith, refl)
 
+-- src/rows.rt:43:17
 add-i : tie.Need-add-i Inv-loop μ-loop
-add-i c = search needs
+add-i c = omega (arith, c .before .before .before .pre .few, c .loop-test .taken)
 
-mul-max-from : tie.Need-mul-max-from Inv-loop μ-loop
-mul-max-from c = omega (arith, c .before .before .before .pre .small (c .before .loop .m) (c .loop-test .taken))
+-- src/rows.rt:44:52
+mul-max-weight : tie.Need-mul-max-weight Inv-loop μ-loop
+mul-max-weight c = omega (arith, c .before .before .before .pre .small (c .before .loop .m) (c .loop-test .taken))
 
-max-from-requires : tie.Need-max-from-requires Inv-loop μ-loop
-max-from-requires c κs = (c .before .before .before .pre .small (c .before .loop .m) (c .loop-test .taken), λ r. c .before .before .before .pre .inside r (c .before .loop .m) (c .loop-test .taken))
+-- src/rows.rt:44:52
+add-max-weight : tie.Need-add-max-weight Inv-loop μ-loop
+add-max-weight c = omega (arith, c .before .before .before .pre .small (c .before .loop .m) (c .loop-test .taken))
 
+-- src/rows.rt:44:9
+max-weight-requires : tie.Need-max-weight-requires Inv-loop μ-loop
+max-weight-requires c κs = (c .before .before .before .pre .small (c .before .loop .m) (c .loop-test .taken), λ r. c .before .before .before .pre .inside r (c .before .loop .m) (c .loop-test .taken))
+
+-- src/rows.rt:45:9
 add-m : tie.Need-add-m Inv-loop μ-loop
-add-m c = search needs
+add-m c = omega (arith, c .before .before .before .before .pre .few, c .before .loop-test .taken)
 
+-- src/rows.rt:42:5
 loop-less : tie.Need-loop-less Inv-loop μ-loop
-loop-less c = search needs
+loop-less c = omega (arith, c .before .before .before .before .pre .few, c .before .loop-test .taken)
 
+-- src/rows.rt:42:5
 loop-again : tie.Need-loop-again Inv-loop μ-loop
-loop-again c = let al = c .before .before in
-    let a = c .before .before .before .before .args in
-    (omega arith, c .max-from .ensures ∙ ap (λ (x : Float). maxFrom x (λ (k : ℕ). weightAt (a .rational) (now (a .weights)) ((a .row + al .loop .m) * a .nv + (a .col + k))) (a .cols)) (al .loop .inv .1) ∙ sym (max-rows-more (λ (i : ℕ) (j : ℕ). weightAt (a .rational) (now (a .weights)) ((a .row + i) * a .nv + (a .col + j))) (a .cols) (al .loop .m)))
+loop-again c = let a = c .before .before .before .before .args in (omega (arith, c .before .loop-test .taken), c .max-weight .ensures ∙ ap (λ (x : Float). maxFrom x (λ (k : ℕ). weightAt (a .rational) (now (a .weights)) ((a .row + c .before .before .loop .m) * a .nv + a .col + k)) (a .cols)) (c .before .before .loop .inv .1) ∙ sym (max-rows-more (λ (i : ℕ) (j : ℕ). weightAt (a .rational) (now (a .weights)) ((a .row + i) * a .nv + a .col + j)) (a .cols) (c .before .before .loop .m)))
 
+-- src/rows.rt:28:1
 returns : tie.Need-returns Inv-loop μ-loop
-returns c = let al = c .before in
-    let a = c .before .before .before .args in
-    let i = al .loop .inv in
-    let e : al .loop .m ≡ a .rows = omega arith in
-    i .1 ∙ ap (maxRows (λ (i : ℕ) (j : ℕ). weightAt (a .rational) (now (a .weights)) ((a .row + i) * a .nv + (a .col + j))) (a .cols)) e
+returns c = let a = c .before .before .before .args in let i = c .before .loop .inv in let e : c .before .loop .m ≡ a .rows = omega (arith, i .0, c .loop-test .left) in i .1 ∙ ap (maxRows (λ (i : ℕ) (j : ℕ). weightAt (a .rational) (now (a .weights)) ((a .row + i) * a .nv + a .col + j)) (a .cols)) e
 
 pub max-rows-spec : {M : Type 1} → statement M
 max-rows-spec =
@@ -59,8 +65,9 @@ max-rows-spec =
     μ-loop
     loop-holds
     add-i
-    mul-max-from
-    max-from-requires
+    mul-max-weight
+    add-max-weight
+    max-weight-requires
     add-m
     loop-less
     loop-again

@@ -1,75 +1,209 @@
-use Rattle.bounds.proofs.RowSteps.{rows-start, rows-step, rows-fails, rows-end, InRows, row-not-0}
-use denote.Ref.{now}
-use Prim.Native.Nat.{ℕ, _+_, _-_, _*_}
-use Rattle.bounds.specs.Surface.{rowAnswer}
-use borrow.Author.Needs.{needs}
+use mathlib.Core.Path.{_≡_, refl, sym, ap, ap₂, _∙_, subst}
 use native.Mathlib.Omega.{arith}
-use mathlib.Core.Path.{_≡_, refl, sym, _∙_, ap, ap₂, subst}
+use denote.Ref.{now}
+use borrow.Author.Needs.{needs}
+use Prim.Native.Nat.{ℕ, _+_, _-_, _*_}
+use Rattle.bounds.specs.Net.{zeroControl, shareAt}
+use Rattle.bounds.proofs.Steps.{getD-any, InFill, fill-start, fill-step, InSteps, held, steps-begin, steps-refused, steps-down, steps-up, steps-end, fill-refused, held-filled, row-not-0}
+use Rattle.bounds.specs.Start.{rowOf}
 use Rattle.bounds.proofs.rows.rows_of.Statement.{statement}
 use Rattle.bounds.proofs.rows.rows_of.Tie as tie
 use Rattle.bounds.proofs.rows.rows_of.Reads as reads
 use Rattle.bounds.proofs.rows.rows_of.Lts as lts
-use Rattle.bounds.proofs.jet.Jet.constant.Reads as constant-reads
-use Rattle.bounds.proofs.rows.row_of.Reads as row-of-reads
-use Rattle.interval.proofs.Interval.point.Reads as point-reads
+use Rattle.bounds.proofs.net.step.Reads as step-reads
+use Rattle.bounds.proofs.net.zero_control.Reads as zero-control-reads
+use Rattle.bounds.proofs.start.row_of.Reads as row-of-reads
 
 abbrev Inv-loop : tie.InvT-loop
-Inv-loop points weights rational row nv col o p q scale knots span t net₀ m₀ net m = InRows (λ (i : ℕ). rowAnswer points weights rational ((row + i) * nv) col o q scale knots span t) p net m
+Inv-loop points weights rational row nv col o scale vk q vs v uk p us u net₀ m₀ net m = InFill (λ i. rowOf points weights rational ((row + i) * nv + col) o scale vk q vs v) p net m
 
 abbrev μ-loop : tie.MeasureT-loop
-μ-loop points weights rational row nv col o p q scale knots span t net₀ m₀ net m = p + 1 - m
+μ-loop points weights rational row nv col o scale vk q vs v uk p us u net₀ m₀ net m = p + 1 - m
 
-point-requires : tie.Need-point-requires Inv-loop μ-loop
-point-requires c κs = search needs
+abbrev Inv-loop2 : tie.InvT-loop2
+Inv-loop2 points weights rational row nv col scale vk q vs uk p us u net₀ m level₀ j₀ net level j = InSteps uk p us u (held net₀) net level j
 
-constant-requires : tie.Need-constant-requires Inv-loop μ-loop
-constant-requires c κs = search needs
+abbrev μ-loop2 : tie.MeasureT-loop2
+μ-loop2 points weights rational row nv col scale vk q vs uk p us u net₀ m level₀ j₀ net level j = (p + 1 - level) * 65 + j
 
-loop-holds : tie.Need-loop-holds Inv-loop μ-loop
-loop-holds c = let a = c .before .before .before .before .before .args in rows-start (λ (i : ℕ). rowAnswer (now (a .points)) (now (a .weights)) (a .rational) ((a .row + i) * a .nv) (a .col) (a .o) (a .q) (a .scale) (now (a .knots)) (a .span) (a .t)) (a .p) _ refl
+-- src/rows.rt:101:20
+zero-control-requires : tie.Need-zero-control-requires Inv-loop μ-loop Inv-loop2 μ-loop2
+zero-control-requires c κs = search needs
 
-add-i : tie.Need-add-i Inv-loop μ-loop
-add-i c = omega (arith, c .before .loop .inv .high, c .loop-test .taken, c .before .loop .inv .long, c .before .before .before .before .before .before .before .pre .0, c .before .before .before .before .before .before .before .pre .1 .1 .1 .1 .few)
+-- src/rows.rt:103:5
+loop-holds : tie.Need-loop-holds Inv-loop μ-loop Inv-loop2 μ-loop2
+loop-holds c = fill-start (λ (i : ℕ). rowOf (now (c .before .before .before .before .before .args .points)) (now (c .before .before .before .before .before .args .weights)) (c .before .before .before .before .before .args .rational) ((c .before .before .before .before .before .args .row + i) * c .before .before .before .before .before .args .nv + c .before .before .before .before .before .args .col) (c .before .before .before .before .before .args .o) (c .before .before .before .before .before .args .scale) (now (c .before .before .before .before .before .args .vk)) (c .before .before .before .before .before .args .q) (c .before .before .before .before .before .args .vs) (c .before .before .before .before .before .args .v)) (c .before .before .before .before .before .args .p) _ refl
 
-mul-base : tie.Need-mul-base Inv-loop μ-loop
-mul-base c = omega (arith, c .before .before .before .before .before .before .before .pre .1 .1 .1 .1 .small (c .before .loop .m) (c .loop-test .taken))
+-- src/rows.rt:104:17
+add-i : tie.Need-add-i Inv-loop μ-loop Inv-loop2 μ-loop2
+add-i c = omega (arith, c .before .loop .inv .high, c .loop-test .taken, c .before .loop .inv .long, c .before .before .before .before .before .before .before .pre .0, c .before .before .before .before .before .before .before .pre .1 .1 .1 .1 .1 .1 .0 .few, c .before .before .before .before .before .before .before .pre .1 .1 .1 .1 .1 .1 .0 .small (c .before .loop .m) (omega (arith, c .loop-test .taken)))
 
-row-of-requires : tie.Need-row-of-requires Inv-loop μ-loop
-row-of-requires c κs = (c .before .before .before .before .before .before .before .pre .1 .0, (c .before .before .before .before .before .before .before .pre .1 .1 .1 .1 .inside (c .before .loop .m) (c .loop-test .taken), ((λ r. c .before .before .before .before .before .before .before .pre .1 .1 .1 .1 .weighed r (c .before .loop .m) (c .loop-test .taken)), (c .before .before .before .before .before .before .before .pre .1 .1 .0, c .before .before .before .before .before .before .before .pre .1 .1 .1 .0))))
+-- src/rows.rt:105:20
+mul-base : tie.Need-mul-base Inv-loop μ-loop Inv-loop2 μ-loop2
+mul-base c = omega (arith, c .before .loop .inv .high, c .loop-test .taken, c .before .loop .inv .long, c .before .before .before .before .before .before .before .pre .0, c .before .before .before .before .before .before .before .pre .1 .1 .1 .1 .1 .1 .0 .few, c .before .before .before .before .before .before .before .pre .1 .1 .1 .1 .1 .1 .0 .small (c .before .loop .m) (omega (arith, c .loop-test .taken)))
 
-enum-known-c : tie.Need-enum-known-c Inv-loop μ-loop
+-- src/rows.rt:105:20
+add-base : tie.Need-add-base Inv-loop μ-loop Inv-loop2 μ-loop2
+add-base c = omega (arith, c .before .loop .inv .high, c .loop-test .taken, c .before .loop .inv .long, c .before .before .before .before .before .before .before .pre .0, c .before .before .before .before .before .before .before .pre .1 .1 .1 .1 .1 .1 .0 .few, c .before .before .before .before .before .before .before .pre .1 .1 .1 .1 .1 .1 .0 .small (c .before .loop .m) (omega (arith, c .loop-test .taken)))
+
+-- src/rows.rt:106:15
+row-of-requires : tie.Need-row-of-requires Inv-loop μ-loop Inv-loop2 μ-loop2
+row-of-requires c κs = (c .before .before .before .before .before .before .before .pre .1 .1 .1 .0, (c .before .before .before .before .before .before .before .pre .1 .1 .1 .1 .0, (c .before .before .before .before .before .before .before .pre .1 .1 .1 .1 .1 .0, (omega (arith, c .before .before .before .before .before .before .before .pre .1 .1 .1 .1 .1 .1 .1 (c .before .loop .m) (omega (arith, c .loop-test .taken))), λ x. omega (arith, c .before .before .before .before .before .before .before .pre .1 .1 .1 .1 .1 .1 .0 .inside x (c .before .loop .m) (omega (arith, c .loop-test .taken)))))))
+
+-- src/rows.rt:107:27
+enum-known-c : tie.Need-enum-known-c Inv-loop μ-loop Inv-loop2 μ-loop2
 enum-known-c c = search needs
 
-mul-net : tie.Need-mul-net Inv-loop μ-loop
-mul-net c = omega (arith, c .before .before .before .before .before .loop .inv .high, c .before .before .before .before .loop-test .taken, c .before .before .before .before .before .loop .inv .long, c .before .before .before .before .before .before .before .before .before .before .before .pre .0, c .before .before .before .before .before .before .before .before .before .before .before .pre .1 .1 .1 .1 .few)
+-- src/rows.rt:108:17
+mul-net : tie.Need-mul-net Inv-loop μ-loop Inv-loop2 μ-loop2
+mul-net c = omega (arith, c .before .before .before .before .before .loop .inv .high, c .before .before .before .before .loop-test .taken, c .before .before .before .before .before .loop .inv .long, c .before .before .before .before .before .before .before .before .before .before .before .pre .0, c .before .before .before .before .before .before .before .before .before .before .before .pre .1 .1 .1 .1 .1 .1 .0 .few, c .before .before .before .before .before .before .before .before .before .before .before .pre .1 .1 .1 .1 .1 .1 .0 .small (c .before .before .before .before .before .loop .m) (omega (arith, c .before .before .before .before .loop-test .taken)))
 
-array-set-from-net : tie.Need-array-set-from-net Inv-loop μ-loop
-array-set-from-net c = omega (arith, c .before .before .before .before .before .loop .inv .high, c .before .before .before .before .loop-test .taken, c .before .before .before .before .before .loop .inv .long, c .before .before .before .before .before .before .before .before .before .before .before .pre .0, c .before .before .before .before .before .before .before .before .before .before .before .pre .1 .1 .1 .1 .few)
+-- src/rows.rt:108:17
+array-set-from-net : tie.Need-array-set-from-net Inv-loop μ-loop Inv-loop2 μ-loop2
+array-set-from-net c = omega (arith, c .before .before .before .before .before .loop .inv .high, c .before .before .before .before .loop-test .taken, c .before .before .before .before .before .loop .inv .long, c .before .before .before .before .before .before .before .before .before .before .before .pre .0, c .before .before .before .before .before .before .before .before .before .before .before .pre .1 .1 .1 .1 .1 .1 .0 .few, c .before .before .before .before .before .before .before .before .before .before .before .pre .1 .1 .1 .1 .1 .1 .0 .small (c .before .before .before .before .before .loop .m) (omega (arith, c .before .before .before .before .loop-test .taken)))
 
-enum-known-n : tie.Need-enum-known-n Inv-loop μ-loop
+-- src/rows.rt:110:32
+enum-known-n : tie.Need-enum-known-n Inv-loop μ-loop Inv-loop2 μ-loop2
 enum-known-n c = search needs
 
-returns : tie.Need-returns Inv-loop μ-loop
-returns c = let al = c .before .before .before .before .before in
-    let a = c .before .before .before .before .before .before .before .before .before .before .before .args in
-    rows-fails (λ (i : ℕ). rowAnswer (now (a .points)) (now (a .weights)) (a .rational) ((a .row + i) * a .nv) (a .col) (a .o) (a .q) (a .scale) (now (a .knots)) (a .span) (a .t)) (a .p) (al .loop .net) (al .loop .m) (al .loop .inv) (c .before .before .before .before .loop-test .taken) _ (sym (c .before .before .before .row-of .ensures) ∙ c .before .n .given .1)
-    (row-not-0 (now (a .points)) (now (a .weights)) (a .rational) ((a .row + al .loop .m) * a .nv) (a .col) (a .o) (a .q) (a .scale) (now (a .knots)) (a .span) (a .t) _ (sym (c .before .before .before .row-of .ensures) ∙ c .before .n .given .1))
+-- src/rows.rt:111:17
+returns : tie.Need-returns Inv-loop μ-loop Inv-loop2 μ-loop2
+returns c = fill-refused (λ (i : ℕ). rowOf (now (c .before .before .before .before .before .before .before .before .before .before .before .args .points)) (now (c .before .before .before .before .before .before .before .before .before .before .before .args .weights)) (c .before .before .before .before .before .before .before .before .before .before .before .args .rational) ((c .before .before .before .before .before .before .before .before .before .before .before .args .row + i) * c .before .before .before .before .before .before .before .before .before .before .before .args .nv + c .before .before .before .before .before .before .before .before .before .before .before .args .col) (c .before .before .before .before .before .before .before .before .before .before .before .args .o) (c .before .before .before .before .before .before .before .before .before .before .before .args .scale) (now (c .before .before .before .before .before .before .before .before .before .before .before .args .vk)) (c .before .before .before .before .before .before .before .before .before .before .before .args .q) (c .before .before .before .before .before .before .before .before .before .before .before .args .vs) (c .before .before .before .before .before .before .before .before .before .before .before .args .v)) (c .before .before .before .before .before .before .before .before .before .before .before .args .p) (now (c .before .before .before .before .before .before .before .before .before .before .before .args .uk)) (c .before .before .before .before .before .before .before .before .before .before .before .args .us) (c .before .before .before .before .before .before .before .before .before .before .before .args .u) (c .before .before .before .before .before .loop .net) (c .before .before .before .before .before .loop .m) (c .before .before .before .before .before .loop .inv) (c .before .before .before .before .loop-test .taken) _ (sym (c .before .before .before .row-of .ensures) ∙ c .before .n .given .1) (row-not-0 _ _ _ _ _ _ _ _ _ _ _ (sym (c .before .before .before .row-of .ensures) ∙ c .before .n .given .1))
 
-add-m : tie.Need-add-m Inv-loop μ-loop
-add-m c = omega (arith, c .before .before .before .before .before .loop .inv .high, c .before .before .before .before .loop-test .taken, c .before .before .before .before .before .loop .inv .long, c .before .before .before .before .before .before .before .before .before .before .before .pre .0, c .before .before .before .before .before .before .before .before .before .before .before .pre .1 .1 .1 .1 .few)
+-- src/rows.rt:114:9
+add-m : tie.Need-add-m Inv-loop μ-loop Inv-loop2 μ-loop2
+add-m c = omega (arith, c .before .before .before .before .before .loop .inv .high, c .before .before .before .before .loop-test .taken, c .before .before .before .before .before .loop .inv .long, c .before .before .before .before .before .before .before .before .before .before .before .pre .0, c .before .before .before .before .before .before .before .before .before .before .before .pre .1 .1 .1 .1 .1 .1 .0 .few, c .before .before .before .before .before .before .before .before .before .before .before .pre .1 .1 .1 .1 .1 .1 .0 .small (c .before .before .before .before .before .loop .m) (omega (arith, c .before .before .before .before .loop-test .taken)))
 
-loop-less : tie.Need-loop-less Inv-loop μ-loop
-loop-less c = omega (arith, c .before .before .before .before .before .loop .inv .high, c .before .before .before .before .loop-test .taken, c .before .before .before .before .before .loop .inv .long, c .before .before .before .before .before .before .before .before .before .before .before .pre .0, c .before .before .before .before .before .before .before .before .before .before .before .pre .1 .1 .1 .1 .few)
+-- src/rows.rt:103:5
+loop-less : tie.Need-loop-less Inv-loop μ-loop Inv-loop2 μ-loop2
+loop-less c = omega (arith, c .before .before .before .before .before .loop .inv .high, c .before .before .before .before .loop-test .taken, c .before .before .before .before .before .loop .inv .long, c .before .before .before .before .before .before .before .before .before .before .before .pre .0, c .before .before .before .before .before .before .before .before .before .before .before .pre .1 .1 .1 .1 .1 .1 .0 .few, c .before .before .before .before .before .before .before .before .before .before .before .pre .1 .1 .1 .1 .1 .1 .0 .small (c .before .before .before .before .before .loop .m) (omega (arith, c .before .before .before .before .loop-test .taken)))
 
-loop-again : tie.Need-loop-again Inv-loop μ-loop
-loop-again c = let al = c .before .before .before .before .before in
-    let a = c .before .before .before .before .before .before .before .before .before .before .before .args in
-    rows-step (λ (i : ℕ). rowAnswer (now (a .points)) (now (a .weights)) (a .rational) ((a .row + i) * a .nv) (a .col) (a .o) (a .q) (a .scale) (now (a .knots)) (a .span) (a .t)) (a .p) (al .loop .net) (al .loop .m) (al .loop .inv) (c .before .before .before .before .loop-test .taken) (c .before .before .before .before .before .before .before .before .before .before .before .pre .0) _ (sym (c .before .before .before .row-of .ensures) ∙ c .before .c .given .1)
+-- src/rows.rt:103:5
+loop-again : tie.Need-loop-again Inv-loop μ-loop Inv-loop2 μ-loop2
+loop-again c = fill-step (λ (i : ℕ). rowOf (now (c .before .before .before .before .before .before .before .before .before .before .before .args .points)) (now (c .before .before .before .before .before .before .before .before .before .before .before .args .weights)) (c .before .before .before .before .before .before .before .before .before .before .before .args .rational) ((c .before .before .before .before .before .before .before .before .before .before .before .args .row + i) * c .before .before .before .before .before .before .before .before .before .before .before .args .nv + c .before .before .before .before .before .before .before .before .before .before .before .args .col) (c .before .before .before .before .before .before .before .before .before .before .before .args .o) (c .before .before .before .before .before .before .before .before .before .before .before .args .scale) (now (c .before .before .before .before .before .before .before .before .before .before .before .args .vk)) (c .before .before .before .before .before .before .before .before .before .before .before .args .q) (c .before .before .before .before .before .before .before .before .before .before .before .args .vs) (c .before .before .before .before .before .before .before .before .before .before .before .args .v)) (c .before .before .before .before .before .before .before .before .before .before .before .args .p) (c .before .before .before .before .before .loop .net) (c .before .before .before .before .before .loop .m) (c .before .before .before .before .before .loop .inv) (c .before .before .before .before .loop-test .taken) (c .before .before .before .before .before .before .before .before .before .before .before .pre .0) _ (sym (c .before .before .before .row-of .ensures) ∙ c .before .c .given .1)
 
-returns-2 : tie.Need-returns-2 Inv-loop μ-loop
-returns-2 c = let al = c .before in
-    let a = c .before .before .before .before .before .before .before .args in
-    rows-end (λ (i : ℕ). rowAnswer (now (a .points)) (now (a .weights)) (a .rational) ((a .row + i) * a .nv) (a .col) (a .o) (a .q) (a .scale) (now (a .knots)) (a .span) (a .t)) (a .p) (al .loop .net) (al .loop .m) (al .loop .inv) (c .loop-test .left)
+-- src/rows.rt:118:5
+loop2-holds : tie.Need-loop2-holds Inv-loop μ-loop Inv-loop2 μ-loop2
+loop2-holds c = steps-begin (now (c .before .before .before .before .before .before .before .args .uk)) (c .before .before .before .before .before .before .before .args .p) (c .before .before .before .before .before .before .before .args .us) (c .before .before .before .before .before .before .before .args .u) (c .before .loop .net) (c .before .loop .inv .long) (c .before .before .before .before .before .before .before .pre .0)
+
+-- src/rows.rt:119:17
+sub-a : tie.Need-sub-a Inv-loop μ-loop Inv-loop2 μ-loop2
+sub-a c = omega (arith, c .before .loop2 .inv .high, c .before .loop2 .inv .low, c .before .loop2 .inv .top, c .before .loop2 .inv .inner (c .loop2-test .taken), c .before .before .before .before .before .before .before .before .before .pre .0, c .before .before .before .before .before .before .before .before .before .pre .1 .0, c .before .before .before .before .before .before .before .before .before .pre .1 .1 .0)
+
+-- src/rows.rt:119:17
+add-a : tie.Need-add-a Inv-loop μ-loop Inv-loop2 μ-loop2
+add-a c = omega (arith, c .before .loop2 .inv .high, c .before .loop2 .inv .low, c .before .loop2 .inv .top, c .before .loop2 .inv .inner (c .loop2-test .taken), c .before .before .before .before .before .before .before .before .before .pre .0, c .before .before .before .before .before .before .before .before .before .pre .1 .0, c .before .before .before .before .before .before .before .before .before .pre .1 .1 .0, c .before .before .before .before .before .before .before .before .before .good .1 .1 .1 .1 .1 .1 .1 .1 .1 .1 .1 .1 .0 .1)
+
+-- src/rows.rt:120:17
+add-b : tie.Need-add-b Inv-loop μ-loop Inv-loop2 μ-loop2
+add-b c = omega (arith, c .before .loop2 .inv .high, c .before .loop2 .inv .low, c .before .loop2 .inv .top, c .before .loop2 .inv .inner (c .loop2-test .taken), c .before .before .before .before .before .before .before .before .before .pre .0, c .before .before .before .before .before .before .before .before .before .pre .1 .0, c .before .before .before .before .before .before .before .before .before .pre .1 .1 .0, c .before .before .before .before .before .before .before .before .before .good .1 .1 .1 .1 .1 .1 .1 .1 .1 .1 .1 .1 .0 .1)
+
+-- src/rows.rt:120:17
+sub-b : tie.Need-sub-b Inv-loop μ-loop Inv-loop2 μ-loop2
+sub-b c = omega (arith, c .before .loop2 .inv .high, c .before .loop2 .inv .low, c .before .loop2 .inv .top, c .before .loop2 .inv .inner (c .loop2-test .taken), c .before .before .before .before .before .before .before .before .before .pre .0, c .before .before .before .before .before .before .before .before .before .pre .1 .0, c .before .before .before .before .before .before .before .before .before .pre .1 .1 .0)
+
+-- src/rows.rt:120:17
+add-b-2 : tie.Need-add-b-2 Inv-loop μ-loop Inv-loop2 μ-loop2
+add-b-2 c = omega (arith, c .before .loop2 .inv .high, c .before .loop2 .inv .low, c .before .loop2 .inv .top, c .before .loop2 .inv .inner (c .loop2-test .taken), c .before .before .before .before .before .before .before .before .before .pre .0, c .before .before .before .before .before .before .before .before .before .pre .1 .0, c .before .before .before .before .before .before .before .before .before .pre .1 .1 .0, c .before .before .before .before .before .before .before .before .before .good .1 .1 .1 .1 .1 .1 .1 .1 .1 .1 .1 .1 .0 .1)
+
+-- src/rows.rt:121:17
+sub-k : tie.Need-sub-k Inv-loop μ-loop Inv-loop2 μ-loop2
+sub-k c = omega (arith, c .before .loop2 .inv .high, c .before .loop2 .inv .low, c .before .loop2 .inv .top, c .before .loop2 .inv .inner (c .loop2-test .taken), c .before .before .before .before .before .before .before .before .before .pre .0, c .before .before .before .before .before .before .before .before .before .pre .1 .0, c .before .before .before .before .before .before .before .before .before .pre .1 .1 .0)
+
+-- src/rows.rt:122:23
+mul-step : tie.Need-mul-step Inv-loop μ-loop Inv-loop2 μ-loop2
+mul-step c = omega (arith, c .before .loop2 .inv .high, c .before .loop2 .inv .low, c .before .loop2 .inv .top, c .before .loop2 .inv .inner (c .loop2-test .taken), c .before .before .before .before .before .before .before .before .before .pre .0, c .before .before .before .before .before .before .before .before .before .pre .1 .0, c .before .before .before .before .before .before .before .before .before .pre .1 .1 .0, c .before .before .before .before .before .before .before .before .before .good .1 .1 .1 .1 .1 .1 .1 .1 .1 .1 .1 .1 .0 .1)
+
+-- src/rows.rt:122:23
+shared-slice-read-step : tie.Need-shared-slice-read-step Inv-loop μ-loop Inv-loop2 μ-loop2
+shared-slice-read-step c = omega (arith, c .before .before .loop2 .inv .high, c .before .before .loop2 .inv .low, c .before .before .loop2 .inv .top, c .before .before .loop2 .inv .inner (c .before .loop2-test .taken), c .before .before .before .before .before .before .before .before .before .before .pre .0, c .before .before .before .before .before .before .before .before .before .before .pre .1 .0, c .before .before .before .before .before .before .before .before .before .before .pre .1 .1 .0)
+
+-- src/rows.rt:122:30
+mul-step-2 : tie.Need-mul-step-2 Inv-loop μ-loop Inv-loop2 μ-loop2
+mul-step-2 c = omega (arith, c .before .before .loop2 .inv .high, c .before .before .loop2 .inv .low, c .before .before .loop2 .inv .top, c .before .before .loop2 .inv .inner (c .before .loop2-test .taken), c .before .before .before .before .before .before .before .before .before .before .pre .0, c .before .before .before .before .before .before .before .before .before .before .pre .1 .0, c .before .before .before .before .before .before .before .before .before .before .pre .1 .1 .0, c .before .before .before .before .before .before .before .before .before .before .good .1 .1 .1 .1 .1 .1 .1 .1 .1 .1 .1 .1 .0 .1)
+
+-- src/rows.rt:122:30
+shared-slice-read-step-2 : tie.Need-shared-slice-read-step-2 Inv-loop μ-loop Inv-loop2 μ-loop2
+shared-slice-read-step-2 c = omega (arith, c .before .before .before .loop2 .inv .high, c .before .before .before .loop2 .inv .low, c .before .before .before .loop2 .inv .top, c .before .before .before .loop2 .inv .inner (c .before .before .loop2-test .taken), c .before .before .before .before .before .before .before .before .before .before .before .pre .0, c .before .before .before .before .before .before .before .before .before .before .before .pre .1 .0, c .before .before .before .before .before .before .before .before .before .before .before .pre .1 .1 .0)
+
+-- src/rows.rt:122:37
+mul-step-3 : tie.Need-mul-step-3 Inv-loop μ-loop Inv-loop2 μ-loop2
+mul-step-3 c = omega (arith, c .before .before .before .loop2 .inv .long, c .before .before .before .loop2 .inv .high, c .before .before .before .loop2 .inv .low, c .before .before .before .loop2 .inv .top, c .before .before .before .loop2 .inv .inner (c .before .before .loop2-test .taken), c .before .before .before .before .before .before .before .before .before .before .before .pre .0, c .before .before .before .before .before .before .before .before .before .before .before .pre .1 .0, c .before .before .before .before .before .before .before .before .before .before .before .pre .1 .1 .0)
+
+-- src/rows.rt:122:37
+array-copy-out-step : tie.Need-array-copy-out-step Inv-loop μ-loop Inv-loop2 μ-loop2
+array-copy-out-step c = omega (arith, c .before .before .before .loop2 .inv .long, c .before .before .before .loop2 .inv .high, c .before .before .before .loop2 .inv .low, c .before .before .before .loop2 .inv .top, c .before .before .before .loop2 .inv .inner (c .before .before .loop2-test .taken), c .before .before .before .before .before .before .before .before .before .before .before .pre .0, c .before .before .before .before .before .before .before .before .before .before .before .pre .1 .0, c .before .before .before .before .before .before .before .before .before .before .before .pre .1 .1 .0)
+
+-- src/rows.rt:122:45
+mul-step-4 : tie.Need-mul-step-4 Inv-loop μ-loop Inv-loop2 μ-loop2
+mul-step-4 c = omega (arith, c .before .before .before .before .loop2 .inv .long, c .before .before .before .before .loop2 .inv .high, c .before .before .before .before .loop2 .inv .low, c .before .before .before .before .loop2 .inv .top, c .before .before .before .before .loop2 .inv .inner (c .before .before .before .loop2-test .taken), c .before .before .before .before .before .before .before .before .before .before .before .before .pre .0, c .before .before .before .before .before .before .before .before .before .before .before .before .pre .1 .0, c .before .before .before .before .before .before .before .before .before .before .before .before .pre .1 .1 .0)
+
+-- src/rows.rt:122:45
+array-copy-out-step-2 : tie.Need-array-copy-out-step-2 Inv-loop μ-loop Inv-loop2 μ-loop2
+array-copy-out-step-2 c = omega (arith, c .before .before .before .before .loop2 .inv .long, c .before .before .before .before .loop2 .inv .high, c .before .before .before .before .loop2 .inv .low, c .before .before .before .before .loop2 .inv .top, c .before .before .before .before .loop2 .inv .inner (c .before .before .before .loop2-test .taken), c .before .before .before .before .before .before .before .before .before .before .before .before .pre .0, c .before .before .before .before .before .before .before .before .before .before .before .before .pre .1 .0, c .before .before .before .before .before .before .before .before .before .before .before .before .pre .1 .1 .0)
+
+-- src/rows.rt:122:15
+step-requires : tie.Need-step-requires Inv-loop μ-loop Inv-loop2 μ-loop2
+step-requires c κs = search needs
+
+-- src/rows.rt:123:27
+enum-known-c-2 : tie.Need-enum-known-c-2 Inv-loop μ-loop Inv-loop2 μ-loop2
+enum-known-c-2 c = search needs
+
+-- src/rows.rt:124:17
+mul-net-2 : tie.Need-mul-net-2 Inv-loop μ-loop Inv-loop2 μ-loop2
+mul-net-2 c = omega (arith, c .before .before .before .before .before .before .before .before .before .loop2 .inv .long, c .before .before .before .before .before .before .before .before .before .loop2 .inv .high, c .before .before .before .before .before .before .before .before .before .loop2 .inv .low, c .before .before .before .before .before .before .before .before .before .loop2 .inv .top, c .before .before .before .before .before .before .before .before .before .loop2 .inv .inner (c .before .before .before .before .before .before .before .before .loop2-test .taken), c .before .before .before .before .before .before .before .before .before .before .before .before .before .before .before .before .before .pre .0, c .before .before .before .before .before .before .before .before .before .before .before .before .before .before .before .before .before .pre .1 .0, c .before .before .before .before .before .before .before .before .before .before .before .before .before .before .before .before .before .pre .1 .1 .0)
+
+-- src/rows.rt:124:17
+array-set-from-net-2 : tie.Need-array-set-from-net-2 Inv-loop μ-loop Inv-loop2 μ-loop2
+array-set-from-net-2 c = omega (arith, c .before .before .before .before .before .before .before .before .before .loop2 .inv .long, c .before .before .before .before .before .before .before .before .before .loop2 .inv .high, c .before .before .before .before .before .before .before .before .before .loop2 .inv .low, c .before .before .before .before .before .before .before .before .before .loop2 .inv .top, c .before .before .before .before .before .before .before .before .before .loop2 .inv .inner (c .before .before .before .before .before .before .before .before .loop2-test .taken), c .before .before .before .before .before .before .before .before .before .before .before .before .before .before .before .before .before .pre .0, c .before .before .before .before .before .before .before .before .before .before .before .before .before .before .before .before .before .pre .1 .0, c .before .before .before .before .before .before .before .before .before .before .before .before .before .before .before .before .before .pre .1 .1 .0)
+
+-- src/rows.rt:126:32
+enum-known-n-2 : tie.Need-enum-known-n-2 Inv-loop μ-loop Inv-loop2 μ-loop2
+enum-known-n-2 c = search needs
+
+-- src/rows.rt:127:17
+returns-2 : tie.Need-returns-2 Inv-loop μ-loop Inv-loop2 μ-loop2
+unfolding shareAt
+returns-2 c = steps-refused (now (c .before .before .before .before .before .before .before .before .before .before .before .before .before .before .before .before .before .args .uk)) (c .before .before .before .before .before .before .before .before .before .before .before .before .before .before .before .before .before .args .p) (c .before .before .before .before .before .before .before .before .before .before .before .before .before .before .before .before .before .args .us) (c .before .before .before .before .before .before .before .before .before .before .before .before .before .before .before .before .before .args .u) (held (c .before .before .before .before .before .before .before .before .before .before .before .loop .net)) (c .before .before .before .before .before .before .before .before .before .loop2 .net) (c .before .before .before .before .before .before .before .before .before .loop2 .level) (c .before .before .before .before .before .before .before .before .before .loop2 .j) (c .before .before .before .before .before .before .before .before .before .loop2 .inv) (c .before .before .before .before .before .before .before .before .loop2-test .taken) _ _ _ (sym (c .before .before .before .step .ensures) ∙ c .before .n2 .given .1) ∙ held-filled (λ (i : ℕ). rowOf (now (c .before .before .before .before .before .before .before .before .before .before .before .before .before .before .before .before .before .args .points)) (now (c .before .before .before .before .before .before .before .before .before .before .before .before .before .before .before .before .before .args .weights)) (c .before .before .before .before .before .before .before .before .before .before .before .before .before .before .before .before .before .args .rational) ((c .before .before .before .before .before .before .before .before .before .before .before .before .before .before .before .before .before .args .row + i) * c .before .before .before .before .before .before .before .before .before .before .before .before .before .before .before .before .before .args .nv + c .before .before .before .before .before .before .before .before .before .before .before .before .before .before .before .before .before .args .col) (c .before .before .before .before .before .before .before .before .before .before .before .before .before .before .before .before .before .args .o) (c .before .before .before .before .before .before .before .before .before .before .before .before .before .before .before .before .before .args .scale) (now (c .before .before .before .before .before .before .before .before .before .before .before .before .before .before .before .before .before .args .vk)) (c .before .before .before .before .before .before .before .before .before .before .before .before .before .before .before .before .before .args .q) (c .before .before .before .before .before .before .before .before .before .before .before .before .before .before .before .before .before .args .vs) (c .before .before .before .before .before .before .before .before .before .before .before .before .before .before .before .before .before .args .v)) (now (c .before .before .before .before .before .before .before .before .before .before .before .before .before .before .before .before .before .args .uk)) (c .before .before .before .before .before .before .before .before .before .before .before .before .before .before .before .before .before .args .p) (c .before .before .before .before .before .before .before .before .before .before .before .before .before .before .before .before .before .args .us) (c .before .before .before .before .before .before .before .before .before .before .before .before .before .before .before .before .before .args .u) (c .before .before .before .before .before .before .before .before .before .before .before .loop .net) (c .before .before .before .before .before .before .before .before .before .before .before .loop .m) (c .before .before .before .before .before .before .before .before .before .before .before .loop .inv) (c .before .before .before .before .before .before .before .before .before .before .loop-test .left)
+
+-- src/rows.rt:131:13
+sub-j : tie.Need-sub-j Inv-loop μ-loop Inv-loop2 μ-loop2
+sub-j c = omega (arith, c .before .before .before .before .before .before .before .before .before .before .loop2 .inv .high, c .before .before .before .before .before .before .before .before .before .before .loop2 .inv .low, c .before .before .before .before .before .before .before .before .before .before .loop2 .inv .top, c .before .before .before .before .before .before .before .before .before .before .loop2 .inv .inner (c .before .before .before .before .before .before .before .before .before .loop2-test .taken), c .before .before .before .before .before .before .before .before .before .before .before .before .before .before .before .before .before .before .pre .0, c .before .before .before .before .before .before .before .before .before .before .before .before .before .before .before .before .before .before .pre .1 .0, c .before .before .before .before .before .before .before .before .before .before .before .before .before .before .before .before .before .before .pre .1 .1 .0)
+
+-- src/rows.rt:118:5
+loop2-less : tie.Need-loop2-less Inv-loop μ-loop Inv-loop2 μ-loop2
+loop2-less c = omega (arith, c .before .before .before .before .before .before .before .before .before .before .loop2 .inv .high, c .before .before .before .before .before .before .before .before .before .before .loop2 .inv .low, c .before .before .before .before .before .before .before .before .before .before .loop2 .inv .top, c .before .before .before .before .before .before .before .before .before .before .loop2 .inv .inner (c .before .before .before .before .before .before .before .before .before .loop2-test .taken), c .before .before .before .before .before .before .before .before .before .before .before .before .before .before .before .before .before .before .pre .0, c .before .before .before .before .before .before .before .before .before .before .before .before .before .before .before .before .before .before .pre .1 .0, c .before .before .before .before .before .before .before .before .before .before .before .before .before .before .before .before .before .before .pre .1 .1 .0, c .if1 .taken)
+
+-- src/rows.rt:118:5
+loop2-again : tie.Need-loop2-again Inv-loop μ-loop Inv-loop2 μ-loop2
+unfolding shareAt
+loop2-again c = steps-down (now (c .before .before .before .before .before .before .before .before .before .before .before .before .before .before .before .before .before .before .args .uk)) (c .before .before .before .before .before .before .before .before .before .before .before .before .before .before .before .before .before .before .args .p) (c .before .before .before .before .before .before .before .before .before .before .before .before .before .before .before .before .before .before .args .us) (c .before .before .before .before .before .before .before .before .before .before .before .before .before .before .before .before .before .before .args .u) (held (c .before .before .before .before .before .before .before .before .before .before .before .before .loop .net)) (c .before .before .before .before .before .before .before .before .before .before .loop2 .net) (c .before .before .before .before .before .before .before .before .before .before .loop2 .level) (c .before .before .before .before .before .before .before .before .before .before .loop2 .j) (c .before .before .before .before .before .before .before .before .before .before .loop2 .inv) (c .before .before .before .before .before .before .before .before .before .loop2-test .taken) (c .before .before .before .before .before .before .before .before .before .before .before .before .before .before .before .before .before .before .pre .0) _ _ _ (λ d. getD-any (c .before .before .before .before .before .before .before .before .before .before .loop2 .net) (c .before .before .before .before .before .before .before .before .before .before .loop2 .j - 1) _ d (omega (arith, c .before .before .before .before .before .before .before .before .before .before .loop2 .inv .long, c .before .before .before .before .before .before .before .before .before .before .loop2 .inv .high, c .before .before .before .before .before .before .before .before .before .before .loop2 .inv .low, c .before .before .before .before .before .before .before .before .before .before .loop2 .inv .top, c .before .before .before .before .before .before .before .before .before .before .loop2 .inv .inner (c .before .before .before .before .before .before .before .before .before .loop2-test .taken), c .before .before .before .before .before .before .before .before .before .before .before .before .before .before .before .before .before .before .pre .0, c .before .before .before .before .before .before .before .before .before .before .before .before .before .before .before .before .before .before .pre .1 .0, c .before .before .before .before .before .before .before .before .before .before .before .before .before .before .before .before .before .before .pre .1 .1 .0))) (λ d. getD-any (c .before .before .before .before .before .before .before .before .before .before .loop2 .net) (c .before .before .before .before .before .before .before .before .before .before .loop2 .j) _ d (omega (arith, c .before .before .before .before .before .before .before .before .before .before .loop2 .inv .long, c .before .before .before .before .before .before .before .before .before .before .loop2 .inv .high, c .before .before .before .before .before .before .before .before .before .before .loop2 .inv .low, c .before .before .before .before .before .before .before .before .before .before .loop2 .inv .top, c .before .before .before .before .before .before .before .before .before .before .loop2 .inv .inner (c .before .before .before .before .before .before .before .before .before .loop2-test .taken), c .before .before .before .before .before .before .before .before .before .before .before .before .before .before .before .before .before .before .pre .0, c .before .before .before .before .before .before .before .before .before .before .before .before .before .before .before .before .before .before .pre .1 .0, c .before .before .before .before .before .before .before .before .before .before .before .before .before .before .before .before .before .before .pre .1 .1 .0))) (sym (c .before .before .before .before .step .ensures) ∙ c .before .before .c2 .given .1) (c .if1 .taken)
+
+-- src/rows.rt:133:13
+add-level : tie.Need-add-level Inv-loop μ-loop Inv-loop2 μ-loop2
+add-level c = omega (arith, c .before .before .before .before .before .before .before .before .before .before .loop2 .inv .high, c .before .before .before .before .before .before .before .before .before .before .loop2 .inv .low, c .before .before .before .before .before .before .before .before .before .before .loop2 .inv .top, c .before .before .before .before .before .before .before .before .before .before .loop2 .inv .inner (c .before .before .before .before .before .before .before .before .before .loop2-test .taken), c .before .before .before .before .before .before .before .before .before .before .before .before .before .before .before .before .before .before .pre .0, c .before .before .before .before .before .before .before .before .before .before .before .before .before .before .before .before .before .before .pre .1 .0, c .before .before .before .before .before .before .before .before .before .before .before .before .before .before .before .before .before .before .pre .1 .1 .0, c .if1 .left)
+
+-- src/rows.rt:118:5
+loop2-less-2 : tie.Need-loop2-less-2 Inv-loop μ-loop Inv-loop2 μ-loop2
+loop2-less-2 c = omega (arith, c .before .before .before .before .before .before .before .before .before .before .loop2 .inv .high, c .before .before .before .before .before .before .before .before .before .before .loop2 .inv .low, c .before .before .before .before .before .before .before .before .before .before .loop2 .inv .top, c .before .before .before .before .before .before .before .before .before .before .loop2 .inv .inner (c .before .before .before .before .before .before .before .before .before .loop2-test .taken), c .before .before .before .before .before .before .before .before .before .before .before .before .before .before .before .before .before .before .pre .0, c .before .before .before .before .before .before .before .before .before .before .before .before .before .before .before .before .before .before .pre .1 .0, c .before .before .before .before .before .before .before .before .before .before .before .before .before .before .before .before .before .before .pre .1 .1 .0, c .if1 .left)
+
+-- src/rows.rt:118:5
+loop2-again-2 : tie.Need-loop2-again-2 Inv-loop μ-loop Inv-loop2 μ-loop2
+unfolding shareAt
+loop2-again-2 c = steps-up (now (c .before .before .before .before .before .before .before .before .before .before .before .before .before .before .before .before .before .before .args .uk)) (c .before .before .before .before .before .before .before .before .before .before .before .before .before .before .before .before .before .before .args .p) (c .before .before .before .before .before .before .before .before .before .before .before .before .before .before .before .before .before .before .args .us) (c .before .before .before .before .before .before .before .before .before .before .before .before .before .before .before .before .before .before .args .u) (held (c .before .before .before .before .before .before .before .before .before .before .before .before .loop .net)) (c .before .before .before .before .before .before .before .before .before .before .loop2 .net) (c .before .before .before .before .before .before .before .before .before .before .loop2 .level) (c .before .before .before .before .before .before .before .before .before .before .loop2 .j) (c .before .before .before .before .before .before .before .before .before .before .loop2 .inv) (c .before .before .before .before .before .before .before .before .before .loop2-test .taken) (c .before .before .before .before .before .before .before .before .before .before .before .before .before .before .before .before .before .before .pre .0) _ _ _ (λ d. getD-any (c .before .before .before .before .before .before .before .before .before .before .loop2 .net) (c .before .before .before .before .before .before .before .before .before .before .loop2 .j - 1) _ d (omega (arith, c .before .before .before .before .before .before .before .before .before .before .loop2 .inv .long, c .before .before .before .before .before .before .before .before .before .before .loop2 .inv .high, c .before .before .before .before .before .before .before .before .before .before .loop2 .inv .low, c .before .before .before .before .before .before .before .before .before .before .loop2 .inv .top, c .before .before .before .before .before .before .before .before .before .before .loop2 .inv .inner (c .before .before .before .before .before .before .before .before .before .loop2-test .taken), c .before .before .before .before .before .before .before .before .before .before .before .before .before .before .before .before .before .before .pre .0, c .before .before .before .before .before .before .before .before .before .before .before .before .before .before .before .before .before .before .pre .1 .0, c .before .before .before .before .before .before .before .before .before .before .before .before .before .before .before .before .before .before .pre .1 .1 .0))) (λ d. getD-any (c .before .before .before .before .before .before .before .before .before .before .loop2 .net) (c .before .before .before .before .before .before .before .before .before .before .loop2 .j) _ d (omega (arith, c .before .before .before .before .before .before .before .before .before .before .loop2 .inv .long, c .before .before .before .before .before .before .before .before .before .before .loop2 .inv .high, c .before .before .before .before .before .before .before .before .before .before .loop2 .inv .low, c .before .before .before .before .before .before .before .before .before .before .loop2 .inv .top, c .before .before .before .before .before .before .before .before .before .before .loop2 .inv .inner (c .before .before .before .before .before .before .before .before .before .loop2-test .taken), c .before .before .before .before .before .before .before .before .before .before .before .before .before .before .before .before .before .before .pre .0, c .before .before .before .before .before .before .before .before .before .before .before .before .before .before .before .before .before .before .pre .1 .0, c .before .before .before .before .before .before .before .before .before .before .before .before .before .before .before .before .before .before .pre .1 .1 .0))) (sym (c .before .before .before .before .step .ensures) ∙ c .before .before .c2 .given .1) (λ q. absurd (omega (arith, q, c .if1 .left)))
+
+-- src/rows.rt:137:19
+mul-t56 : tie.Need-mul-t56 Inv-loop μ-loop Inv-loop2 μ-loop2
+mul-t56 c = omega (arith, c .before .loop2 .inv .long, c .before .before .before .before .before .before .before .before .before .pre .0)
+
+-- src/rows.rt:137:19
+array-copy-out-t30 : tie.Need-array-copy-out-t30 Inv-loop μ-loop Inv-loop2 μ-loop2
+array-copy-out-t30 c = omega (arith, c .before .loop2 .inv .long, c .before .before .before .before .before .before .before .before .before .pre .0)
+
+-- src/rows.rt:73:1
+returns-3 : tie.Need-returns-3 Inv-loop μ-loop Inv-loop2 μ-loop2
+returns-3 c = steps-end (now (c .before .before .before .before .before .before .before .before .before .before .args .uk)) (c .before .before .before .before .before .before .before .before .before .before .args .p) (c .before .before .before .before .before .before .before .before .before .before .args .us) (c .before .before .before .before .before .before .before .before .before .before .args .u) (held (c .before .before .before .before .loop .net)) (c .before .before .loop2 .net) (c .before .before .loop2 .level) (c .before .before .loop2 .j) (c .before .before .loop2 .inv) (c .before .loop2-test .left) zeroControl _ (getD-any (c .before .before .loop2 .net) (c .before .before .before .before .before .before .before .before .before .before .args .p) _ zeroControl (omega (arith, c .before .before .loop2 .inv .long, c .before .before .before .before .before .before .before .before .before .before .pre .0))) ∙ held-filled (λ (i : ℕ). rowOf (now (c .before .before .before .before .before .before .before .before .before .before .args .points)) (now (c .before .before .before .before .before .before .before .before .before .before .args .weights)) (c .before .before .before .before .before .before .before .before .before .before .args .rational) ((c .before .before .before .before .before .before .before .before .before .before .args .row + i) * c .before .before .before .before .before .before .before .before .before .before .args .nv + c .before .before .before .before .before .before .before .before .before .before .args .col) (c .before .before .before .before .before .before .before .before .before .before .args .o) (c .before .before .before .before .before .before .before .before .before .before .args .scale) (now (c .before .before .before .before .before .before .before .before .before .before .args .vk)) (c .before .before .before .before .before .before .before .before .before .before .args .q) (c .before .before .before .before .before .before .before .before .before .before .args .vs) (c .before .before .before .before .before .before .before .before .before .before .args .v)) (now (c .before .before .before .before .before .before .before .before .before .before .args .uk)) (c .before .before .before .before .before .before .before .before .before .before .args .p) (c .before .before .before .before .before .before .before .before .before .before .args .us) (c .before .before .before .before .before .before .before .before .before .before .args .u) (c .before .before .before .before .loop .net) (c .before .before .before .before .loop .m) (c .before .before .before .before .loop .inv) (c .before .before .before .loop-test .left)
 
 pub rows-of-spec : {M : Type 1} → statement M
 rows-of-spec =
@@ -77,11 +211,13 @@ rows-of-spec =
     (tie.spec
     Inv-loop
     μ-loop
-    point-requires
-    constant-requires
+    Inv-loop2
+    μ-loop2
+    zero-control-requires
     loop-holds
     add-i
     mul-base
+    add-base
     row-of-requires
     enum-known-c
     mul-net
@@ -91,4 +227,33 @@ rows-of-spec =
     add-m
     loop-less
     loop-again
-    returns-2)
+    loop2-holds
+    sub-a
+    add-a
+    add-b
+    sub-b
+    add-b-2
+    sub-k
+    mul-step
+    shared-slice-read-step
+    mul-step-2
+    shared-slice-read-step-2
+    mul-step-3
+    array-copy-out-step
+    mul-step-4
+    array-copy-out-step-2
+    step-requires
+    enum-known-c-2
+    mul-net-2
+    array-set-from-net-2
+    enum-known-n-2
+    returns-2
+    sub-j
+    loop2-less
+    loop2-again
+    add-level
+    loop2-less-2
+    loop2-again-2
+    mul-t56
+    array-copy-out-t30
+    returns-3)

@@ -1,5 +1,6 @@
-use lib.Ieee.{ofBits}
+use mathlib.Core.Path.{_≡_, refl, sym, ap, _∙_, subst}
 use Rattle.bounds.specs.Surface.{secondOf}
+use lib.Ieee.{ofBits}
 use borrow.Author.Needs.{needs}
 use Rattle.bounds.proofs.rows.second.Statement.{statement}
 use Rattle.bounds.proofs.rows.second.Tie as tie
@@ -7,12 +8,15 @@ use Rattle.bounds.proofs.rows.second.Reads as reads
 use Rattle.bounds.proofs.rows.second.Lts as lts
 use Rattle.interval.proofs.Interval.point.Reads as point-reads
 
+-- src/rows.rt:146:13
 point-requires : tie.Need-point-requires
 point-requires c κs = search needs
 
+-- src/rows.rt:147:13
 point-requires-2 : tie.Need-point-requires-2
 point-requires-2 c κs = search needs
 
+-- src/rows.rt:141:1
 returns : tie.Need-returns
 unfolding secondOf ofBits
 returns c = rw ((c .point2 .ensures), (c .before .point .ensures))

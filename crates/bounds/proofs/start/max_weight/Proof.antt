@@ -1,14 +1,12 @@
 use borrow.Author.Needs.{needs}
-use lib.Ieee.{ofBits}
-use Prim.Native.Nat.{ℕ}
-use Rattle.doubles.specs.Neighbour.{fmax}
-use denote.Ref.{now}
-use Rattle.bounds.proofs.Steps.{max-more}
-use Prim.Native.Nat.{_+_, _-_, _≤_}
-use Rattle.bounds.specs.Range.{weightAt}
-use Rattle.bounds.specs.Start.{maxOf}
+use mathlib.Core.Path.{_≡_, refl, sym, ap, ap₂, _∙_, subst}
 use native.Mathlib.Omega.{arith}
-use mathlib.Core.Path.{_≡_, refl, sym, _∙_, ap, ap₂, subst}
+use denote.Ref.{now}
+use Prim.Native.Nat.{ℕ, _+_, _-_, _≤_}
+use Rattle.bounds.specs.Start.{maxFrom}
+use Rattle.bounds.specs.Range.{weightAt}
+use Rattle.doubles.specs.Neighbour.{fmax}
+use Rattle.bounds.proofs.Steps.{max-more}
 use Rattle.bounds.proofs.start.max_weight.Statement.{statement}
 use Rattle.bounds.proofs.start.max_weight.Tie as tie
 use Rattle.bounds.proofs.start.max_weight.Reads as reads
@@ -17,41 +15,43 @@ use Rattle.bounds.proofs.start.weight_at.Reads as weight-at-reads
 use Rattle.interval.proofs.float.max.Reads as max-reads
 
 abbrev Inv-loop : tie.InvT-loop
-Inv-loop rational weights first count best₀ m₀ best m = (m ≤ count) × (best ≡ maxOf (λ k. weightAt rational weights (first + k)) m)
+Inv-loop best rational weights first count most₀ m₀ most m = (m ≤ count) × (most ≡ maxFrom most₀ (λ k. weightAt rational weights (first + k)) m)
 
 abbrev μ-loop : tie.MeasureT-loop
-μ-loop rational weights first count best₀ m₀ best m = count - m
+μ-loop best rational weights first count most₀ m₀ most m = count - m
 
+-- src/start.rt:36:5
 loop-holds : tie.Need-loop-holds Inv-loop μ-loop
-unfolding maxOf ofBits
+unfolding maxFrom
 loop-holds c = (omega arith, refl)
 
+-- src/start.rt:37:55
 add-weight-at : tie.Need-add-weight-at Inv-loop μ-loop
 add-weight-at c = search needs
 
+-- src/start.rt:37:26
 weight-at-requires : tie.Need-weight-at-requires Inv-loop μ-loop
 weight-at-requires c κs = λ r. let h = c .before .before .before .pre .1 r in omega arith
 
+-- src/start.rt:37:9
 max-requires : tie.Need-max-requires Inv-loop μ-loop
 max-requires c κs = search needs
 
+-- src/start.rt:38:9
 add-m : tie.Need-add-m Inv-loop μ-loop
 add-m c = search needs
 
+-- src/start.rt:36:5
 loop-less : tie.Need-loop-less Inv-loop μ-loop
 loop-less c = search needs
 
+-- src/start.rt:36:5
 loop-again : tie.Need-loop-again Inv-loop μ-loop
-loop-again c = let al = c .before .before .before in
-    let a = al .before .before .args in
-    (omega arith, c .max .ensures ∙ ap₂ fmax (al .loop .inv .1) (c .before .weight-at .ensures) ∙ sym (max-more (λ (k : ℕ). weightAt (a .rational) (now (a .weights)) (a .first + k)) (al .loop .m)))
+loop-again c = let a = c .before .before .before .before .before .args in (omega arith, c .max .ensures ∙ ap₂ fmax (c .before .before .before .loop .inv .1) (c .before .weight-at .ensures) ∙ sym (max-more (a .best) (λ (k : ℕ). weightAt (a .rational) (now (a .weights)) (a .first + k)) (c .before .before .before .loop .m)))
 
+-- src/start.rt:29:1
 returns : tie.Need-returns Inv-loop μ-loop
-returns c = let al = c .before in
-    let a = al .before .before .args in
-    let i = al .loop .inv in
-    let e : al .loop .m ≡ a .count = omega arith in
-    i .1 ∙ ap (maxOf (λ (k : ℕ). weightAt (a .rational) (now (a .weights)) (a .first + k))) e
+returns c = let a = c .before .before .before .args in let i = c .before .loop .inv in let e : c .before .loop .m ≡ a .count = omega arith in i .1 ∙ ap (maxFrom (a .best) (λ (k : ℕ). weightAt (a .rational) (now (a .weights)) (a .first + k))) e
 
 pub max-weight-spec : {M : Type 1} → statement M
 max-weight-spec =

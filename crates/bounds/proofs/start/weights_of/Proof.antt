@@ -1,5 +1,9 @@
-use Rattle.bounds.specs.Start.{weightsOf, rangeOf}
-use mathlib.Core.Path.{_≡_, refl, sym, _∙_, ap, ap₂, subst}
+use mathlib.Core.Path.{_≡_, refl, sym, ap, ap₂, _∙_, subst}
+use native.Mathlib.Omega.{arith}
+use denote.Ref.{now}
+use Prim.Native.Nat.{ℕ, _+_, _-_, _*_, _≤_}
+use Rattle.bounds.specs.Start.{weightsOf}
+use lib.Ieee.{ofBits}
 use borrow.Author.Needs.{needs}
 use Rattle.bounds.proofs.start.weights_of.Statement.{statement}
 use Rattle.bounds.proofs.start.weights_of.Tie as tie
@@ -8,20 +12,30 @@ use Rattle.bounds.proofs.start.weights_of.Lts as lts
 use Rattle.bounds.proofs.start.max_weight.Reads as max-weight-reads
 use Rattle.bounds.proofs.start.min_weight.Reads as min-weight-reads
 use Rattle.bounds.proofs.start.range_of.Reads as range-of-reads
+use Rattle.interval.proofs.float.infinity.Reads as infinity-reads
 
+-- src/start.rt:87:9
 max-weight-requires : tie.Need-max-weight-requires
 max-weight-requires c κs = search needs
 
+-- src/start.rt:88:28
+infinity-requires : tie.Need-infinity-requires
+infinity-requires c κs = search needs
+
+-- src/start.rt:88:9
 min-weight-requires : tie.Need-min-weight-requires
 min-weight-requires c κs = search needs
 
+-- src/start.rt:89:5
 range-of-requires : tie.Need-range-of-requires
 range-of-requires c κs = search needs
 
+-- src/start.rt:82:1
 returns : tie.Need-returns
-unfolding weightsOf
-returns c = c .range-of .ensures ∙ ap₂ rangeOf (c .before .min-weight .ensures) (c .before .before .max-weight .ensures)
+unfolding weightsOf ofBits
+returns c = rw ((c .range-of .ensures), (c .before .min-weight .ensures), (c .before .before .infinity .ensures), (c .before .before .before .max-weight .ensures))
 
 pub weights-of-spec : {M : Type 1} → statement M
 weights-of-spec =
-    tie.close (tie.spec max-weight-requires min-weight-requires range-of-requires returns)
+    tie.close
+    (tie.spec max-weight-requires infinity-requires min-weight-requires range-of-requires returns)

@@ -1,82 +1,38 @@
-use Prim.Native.Nat.{ℕ}
-use mathlib.Core.Path.{_≡_, refl, sym, _∙_, ap, ap₂, subst}
+use mathlib.Core.Path.{_≡_, refl, sym, ap, ap₂, _∙_, subst}
 use native.Mathlib.Omega.{arith}
 use denote.Ref.{now}
-use Rattle.knots.specs.declared.refusal.Refusal.{Refusal}
-use Rattle.knots.proofs.Surfaces.{valid-surface}
-use Rattle.knots.proofs.Refusals.{stop, skip}
-use Rattle.bounds.specs.declared.answer.Bounded.the-variants.{Refused}
-use Rattle.bounds.specs.Answer.{boundedOf}
-use Rattle.bounds.specs.Surface.{surfaceOf, rangesRefusal, SpansFit}
-use Rattle.bounds.proofs.SurfaceIn.{ranges-valid, spans-fit}
+use Prim.Native.Nat.{ℕ, _+_, _-_, _*_, _≤_, _<_}
 use lib.ListN.{length}
-use Rattle.bounds.specs.Range.{spanOver}
+use Rattle.bounds.specs.Surface.{surfaceOf}
+use Rattle.bounds.specs.declared.answer.Bounded.the-variants.{Refused}
+use Rattle.knots.proofs.Refusals.{stop, skip}
+use Rattle.knots.specs.declared.refusal.Refusal.{Refusal}
 use borrow.Author.Needs.{needs}
 use Rattle.bounds.proofs.surface.bound_surface.Statement.{statement}
 use Rattle.bounds.proofs.surface.bound_surface.Tie as tie
 use Rattle.bounds.proofs.surface.bound_surface.Reads as reads
 use Rattle.bounds.proofs.surface.bound_surface.Lts as lts
-use Rattle.bounds.proofs.answer.answer_of.Reads as answer-of-reads
-use Rattle.bounds.proofs.range.span_over.Reads as span-over-reads
-use Rattle.bounds.proofs.rows.on_spans.Reads as on-spans-reads
-use Rattle.bounds.proofs.surface.ranges_refusal.Reads as ranges-refusal-reads
+use Rattle.bounds.proofs.surface.bound_valid.Reads as bound-valid-reads
 use Rattle.knots.proofs.surface.surface_refusal.Reads as surface-refusal-reads
 
-abbrev number : Refusal → ℕ
-number r = r .number
-
+-- src/surface.rt:112:9
 surface-refusal-requires : tie.Need-surface-refusal-requires
 surface-refusal-requires c κs = search needs
 
+-- src/surface.rt:124:9
 returns : tie.Need-returns
 unfolding surfaceOf
 returns c = rw (stop (c .before .before .surface-refusal .ensures) (c .if1 .taken)) (ap Refused (c .before .before .surface-refusal .ensures))
 
-span-over-requires : tie.Need-span-over-requires
-span-over-requires c κs = let a = c .before .before .before .before .before .before .before .args in
-    let va = valid-surface (a .u-degree) (a .v-degree) (now (a .u-knots)) (now (a .v-knots)) (a .u-count) (a .v-count) (now (a .points)) (a .rational) (now (a .weights)) (ap number (sym (c .before .before .surface-refusal .ensures)) ∙ c .if1 .left) in
-    (omega (arith, va .u .count), omega (arith, va .u .count, va .u .long))
+-- src/surface.rt:126:5
+bound-valid-requires : tie.Need-bound-valid-requires
+bound-valid-requires c κs = ap (λ (x : Refusal). x .number) (sym (c .before .before .surface-refusal .ensures)) ∙ c .if1 .left
 
-span-over-requires-2 : tie.Need-span-over-requires-2
-span-over-requires-2 c κs = let a = c .before .before .before .before .before .before .before .before .args in
-    let va = valid-surface (a .u-degree) (a .v-degree) (now (a .u-knots)) (now (a .v-knots)) (a .u-count) (a .v-count) (now (a .points)) (a .rational) (now (a .weights)) (ap number (sym (c .before .before .before .surface-refusal .ensures)) ∙ c .before .if1 .left) in
-    (omega (arith, va .v .count), omega (arith, va .v .count, va .v .long))
-
-ranges-refusal-requires : tie.Need-ranges-refusal-requires
-ranges-refusal-requires c κs = search needs
-
+-- src/surface.rt:95:1
 returns-2 : tie.Need-returns-2
 unfolding surfaceOf
-returns-2 c = rw (skip (c .before .before .before .before .before .before .before .surface-refusal .ensures) (c .before .before .before .before .before .if1 .left), ← (c .before .before .before .before .span-over .ensures), ← (c .before .before .before .span-over2 .ensures), stop (c .before .before .ranges-refusal .ensures) (c .if2 .taken)) (ap Refused (c .before .before .ranges-refusal .ensures))
-
-on-spans-requires : tie.Need-on-spans-requires
-on-spans-requires c κs = let a = c .before .before .before .before .before .before .before .before .before .before .before .before .args in
-    let va = valid-surface (a .u-degree) (a .v-degree) (now (a .u-knots)) (now (a .v-knots)) (a .u-count) (a .v-count) (now (a .points)) (a .rational) (now (a .weights)) (ap number (sym (c .before .before .before .before .before .before .before .surface-refusal .ensures)) ∙ c .before .before .before .before .before .if1 .left) in
-    let e = c .before .before .before .before .span-over .ensures in
-    let f = c .before .before .before .span-over2 .ensures in
-    let ok = ranges-valid (a .u-degree) (a .v-degree) (now (a .u-knots)) (now (a .v-knots)) (a .u-count) (a .v-count) (a .u-lo) (a .u-hi) (a .v-lo) (a .v-hi) (va .u) (va .v)
-    (ap number (sym (c .before .before .ranges-refusal .ensures ∙ ap₂ (λ (x y : ℕ). rangesRefusal (a .u-degree) (a .v-degree) (a .u-count) (a .v-count) x y (a .u-lo) (a .u-hi) (a .v-lo) (a .v-hi)) e f)) ∙ c .if2 .left) in
-    subst (λ (x : ℕ). SpansFit (a .u-degree) (a .v-degree) x (c .before .before .before .span-over2 .result) (length (now (a .u-knots))) (length (now (a .v-knots))) (a .v-count) (length (now (a .points))) (length (now (a .weights))) (a .rational)) (sym e)
-    (subst (λ (y : ℕ). SpansFit (a .u-degree) (a .v-degree) (spanOver (a .u-degree) (a .u-count) (now (a .u-knots)) (a .u-lo) (a .u-hi)) y (length (now (a .u-knots))) (length (now (a .v-knots))) (a .v-count) (length (now (a .points))) (length (now (a .weights))) (a .rational)) (sym f)
-    (spans-fit (a .u-degree) (a .v-degree) (now (a .u-knots)) (now (a .v-knots)) (a .u-count) (a .v-count) (now (a .points)) (now (a .weights)) (a .rational) (a .u-lo) (a .u-hi) (a .v-lo) (a .v-hi) _ _ va (ok .0) (ok .1)))
-
-answer-of-requires : tie.Need-answer-of-requires
-answer-of-requires c κs = search needs
-
-returns-3 : tie.Need-returns-3
-unfolding surfaceOf
-returns-3 c = rw (skip (c .before .before .before .before .before .before .before .before .before .surface-refusal .ensures) (c .before .before .before .before .before .before .before .if1 .left), ← (c .before .before .before .before .before .before .span-over .ensures), ← (c .before .before .before .before .before .span-over2 .ensures), skip (c .before .before .before .before .ranges-refusal .ensures) (c .before .before .if2 .left)) (c .answer-of .ensures ∙ ap boundedOf (c .before .on-spans .ensures))
+returns-2 c = rw (skip (c .before .before .before .surface-refusal .ensures) (c .before .if1 .left)) (c .bound-valid .ensures)
 
 pub bound-surface-spec : {M : Type 1} → statement M
 bound-surface-spec =
-    tie.close
-    (tie.spec
-    surface-refusal-requires
-    returns
-    span-over-requires
-    span-over-requires-2
-    ranges-refusal-requires
-    returns-2
-    on-spans-requires
-    answer-of-requires
-    returns-3)
+    tie.close (tie.spec surface-refusal-requires returns bound-valid-requires returns-2)

@@ -1,0 +1,26 @@
+use mathlib.Core.Path.{_≡_, refl, sym, ap, _∙_, subst}
+use Rattle.bounds.specs.Net.{zeroControl}
+use lib.Ieee.{ofBits}
+use borrow.Author.Needs.{needs}
+use Rattle.bounds.proofs.net.zero_control.Statement.{statement}
+use Rattle.bounds.proofs.net.zero_control.Tie as tie
+use Rattle.bounds.proofs.net.zero_control.Reads as reads
+use Rattle.bounds.proofs.net.zero_control.Lts as lts
+use Rattle.bounds.proofs.jet.Jet.constant.Reads as constant-reads
+use Rattle.interval.proofs.Interval.point.Reads as point-reads
+
+-- src/net.rt:27:30
+point-requires : tie.Need-point-requires
+point-requires c κs = search needs
+
+-- src/net.rt:27:9
+constant-requires : tie.Need-constant-requires
+constant-requires c κs = search needs
+
+-- src/net.rt:24:1
+returns : tie.Need-returns
+unfolding ofBits
+returns c = rw ((c .constant .ensures), (c .before .point .ensures))
+
+pub zero-control-spec : {M : Type 1} → statement M
+zero-control-spec = tie.close (tie.spec point-requires constant-requires returns)
