@@ -13,6 +13,7 @@ pub mod Extremes
 pub mod Products
 pub mod Opposite
 pub mod Symmetric
+pub mod Sizes
 pub mod Limits
 pub mod Reciprocals
 pub mod Squares

@@ -17,7 +17,8 @@ use Rattle.doubles.proofs.Tests.{neg-neg}
 use Rattle.doubles.proofs.Order.{⊑-trans}
 use Rattle.doubles.proofs.Neighbour.{neg-lt, neg-nan}
 use Rattle.doubles.proofs.Products.{number-neg}
-use Rattle.doubles.proofs.Extremes.{Four, Over, Picked, larger, greatest}
+use Rattle.doubles.proofs.Stepping.{up-nan}
+use Rattle.doubles.proofs.Extremes.{Four, Over, Picked, larger, greatest, max-fits, max-number}
 use Rattle.doubles.proofs.Opposite.{Opposed, size-pos, no-size, no-zero}
 
 -- ---- a step from equal numbers
@@ -89,6 +90,10 @@ peak f p q r s h n =
       least = λ b k. max-under _ s b (max-under _ r b (max-under _ q b (max-under (inf true) p b (bottom b) (k .one)) (k .two)) (k .three)) (k .four);
     }
 
+-- a step from the greatest of four is one step, however it was found
+pub peaks-up : (f : Format) (p q r s m w : Float) → Peak p q r s m → Peak p q r s w → upFrom f m ≡ upFrom f w
+peaks-up f p q r s m w y z = up-same f m w (y .number) (z .number) (y .least w (z .each)) (z .least m (y .each))
+
 swapped : (P : Float → Type 0) (p q r s : Float) → Four P p r q s → Four P p q r s
 swapped P p q r s z = record { one = z .one; two = z .three; three = z .two; four = z .four }
 
@@ -105,6 +110,28 @@ turn-over x y h = subst (λ (b : Bool). T (not b)) (sym (ap (λ (z : Float). lt 
 -- the larger of two sizes
 abbrev pub farthest : Float → Float → Float
 farthest r s = fmax (fmax r (neg r)) (fmax s (neg s))
+
+pub farthest-peak : (r s : Float) → Number r → Number s → Peak r (neg r) s (neg s) (farthest r s)
+farthest-peak r s h k =
+    let a = fmax r (neg r) in
+    let b = fmax s (neg s) in
+    let u = larger r (neg r) h (number-neg r h) in
+    let v = larger s (neg s) k (number-neg s k) in
+    let w = larger a b (u .number) (v .number) in
+    record {
+      number = w .number;
+      each = record {
+        one = ⊑-trans r a (fmax a b) (u .number) (u .first) (w .first);
+        two = ⊑-trans (neg r) a (fmax a b) (u .number) (u .second) (w .first);
+        three = ⊑-trans s b (fmax a b) (v .number) (v .first) (w .second);
+        four = ⊑-trans (neg s) b (fmax a b) (v .number) (v .second) (w .second);
+      };
+      least = λ t z. max-under a b t (max-under r (neg r) t (z .one) (z .two)) (max-under s (neg s) t (z .three) (z .four));
+    }
+
+pub farthest-up : (f : Format) (r s : Float) → T (fits f r) → T (fits f s) → isNan r ≡ false → isNan (upFrom f (farthest r s)) ≡ false
+farthest-up f r s h k n =
+    up-nan f (farthest r s) (max-fits f _ _ (max-fits f r (neg r) h (neg-fits f r h)) (max-fits f s (neg s) k (neg-fits f s k))) ∙ max-number _ _ (max-number r (neg r) n)
 
 module _ (p q r s : Float) (n : Four Number p q r s) (a : Opposed p r) (b : Opposed q s) where
   -- what lies over the opposites lies over the four
@@ -126,23 +153,26 @@ module _ (p q r s : Float) (n : Four Number p q r s) (a : Opposed p r) (b : Oppo
         });
       }
 
-  pub peak-up : (f : Format) (m : Float) → Peak p q r s m → upFrom f m ≡ upFrom f (farthest r s)
-  peak-up f m z =
-      let u = larger r (neg r) (n .three) (number-neg r (n .three)) in
-      let v = larger s (neg s) (n .four) (number-neg s (n .four)) in
-      let w = larger (fmax r (neg r)) (fmax s (neg s)) (u .number) (v .number) in
-      let to-r : (x : Float) → x ⊑ fmax r (neg r) → x ⊑ farthest r s = λ x h. ⊑-trans x (fmax r (neg r)) (farthest r s) (u .number) h (w .first) in
-      let to-s : (x : Float) → x ⊑ fmax s (neg s) → x ⊑ farthest r s = λ x h. ⊑-trans x (fmax s (neg s)) (farthest r s) (v .number) h (w .second) in
-      up-same f m (farthest r s) (z .number) (w .number)
-      (z .least (farthest r s) (record {
-        one = to-r p (⊑-trans p (neg r) (fmax r (neg r)) (number-neg r (n .three)) (a .under) (u .second));
-        two = to-s q (⊑-trans q (neg s) (fmax s (neg s)) (number-neg s (n .four)) (b .under) (v .second));
-        three = to-r r (u .first);
-        four = to-s s (v .first);
-      }))
-      (max-under (fmax r (neg r)) (fmax s (neg s)) m
-      (max-under r (neg r) m (z .each .three) (⊑-trans (neg r) p m (n .one) (a .over) (z .each .one)))
-      (max-under s (neg s) m (z .each .four) (⊑-trans (neg s) q m (n .two) (b .over) (z .each .two))))
+  peak-paired : (m : Float) → Peak p q r s m → Peak r (neg r) s (neg s) m
+  peak-paired m z =
+      record {
+        number = z .number;
+        each = record {
+          one = z .each .three;
+          two = ⊑-trans (neg r) p m (n .one) (a .over) (z .each .one);
+          three = z .each .four;
+          four = ⊑-trans (neg s) q m (n .two) (b .over) (z .each .two);
+        };
+        least = λ t k. z .least t (record {
+          one = ⊑-trans p (neg r) t (number-neg r (n .three)) (a .under) (k .two);
+          two = ⊑-trans q (neg s) t (number-neg s (n .four)) (b .under) (k .four);
+          three = k .one;
+          four = k .three;
+        });
+      }
+
+  peak-up : (f : Format) (m : Float) → Peak p q r s m → upFrom f m ≡ upFrom f (farthest r s)
+  peak-up f m z = peaks-up f r (neg r) s (neg s) m (farthest r s) (peak-paired m z) (farthest-peak r s (n .three) (n .four))
 
 -- the least of four is the opposite of the greatest of their opposites
 neg-min : (a b : Float) → neg (fmin a b) ≡ fmax (neg a) (neg b)

@@ -3,16 +3,15 @@ use mathlib.Core.Path.{_≡_, refl, sym, ap, _∙_, subst}
 use mathlib.Core.Bool.{Bool, true, false, not, _||_, cond}
 use lib.Dec.{T}
 use lib.Ieee.{Float, binary64, neg, eq, isNan, fits, mul}
-use lib.Ieee.Fits.{neg-fits, mul-fits}
+use lib.Ieee.Fits.{mul-fits}
 use Rattle.doubles.specs.Neighbour.{nextUp, nextDown, fmax, least4, greatest4}
 use Rattle.doubles.specs.Value.{Number}
 use Rattle.doubles.proofs.Tests.{T-of, Tn-of}
 use Rattle.doubles.proofs.Neighbour.{neg-nan}
-use Rattle.doubles.proofs.Stepping.{up-nan}
-use Rattle.doubles.proofs.Extremes.{Four, max-number, max-fits}
+use Rattle.doubles.proofs.Extremes.{Four}
 use Rattle.doubles.proofs.Products.{mul-neg}
 use Rattle.doubles.proofs.Opposite.{Opposed, opposed-neg, mul-opposed, mul-swap}
-use Rattle.doubles.proofs.Symmetric.{farthest, ends, ends-swapped}
+use Rattle.doubles.proofs.Symmetric.{farthest, farthest-up, ends, ends-swapped}
 use Rattle.interval.specs.declared.Interval.{Interval}
 use Rattle.interval.specs.Ops.{entire, checkedOf, someNan, mulOf}
 use Rattle.interval.proofs.Facts.{none-nan}
@@ -54,8 +53,7 @@ module _ (p q r s : Float) (h : Four Held p q r s) (a : Opposed p r) (b : Oppose
   unfolding checkedOf
   stepped l g n e =
       let m = farthest r s in
-      let k : isNan (nextUp m) ≡ false = up-nan binary64 m (max-fits binary64 _ _ (max-fits binary64 r (neg r) (h .three) (neg-fits binary64 r (h .three))) (max-fits binary64 s (neg s) (h .four) (neg-fits binary64 s (h .four)))) ∙ max-number _ _ (max-number r (neg r) n) in
-      rw (e .0, e .1, neg-nan (nextUp m), k)
+      rw (e .0, e .1, neg-nan (nextUp m), farthest-up binary64 r s (h .three) (h .four) n)
 
   no-nans : (isNan r || isNan s) ≡ false → Four (λ x. isNan x ≡ false) p q r s
   no-nans e = none-nan p q r s (nans ∙ e)

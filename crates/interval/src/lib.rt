@@ -7,6 +7,7 @@ use crate::float::min;
 use crate::float::next_down;
 use crate::float::next_up;
 use crate::step::above;
+use crate::step::above_sizes;
 use crate::step::below;
 use crate::step::least;
 use crate::step::most;
@@ -208,7 +209,7 @@ impl Interval {
         if is_nan(q) {
             return Interval::entire();
         }
-        let m = above(most(most(p, -p), most(q, -q)));
+        let m = above_sizes(p, q);
         Interval { lo: -m, hi: m }
     }
 
