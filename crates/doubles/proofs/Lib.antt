@@ -11,6 +11,9 @@ pub mod Enclose
 pub mod Sums
 pub mod Extremes
 pub mod Products
+pub mod Opposite
+pub mod Symmetric
+pub mod Sizes
 pub mod Limits
 pub mod Reciprocals
 pub mod Squares

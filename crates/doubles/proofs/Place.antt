@@ -29,7 +29,7 @@ toBits-split f s m e = go (cond s (top f) 0) ((size (m * up e * 2 ^ low f / down
     go : (a b c : ℕ) → a + b + c ≡ a + (0 + b + c)
     go a b c = omega arith
 
-fits-plus : (f : Format) (s : Bool) (m : ℕ) (e : ℤ) → T (fits f (fin s m e)) → T (fits f (fin false m e))
+pub fits-plus : (f : Format) (s : Bool) (m : ℕ) (e : ℤ) → T (fits f (fin s m e)) → T (fits f (fin false m e))
 unfolding fits
 fits-plus f s zero e h = h
 fits-plus f s (suc m) e h = h

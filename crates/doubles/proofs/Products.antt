@@ -112,7 +112,7 @@ mul-neg f (fin s m e) nan = refl
 mul-neg f (fin s m e) (inf t) = with-inf s t (eqb m 0)
 mul-neg f (fin s m e) (fin t n d) = ap (λ (u : Bool). round f u (m * up e * (n * up d)) (down e * down d)) (unlike-not s t) ∙ round-neg f (unlike s t) (m * up e * (n * up d)) (down e * down d)
 
-number-neg : (x : Float) → Number x → Number (neg x)
+pub number-neg : (x : Float) → Number x → Number (neg x)
 number-neg x h = subst (λ (b : Bool). T (not b)) (sym (neg-nan x)) h
 
 flip-number : (f : Format) (x y : Float) → Number (mul f x y) → Number (mul f (neg x) y)

@@ -28,7 +28,7 @@ clear-above i t b h k l = omega arith
 differs : (a b : ℕ) → a < b → a ≡ b → ⊥
 differs a b h e = omega arith
 
-clear-inf : (f : Format) → toBits f (inf false) ≡ infPat f
+pub clear-inf : (f : Format) → toBits f (inf false) ≡ infPat f
 unfolding toBits
 clear-inf f = zero-add (infPat f)
 

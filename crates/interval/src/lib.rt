@@ -7,10 +7,12 @@ use crate::float::min;
 use crate::float::next_down;
 use crate::float::next_up;
 use crate::step::above;
+use crate::step::above_sizes;
 use crate::step::below;
 use crate::step::least;
 use crate::step::most;
 ghost use mathlib.Core.Path.{_≡_};
+ghost use lib.Ieee.{neg};
 ghost use Rattle.doubles.specs.Neighbour.{nextUp, nextDown};
 ghost use Rattle.interval.specs.Ops.{entire, newOf, pointOf, widthOf, containsOf, hullOf, signOf, checkedOf, sqrOf, addOf, subOf, mulOf, negOf, someNan, reciprocalOf, divideOf};
 
@@ -182,7 +184,37 @@ impl Interval {
         Interval::outward(self.lo - o.hi, self.hi - o.lo)
     }
 
+    // Where an operand is symmetric about zero, as what rounds to 0 is once stepped outward, two products serve for four.
     pub fn mul(self, o: Interval) -> Interval
+        ensures { λ r. ⌜ r ≡ mulOf self o ⌝ }
+    {
+        if self.lo == -self.hi {
+            return Interval::around(self.hi, o);
+        }
+        if o.lo == -o.hi {
+            return Interval::around(o.hi, self);
+        }
+        self.four(o)
+    }
+
+    // [-s, s] times o: the four products are two and their opposites.
+    fn around(s: f64, o: Interval) -> Interval
+        ensures { λ r. ⌜ r ≡ mulOf (record { lo = neg s; hi = s }) o ⌝ }
+    {
+        let p = s * o.lo;
+        let q = s * o.hi;
+        if is_nan(p) {
+            return Interval::entire();
+        }
+        if is_nan(q) {
+            return Interval::entire();
+        }
+        let m = above_sizes(p, q);
+        Interval { lo: -m, hi: m }
+    }
+
+    // The product by all four products of ends.
+    fn four(self, o: Interval) -> Interval
         ensures { λ r. ⌜ r ≡ mulOf self o ⌝ }
     {
         let p = self.lo * o.lo;

@@ -1,0 +1,102 @@
+-- A product with an interval that is symmetric about zero, by two products. Assumes nothing.
+use mathlib.Core.Path.{_≡_, refl, sym, ap, _∙_, subst}
+use mathlib.Core.Bool.{Bool, true, false, not, _||_, cond}
+use lib.Dec.{T}
+use lib.Ieee.{Float, binary64, neg, eq, isNan, fits, mul}
+use lib.Ieee.Fits.{mul-fits}
+use Rattle.doubles.specs.Neighbour.{nextUp, nextDown, fmax, least4, greatest4}
+use Rattle.doubles.specs.Value.{Number}
+use Rattle.doubles.proofs.Tests.{T-of, Tn-of}
+use Rattle.doubles.proofs.Neighbour.{neg-nan}
+use Rattle.doubles.proofs.Extremes.{Four}
+use Rattle.doubles.proofs.Products.{mul-neg}
+use Rattle.doubles.proofs.Opposite.{Opposed, opposed-neg, mul-opposed, mul-swap}
+use Rattle.doubles.proofs.Symmetric.{farthest, farthest-up, ends, ends-swapped}
+use Rattle.interval.specs.declared.Interval.{Interval}
+use Rattle.interval.specs.Ops.{entire, checkedOf, someNan, mulOf}
+use Rattle.interval.proofs.Facts.{none-nan}
+
+abbrev Held : Float → Type 0
+Held x = T (fits binary64 x)
+
+-- what the definition makes of four products, and the code of two
+abbrev boxOf : Float → Float → Float → Float → Interval
+boxOf p q r s = cond (someNan p q r s) entire (checkedOf (nextDown (least4 p q r s)) (nextUp (greatest4 p q r s)))
+
+abbrev pub aroundOf : Float → Float → Interval
+aroundOf r s = cond (isNan r || isNan s) entire (record { lo = neg (nextUp (farthest r s)); hi = nextUp (farthest r s) })
+
+same-else : (b : Bool) (x y : Interval) → (b ≡ false → x ≡ y) → cond b entire x ≡ cond b entire y
+same-else true x y h = refl
+same-else false x y h = h refl
+
+module _ (p q r s : Float) (h : Four Held p q r s) (a : Opposed p r) (b : Opposed q s) where
+  nans : someNan p q r s ≡ (isNan r || isNan s)
+  unfolding someNan
+  nans = rw (a .nans, b .nans) (go (isNan r) (isNan s))
+    where
+      go : (c d : Bool) → (c || d || c || d) ≡ (c || d)
+      go true d = refl
+      go false true = refl
+      go false false = refl
+
+  nans-swapped : someNan p r q s ≡ (isNan r || isNan s)
+  unfolding someNan
+  nans-swapped = rw (a .nans, b .nans) (go (isNan r) (isNan s))
+    where
+      go : (c d : Bool) → (c || c || d || d) ≡ (c || d)
+      go true d = refl
+      go false true = refl
+      go false false = refl
+
+  stepped : (l g : Float) → isNan r ≡ false → (nextDown l ≡ neg (nextUp (farthest r s))) × (nextUp g ≡ nextUp (farthest r s)) → checkedOf (nextDown l) (nextUp g) ≡ record { lo = neg (nextUp (farthest r s)); hi = nextUp (farthest r s) }
+  unfolding checkedOf
+  stepped l g n e =
+      let m = farthest r s in
+      rw (e .0, e .1, neg-nan (nextUp m), farthest-up binary64 r s (h .three) (h .four) n)
+
+  no-nans : (isNan r || isNan s) ≡ false → Four (λ x. isNan x ≡ false) p q r s
+  no-nans e = none-nan p q r s (nans ∙ e)
+
+  numbers : (isNan r || isNan s) ≡ false → Four Number p q r s
+  numbers e = let n = no-nans e in record { one = Tn-of _ (n .one); two = Tn-of _ (n .two); three = Tn-of _ (n .three); four = Tn-of _ (n .four) }
+
+  box : boxOf p q r s ≡ aroundOf r s
+  box = rw nans (same-else (isNan r || isNan s) _ _ (λ e. stepped _ _ (no-nans e .three) (ends binary64 p q r s h (numbers e) a b)))
+
+  box-swapped : boxOf p r q s ≡ aroundOf r s
+  box-swapped = rw nans-swapped (same-else (isNan r || isNan s) _ _ (λ e. stepped _ _ (no-nans e .three) (ends-swapped binary64 p q r s h (numbers e) a b)))
+
+-- an end times any double is opposite to the other end times it
+abbrev Mirrored : Interval → Type 0
+Mirrored a = (c : Float) → Opposed (mul binary64 (a .lo) c) (mul binary64 (a .hi) c)
+
+module _ (a o : Interval) (k : Mirrored a) where
+  four-held : Four Held (mul binary64 (a .lo) (o .lo)) (mul binary64 (a .lo) (o .hi)) (mul binary64 (a .hi) (o .lo)) (mul binary64 (a .hi) (o .hi))
+  four-held = record { one = mul-fits binary64 _ _; two = mul-fits binary64 _ _; three = mul-fits binary64 _ _; four = mul-fits binary64 _ _ }
+
+  mirrored-left : mulOf a o ≡ aroundOf (mul binary64 (a .hi) (o .lo)) (mul binary64 (a .hi) (o .hi))
+  unfolding mulOf
+  mirrored-left = box _ _ _ _ four-held (k (o .lo)) (k (o .hi))
+
+  mirrored-right : mulOf o a ≡ aroundOf (mul binary64 (a .hi) (o .lo)) (mul binary64 (a .hi) (o .hi))
+  unfolding mulOf
+  mirrored-right =
+      rw (mul-swap binary64 (o .lo) (a .lo), mul-swap binary64 (o .lo) (a .hi), mul-swap binary64 (o .hi) (a .lo), mul-swap binary64 (o .hi) (a .hi))
+      (box-swapped _ _ _ _ four-held (k (o .lo)) (k (o .hi)))
+
+abbrev about : Float → Interval
+about s = record { lo = neg s; hi = s }
+
+pub about-zero : (s : Float) (o : Interval) → mulOf (about s) o ≡ aroundOf (mul binary64 s (o .lo)) (mul binary64 s (o .hi))
+about-zero s o = mirrored-left (about s) o (λ c. opposed-neg _ _ (mul-neg binary64 s c))
+
+module _ (a o : Interval) (e : eq (a .lo) (neg (a .hi)) ≡ true) where
+  mirrored : Mirrored a
+  mirrored c = mul-opposed binary64 (a .lo) (a .hi) c (T-of _ e)
+
+  pub symmetric-left : mulOf (about (a .hi)) o ≡ mulOf a o
+  symmetric-left = about-zero (a .hi) o ∙ sym (mirrored-left a o mirrored)
+
+  pub symmetric-right : mulOf (about (a .hi)) o ≡ mulOf o a
+  symmetric-right = about-zero (a .hi) o ∙ sym (mirrored-right a o mirrored)
