@@ -1,13 +1,13 @@
 -- Products of one double with two that are opposite as numbers are opposite as numbers: a rounding does not see the sign. A product's operands may be exchanged. Assumes nothing.
 use mathlib.Core.Path.{_≡_, refl, sym, ap, _∙_, subst}
 use mathlib.Core.Logic.{_⊎_, inl, inr}
-use Prim.Native.Nat.{ℕ, zero, suc, _*_, _<_}
+use Prim.Native.Nat.{ℕ, zero, suc, _+_, _-_, _*_, _≤_, _<_}
 use native.Mathlib.Nat.{mul-comm, mul-mul-mul-comm, mul-pos, zero-lt-suc, zero-mul}
 use native.Mathlib.Omega.{arith}
 use mathlib.Core.Bool.{Bool, true, false, not, _&&_, _||_, Bool·beq, cond}
 use lib.IntN.{ℤ, pos}
-use lib.Dec.{T, eqb, eqb→eq, eqb·suc-zero}
-use lib.Ieee.{Float, nan, inf, fin, Format, up, down, round, mul, unlike, fits, isNan, lt, eq, neg, level}
+use lib.Dec.{T, ltb, eqb, eqb→eq, eqb·suc-zero}
+use lib.Ieee.{Float, nan, inf, fin, Format, up, down, round, sum, add, mul, unlike, fits, isNan, lt, eq, neg, level}
 use lib.Ieee.Fits.{up-pos, down-pos, and-l, and-r}
 use lib.Ieee.Scale.{round-same}
 use Rattle.doubles.specs.Value.{_⊑_}
@@ -16,6 +16,8 @@ use Rattle.doubles.proofs.Order.{lt-irrefl}
 use Rattle.doubles.proofs.Neighbour.{neg-nan}
 use Rattle.doubles.proofs.Own.{own}
 use Rattle.doubles.proofs.Products.{mul-neg}
+use Rattle.doubles.proofs.Enclose.{round-neg}
+use borrow.Author.Tests.{ltb-false}
 
 -- opposite numbers, or two NaN
 pub record Opposed (x y : Float) : Type 0 where
@@ -109,6 +111,47 @@ mul-opposed f (fin s m e) (fin t n d) c h =
           let z = eqb→eq a 0 k in
           rw (no-part m e d z, no-part n d e (sym same ∙ z)) (zero-products f s e t d c)
     ]
+
+-- ---- sums of opposite numbers
+both-not : (s t : Bool) → Bool·beq (not s) (not t) ≡ Bool·beq s t
+both-not true true = refl
+both-not true false = refl
+both-not false true = refl
+both-not false false = refl
+
+-- equal sizes with unlike signs: both sums are +0
+rest-opposed : (f : Format) (s : Bool) (a b c : ℕ) → 0 < c → ltb a b ≡ false → (l : Bool) → ltb b a ≡ l → Opposed (round f (not s && l) (a - b) c) (round f (s && l) (a - b) c)
+rest-opposed f true a b c h e true k = opposed-neg _ _ (round-neg f true (a - b) c)
+rest-opposed f false a b c h e true k = opposed-neg _ _ (round-neg f false (a - b) c)
+rest-opposed f s a b c h e false k =
+    let m = ltb-false a b e in
+    let n = ltb-false b a k in
+    let z : a - b ≡ 0 = omega arith in
+    rw (round-zero f (not s && false) (a - b) c z h, round-zero f (s && false) (a - b) c z h) (zeros-opposed (not s && false) (s && false))
+
+sum-opposed : (f : Format) (s : Bool) (a : ℕ) (t : Bool) (b c : ℕ) → 0 < c → Opposed (sum f (not s) a (not t) b c) (sum f s a t b c)
+unfolding sum
+sum-opposed f s a t b c h = rw (both-not s t) (go (Bool·beq s t) (ltb a b) refl)
+  where
+    go : (k l : Bool) → ltb a b ≡ l
+        → Opposed (cond k (round f (not s) (a + b) c) (cond l (round f (not t) (b - a) c) (round f (not s && ltb b a) (a - b) c))) (cond k (round f s (a + b) c) (cond l (round f t (b - a) c) (round f (s && ltb b a) (a - b) c)))
+    go true l e = opposed-neg _ _ (round-neg f s (a + b) c)
+    go false true e = opposed-neg _ _ (round-neg f t (b - a) c)
+    go false false e = rest-opposed f s a b c h e (ltb b a) refl
+
+infs-opposed : (s t b : Bool) → Opposed (cond b (inf (not s)) nan) (cond b (inf s) nan)
+infs-opposed s t true = opposed-neg _ _ (unfold neg in refl)
+infs-opposed s t false = nans-opposed
+
+pub add-opposed : (f : Format) (x y : Float) → Opposed (add f (neg x) (neg y)) (add f x y)
+unfolding add neg
+add-opposed f nan y = nans-opposed
+add-opposed f (inf s) nan = nans-opposed
+add-opposed f (inf s) (inf t) = rw (both-not s t) (infs-opposed s t (Bool·beq s t))
+add-opposed f (inf s) (fin t n d) = opposed-neg _ _ refl
+add-opposed f (fin s m e) nan = nans-opposed
+add-opposed f (fin s m e) (inf t) = opposed-neg _ _ refl
+add-opposed f (fin s m e) (fin t n d) = sum-opposed f s (m * up e * down d) t (n * up d * down e) (down e * down d) (mul-pos (down-pos e) (down-pos d))
 
 -- ---- the operands exchanged
 unlike-comm : (s t : Bool) → unlike s t ≡ unlike t s

@@ -1,19 +1,21 @@
--- A product with an interval that is symmetric about zero, by two products. Assumes nothing.
+-- Products and sums of intervals that are symmetric about zero are symmetric, and a product needs two products of ends. Assumes nothing.
 use mathlib.Core.Path.{_≡_, refl, sym, ap, _∙_, subst}
 use mathlib.Core.Bool.{Bool, true, false, not, _||_, cond}
 use lib.Dec.{T}
-use lib.Ieee.{Float, binary64, neg, eq, isNan, fits, mul}
-use lib.Ieee.Fits.{mul-fits}
+use lib.Ieee.{Float, inf, binary64, neg, lt, eq, isNan, fits, add, mul}
+use lib.Ieee.Fits.{neg-fits, add-fits, mul-fits}
 use Rattle.doubles.specs.Neighbour.{nextUp, nextDown, fmax, least4, greatest4}
 use Rattle.doubles.specs.Value.{Number}
-use Rattle.doubles.proofs.Tests.{T-of, Tn-of}
-use Rattle.doubles.proofs.Neighbour.{neg-nan}
+use Rattle.doubles.proofs.Tests.{T-of, Tn-of, neg-neg}
+use Rattle.doubles.proofs.Neighbour.{neg-nan, neg-lt}
 use Rattle.doubles.proofs.Extremes.{Four}
-use Rattle.doubles.proofs.Products.{mul-neg}
-use Rattle.doubles.proofs.Opposite.{Opposed, opposed-neg, mul-opposed, mul-swap}
-use Rattle.doubles.proofs.Symmetric.{farthest, farthest-up, ends, ends-swapped}
+use Rattle.doubles.proofs.Products.{mul-neg, number-neg}
+use Rattle.doubles.proofs.Opposite.{Opposed, opposed-neg, add-opposed, mul-opposed, mul-swap}
+use Rattle.doubles.proofs.Symmetric.{up-same, farthest, farthest-up, ends, ends-swapped}
+use Rattle.doubles.proofs.Stepping.{up-nan}
+use Rattle.doubles.specs.Neighbour.{downFrom}
 use Rattle.interval.specs.declared.Interval.{Interval}
-use Rattle.interval.specs.Ops.{entire, checkedOf, someNan, mulOf}
+use Rattle.interval.specs.Ops.{entire, checkedOf, someNan, addOf, mulOf, symmetricOf}
 use Rattle.interval.proofs.Facts.{none-nan}
 
 abbrev Held : Float → Type 0
@@ -85,18 +87,59 @@ module _ (a o : Interval) (k : Mirrored a) where
       rw (mul-swap binary64 (o .lo) (a .lo), mul-swap binary64 (o .lo) (a .hi), mul-swap binary64 (o .hi) (a .lo), mul-swap binary64 (o .hi) (a .hi))
       (box-swapped _ _ _ _ four-held (k (o .lo)) (k (o .hi)))
 
-abbrev about : Float → Interval
-about s = record { lo = neg s; hi = s }
-
-pub about-zero : (s : Float) (o : Interval) → mulOf (about s) o ≡ aroundOf (mul binary64 s (o .lo)) (mul binary64 s (o .hi))
-about-zero s o = mirrored-left (about s) o (λ c. opposed-neg _ _ (mul-neg binary64 s c))
+pub about-zero : (s : Float) (o : Interval) → mulOf (symmetricOf s) o ≡ aroundOf (mul binary64 s (o .lo)) (mul binary64 s (o .hi))
+about-zero s o = mirrored-left (symmetricOf s) o (λ c. opposed-neg _ _ (mul-neg binary64 s c))
 
 module _ (a o : Interval) (e : eq (a .lo) (neg (a .hi)) ≡ true) where
   mirrored : Mirrored a
   mirrored c = mul-opposed binary64 (a .lo) (a .hi) c (T-of _ e)
 
-  pub symmetric-left : mulOf (about (a .hi)) o ≡ mulOf a o
+  pub symmetric-left : mulOf (symmetricOf (a .hi)) o ≡ mulOf a o
   symmetric-left = about-zero (a .hi) o ∙ sym (mirrored-left a o mirrored)
 
-  pub symmetric-right : mulOf (about (a .hi)) o ≡ mulOf o a
+  pub symmetric-right : mulOf (symmetricOf (a .hi)) o ≡ mulOf o a
   symmetric-right = about-zero (a .hi) o ∙ sym (mirrored-right a o mirrored)
+
+-- ---- what a product and a sum with their high ends are
+
+around-is : (b : Bool) (m : Float) → cond b entire (symmetricOf m) ≡ symmetricOf (cond b entire (symmetricOf m) .hi)
+unfolding neg
+around-is true m = refl
+around-is false m = refl
+
+pub product-is : (s : Float) (o : Interval) → mulOf (symmetricOf s) o ≡ symmetricOf (mulOf (symmetricOf s) o .hi)
+product-is s o =
+    let p = mul binary64 s (o .lo) in
+    let q = mul binary64 s (o .hi) in
+    subst (λ (i : Interval). i ≡ symmetricOf (i .hi)) (sym (about-zero s o)) (around-is (isNan p || isNan q) (nextUp (farthest p q)))
+
+opposite-down : (x y : Float) → Opposed x y → Number y → nextDown x ≡ neg (nextUp y)
+unfolding downFrom
+opposite-down x y o n =
+    let m : Number x = subst (λ (b : Bool). T (not b)) (sym (o .nans)) n in
+    ap neg (up-same binary64 (neg x) y (number-neg x m) n
+    (subst (λ (b : Bool). T (not b)) (ap (λ (z : Float). lt z (neg y)) (sym (neg-neg x)) ∙ neg-lt (neg x) y) (o .over))
+    (subst (λ (b : Bool). T (not b)) (ap (λ (z : Float). lt (neg y) z) (sym (neg-neg x)) ∙ neg-lt y (neg x)) (o .under)))
+
+pub sum-box : (a b : Float) → addOf (symmetricOf a) (symmetricOf b) ≡ cond (isNan (add binary64 a b)) entire (symmetricOf (nextUp (add binary64 a b)))
+unfolding addOf checkedOf downFrom
+sum-box a b = rw (low, up-nan binary64 r (add-fits binary64 a b)) (go (isNan r) refl)
+  where
+    p : Float
+    p = add binary64 (neg a) (neg b)
+
+    r : Float
+    r = add binary64 a b
+
+    o : Opposed p r
+    o = add-opposed binary64 a b
+
+    low : isNan (nextDown p) ≡ isNan r
+    low = neg-nan (nextUp (neg p)) ∙ up-nan binary64 (neg p) (neg-fits binary64 p (add-fits binary64 (neg a) (neg b))) ∙ neg-nan p ∙ o .nans
+
+    go : (c : Bool) → isNan r ≡ c → cond (c || c) entire (record { lo = nextDown p; hi = nextUp r }) ≡ cond c entire (symmetricOf (nextUp r))
+    go true e = refl
+    go false e = ap (λ (z : Float). record { lo = z; hi = nextUp r }) (opposite-down p r o (Tn-of _ e))
+
+pub sum-is : (a b : Float) → addOf (symmetricOf a) (symmetricOf b) ≡ symmetricOf (addOf (symmetricOf a) (symmetricOf b) .hi)
+sum-is a b = subst (λ (i : Interval). i ≡ symmetricOf (i .hi)) (sym (sum-box a b)) (around-is (isNan (add binary64 a b)) (nextUp (add binary64 a b)))

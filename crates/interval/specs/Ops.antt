@@ -61,6 +61,10 @@ mulOf a b =
     let s = mul binary64 (a .hi) (b .hi) in
     cond (someNan p q r s) entire (checkedOf (nextDown (least4 p q r s)) (nextUp (greatest4 p q r s)))
 
+-- [-s, s]
+abbrev pub symmetricOf : Float → Interval
+symmetricOf s = record { lo = neg s; hi = s }
+
 abbrev pub negOf : Interval → Interval
 negOf a = record { lo = neg (a .hi); hi = neg (a .lo) }
 

@@ -12,9 +12,9 @@ use crate::step::below;
 use crate::step::least;
 use crate::step::most;
 ghost use mathlib.Core.Path.{_≡_};
-ghost use lib.Ieee.{neg};
+ghost use lib.Ieee.{eq, neg};
 ghost use Rattle.doubles.specs.Neighbour.{nextUp, nextDown};
-ghost use Rattle.interval.specs.Ops.{entire, newOf, pointOf, widthOf, containsOf, hullOf, signOf, checkedOf, sqrOf, addOf, subOf, mulOf, negOf, someNan, reciprocalOf, divideOf};
+ghost use Rattle.interval.specs.Ops.{entire, newOf, pointOf, widthOf, containsOf, hullOf, signOf, checkedOf, sqrOf, addOf, subOf, mulOf, negOf, someNan, symmetricOf, reciprocalOf, divideOf};
 
 pub mod float;
 pub mod place;
@@ -188,35 +188,6 @@ impl Interval {
     pub fn mul(self, o: Interval) -> Interval
         ensures { λ r. ⌜ r ≡ mulOf self o ⌝ }
     {
-        if self.lo == -self.hi {
-            return Interval::around(self.hi, o);
-        }
-        if o.lo == -o.hi {
-            return Interval::around(o.hi, self);
-        }
-        self.four(o)
-    }
-
-    // [-s, s] times o: the four products are two and their opposites.
-    fn around(s: f64, o: Interval) -> Interval
-        ensures { λ r. ⌜ r ≡ mulOf (record { lo = neg s; hi = s }) o ⌝ }
-    {
-        let p = s * o.lo;
-        let q = s * o.hi;
-        if is_nan(p) {
-            return Interval::entire();
-        }
-        if is_nan(q) {
-            return Interval::entire();
-        }
-        let m = above_sizes(p, q);
-        Interval { lo: -m, hi: m }
-    }
-
-    // The product by all four products of ends.
-    fn four(self, o: Interval) -> Interval
-        ensures { λ r. ⌜ r ≡ mulOf self o ⌝ }
-    {
         let p = self.lo * o.lo;
         let q = self.lo * o.hi;
         let r = self.hi * o.lo;
@@ -237,6 +208,48 @@ impl Interval {
             hi: -self.lo,
         }
     }
+}
+
+// Intervals [-s, s], of which the high end alone is worked out.
+impl Interval {
+    pub fn symmetric(s: f64) -> Interval
+        ensures { λ r. ⌜ r ≡ symmetricOf s ⌝ }
+    {
+        Interval { lo: -s, hi: s }
+    }
+
+    // Its ends are opposite numbers.
+    pub fn is_symmetric(self) -> bool
+        ensures { λ r. ⌜ r ≡ eq (self .lo) (neg (self .hi)) ⌝ }
+    {
+        self.lo == -self.hi
+    }
+
+    // The high end of [-s, s] times it: the four products are two and their opposites.
+    pub fn reach(self, s: f64) -> f64
+        ensures { λ r. ⌜ r ≡ mulOf (symmetricOf s) self .hi ⌝ }
+    {
+        let p = s * self.lo;
+        let q = s * self.hi;
+        if is_nan(p) {
+            return infinity();
+        }
+        if is_nan(q) {
+            return infinity();
+        }
+        above_sizes(p, q)
+    }
+}
+
+// The high end of [-a, a] + [-b, b].
+pub fn reach_sum(a: f64, b: f64) -> f64
+    ensures { λ r. ⌜ r ≡ addOf (symmetricOf a) (symmetricOf b) .hi ⌝ }
+{
+    let c = a + b;
+    if is_nan(c) {
+        return infinity();
+    }
+    above(c)
 }
 
 // A quotient of two intervals: the first times the outward interval of both reciprocals.

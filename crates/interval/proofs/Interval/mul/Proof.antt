@@ -1,32 +1,73 @@
-use mathlib.Core.Path.{_∙_}
-use Rattle.interval.proofs.Symmetric.{symmetric-left, symmetric-right}
+use mathlib.Core.Path.{_≡_, sym, ap, _∙_}
+use mathlib.Core.Bool.{false}
+use lib.Ieee.{binary64, isNan}
+use Rattle.doubles.proofs.Tests.{Tn-of}
+use Rattle.doubles.proofs.Products.{Products}
+use Rattle.doubles.proofs.Extremes.{min-number, max-number, min-first, max-first}
+use Rattle.interval.specs.Ops.{mulOf}
+use Rattle.interval.proofs.Facts.{none-nan}
 use borrow.Author.Needs.{needs}
 use Rattle.interval.proofs.Interval.mul.Statement.{statement}
 use Rattle.interval.proofs.Interval.mul.Tie as tie
 use Rattle.interval.proofs.Interval.mul.Reads as reads
 use Rattle.interval.proofs.Interval.mul.Lts as lts
-use Rattle.interval.proofs.Interval.around.Reads as around-reads
-use Rattle.interval.proofs.Interval.four.Reads as four-reads
+use Rattle.interval.proofs.Interval.entire.Reads as entire-reads
+use Rattle.interval.proofs.Interval.outward.Reads as outward-reads
+use Rattle.interval.proofs.some_nan.Reads as some-nan-reads
+use Rattle.interval.proofs.step.least.Reads as least-reads
+use Rattle.interval.proofs.step.most.Reads as most-reads
 
-around-requires : tie.Need-around-requires
-around-requires c κs = search needs
+-- past the test no product is a NaN
+none : (c : tie.Else1) → (let a = c .before .before .before .before .before .before .before .before .before .before .args .self in let o = c .before .before .before .before .before .before .before .before .before .before .args .o in Products (λ x. isNan x ≡ false) binary64 (a .lo) (a .hi) (o .lo) (o .hi))
+none c = none-nan _ _ _ _ (sym (c .before .some-nan .ensures) ∙ c .if1 .left)
+
+some-nan-requires : tie.Need-some-nan-requires
+some-nan-requires c κs = search needs
+
+entire-requires : tie.Need-entire-requires
+entire-requires c κs = search needs
 
 returns : tie.Need-returns
-returns c = c .around .ensures ∙ symmetric-left (c .before .before .before .before .args .self) (c .before .before .before .before .args .o) (c .before .if1 .taken)
+unfolding mulOf
+returns c = rw (← (c .before .before .some-nan .ensures), c .before .if1 .taken) (c .entire .ensures)
 
-around-requires-2 : tie.Need-around-requires-2
-around-requires-2 c κs = search needs
+least-requires : tie.Need-least-requires
+least-requires c κs = none c .one
+
+least-requires-2 : tie.Need-least-requires-2
+least-requires-2 c κs = ap isNan (c .least .ensures) ∙ min-number _ _ (none (c .before) .one)
+
+least-requires-3 : tie.Need-least-requires-3
+least-requires-3 c κs = ap isNan (c .least2 .ensures) ∙ min-number _ _ (ap isNan (c .before .least .ensures) ∙ min-number _ _ (none (c .before .before) .one))
+
+most-requires : tie.Need-most-requires
+most-requires c κs = none (c .before .before .before) .one
+
+most-requires-2 : tie.Need-most-requires-2
+most-requires-2 c κs = ap isNan (c .most .ensures) ∙ max-number _ _ (none (c .before .before .before .before) .one)
+
+most-requires-3 : tie.Need-most-requires-3
+most-requires-3 c κs = ap isNan (c .most2 .ensures) ∙ max-number _ _ (ap isNan (c .before .most .ensures) ∙ max-number _ _ (none (c .before .before .before .before .before) .one))
+
+outward-requires : tie.Need-outward-requires
+outward-requires c κs = search needs
 
 returns-2 : tie.Need-returns-2
-returns-2 c = c .around2 .ensures ∙ symmetric-right (c .before .before .before .before .before .before .before .args .o) (c .before .before .before .before .before .before .before .args .self) (c .before .if2 .taken)
-
-four-requires : tie.Need-four-requires
-four-requires c κs = search needs
-
-returns-3 : tie.Need-returns-3
-returns-3 c = search needs
+unfolding mulOf
+returns-2 c = let n = Tn-of _ (none (c .before .before .before .before .before .before .before) .one) in rw (← (c .before .before .before .before .before .before .before .before .some-nan .ensures), c .before .before .before .before .before .before .before .if1 .left, min-first _ n, max-first _ n, c .outward .ensures, c .before .before .before .before .least3 .ensures, c .before .before .before .before .before .least2 .ensures, c .before .before .before .before .before .before .least .ensures, c .before .most3 .ensures, c .before .before .most2 .ensures, c .before .before .before .most .ensures)
 
 pub mul-spec : {M : Type 1} → statement M
 mul-spec =
     tie.close
-    (tie.spec around-requires returns around-requires-2 returns-2 four-requires returns-3)
+    (tie.spec
+    some-nan-requires
+    entire-requires
+    returns
+    least-requires
+    least-requires-2
+    least-requires-3
+    most-requires
+    most-requires-2
+    most-requires-3
+    outward-requires
+    returns-2)
