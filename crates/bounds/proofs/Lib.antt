@@ -1,4 +1,5 @@
 pub mod Steps
+pub mod Slopes
 pub mod JetIn
 pub mod NetIn
 pub mod WeightIn

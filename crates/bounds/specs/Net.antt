@@ -28,6 +28,10 @@ shareBy t l Unbounded = F.Refused 28
 unfoldable pub shareOf : Jet → Float → Float → JetAnswer
 shareOf t left right = shareBy t (pointOf left) (divideOf (pointOf one+) (subOf (pointOf right) (pointOf left)))
 
+-- b' a + b a' + c' d + c d': how b a + c d changes
+unfoldable pub slopeOf : Interval → Interval → Interval → Interval → Interval → Interval → Interval → Interval → Interval
+slopeOf b b′ a a′ c c′ d d′ = addOf (addOf (mulOf b′ a) (mulOf b a′)) (addOf (mulOf c′ d) (mulOf c d′))
+
 -- (1 - alpha) a + alpha b
 unfoldable pub mixJet : Jet → Jet → Jet → Jet
 mixJet alpha a b = jetAdd (jetMul (jetSub (constantOf (pointOf one+)) alpha) a) (jetMul alpha b)

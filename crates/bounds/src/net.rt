@@ -3,9 +3,12 @@ use crate::jet::Jet;
 use crate::jet::JetAnswer;
 use interval::Interval;
 use interval::Quotient;
+use interval::reach_sum;
 ghost use mathlib.Core.Path.{_≡_};
 ghost use Rattle.bounds.specs.Jet.{jetAdd, jetMul};
-ghost use Rattle.bounds.specs.Net.{shareOf, mixOf, neighbours, zeroControl};
+ghost use mathlib.Core.Bool.{_&&_};
+ghost use Rattle.interval.specs.Ops.{addOf, mulOf, symmetricOf, isSymmetric};
+ghost use Rattle.bounds.specs.Net.{slopeOf, shareOf, mixOf, neighbours, zeroControl};
 
 // A point of the net: three weighted coordinates and the weight.
 pub struct Control {
@@ -46,10 +49,77 @@ fn share_at(t: Jet, left: f64, right: f64) -> JetAnswer
     }
 }
 
+fn dot(a: Interval, b: Interval, c: Interval, d: Interval) -> Interval
+    ensures { λ r. ⌜ r ≡ addOf (mulOf a b) (mulOf c d) ⌝ }
+{
+    a.mul(b).add(c.mul(d))
+}
+
+fn all_symmetric(a: Interval, b: Interval, c: Interval, d: Interval) -> bool
+    ensures { λ r. ⌜ r ≡ (isSymmetric a && (isSymmetric b && (isSymmetric c && isSymmetric d))) ⌝ }
+{
+    if a.is_symmetric() {
+        if b.is_symmetric() {
+            if c.is_symmetric() {
+                d.is_symmetric()
+            } else {
+                false
+            }
+        } else {
+            false
+        }
+    } else {
+        false
+    }
+}
+
+// [-bs, bs] a + [-s, s] b + [-cs, cs] d + [-t, t] c: symmetric too, so that its high end is enough.
+fn about_zero(
+    b: Interval,
+    bs: f64,
+    a: Interval,
+    s: f64,
+    c: Interval,
+    cs: f64,
+    d: Interval,
+    t: f64,
+) -> Interval
+    ensures { λ r. ⌜ r ≡ addOf (addOf (mulOf (symmetricOf bs) a) (mulOf (symmetricOf s) b)) (addOf (mulOf (symmetricOf cs) d) (mulOf (symmetricOf t) c)) ⌝ }
+{
+    let x = reach_sum(a.reach(bs), b.reach(s));
+    let y = reach_sum(d.reach(cs), c.reach(t));
+    Interval::symmetric(reach_sum(x, y))
+}
+
+// How b a + c d changes. A derivative along the other parameter is symmetric: it costs half as much.
+fn slope(
+    b: Interval,
+    bd: Interval,
+    a: Interval,
+    ad: Interval,
+    c: Interval,
+    cd: Interval,
+    d: Interval,
+    dd: Interval,
+) -> Interval
+    ensures { λ r. ⌜ r ≡ slopeOf b bd a ad c cd d dd ⌝ }
+{
+    if all_symmetric(bd, ad, cd, dd) {
+        return about_zero(b, bd.hi(), a, ad.hi(), c, cd.hi(), d, dd.hi());
+    }
+    dot(bd, a, b, ad).add(dot(cd, d, c, dd))
+}
+
 fn mix_jet(beta: Jet, a: Jet, alpha: Jet, b: Jet) -> Jet
     ensures { λ r. ⌜ r ≡ jetAdd (jetMul beta a) (jetMul alpha b) ⌝ }
 {
-    beta.mul(a).add(alpha.mul(b))
+    let u = beta.v;
+    let v = alpha.v;
+    Jet {
+        v: dot(u, a.v, v, b.v),
+        du: slope(u, beta.du, a.v, a.du, v, alpha.du, b.v, b.du),
+        dv: slope(u, beta.dv, a.v, a.dv, v, alpha.dv, b.v, b.dv),
+    }
 }
 
 // 1 - alpha is worked out once for the four.

@@ -15,7 +15,7 @@ use Rattle.doubles.proofs.Symmetric.{up-same, farthest, farthest-up, ends, ends
 use Rattle.doubles.proofs.Stepping.{up-nan}
 use Rattle.doubles.specs.Neighbour.{downFrom}
 use Rattle.interval.specs.declared.Interval.{Interval}
-use Rattle.interval.specs.Ops.{entire, checkedOf, someNan, addOf, mulOf, symmetricOf}
+use Rattle.interval.specs.Ops.{entire, checkedOf, someNan, addOf, mulOf, symmetricOf, isSymmetric}
 use Rattle.interval.proofs.Facts.{none-nan}
 
 abbrev Held : Float → Type 0
@@ -90,7 +90,7 @@ module _ (a o : Interval) (k : Mirrored a) where
 pub about-zero : (s : Float) (o : Interval) → mulOf (symmetricOf s) o ≡ aroundOf (mul binary64 s (o .lo)) (mul binary64 s (o .hi))
 about-zero s o = mirrored-left (symmetricOf s) o (λ c. opposed-neg _ _ (mul-neg binary64 s c))
 
-module _ (a o : Interval) (e : eq (a .lo) (neg (a .hi)) ≡ true) where
+module _ (a o : Interval) (e : isSymmetric a ≡ true) where
   mirrored : Mirrored a
   mirrored c = mul-opposed binary64 (a .lo) (a .hi) c (T-of _ e)
 

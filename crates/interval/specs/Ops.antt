@@ -65,6 +65,9 @@ mulOf a b =
 abbrev pub symmetricOf : Float → Interval
 symmetricOf s = record { lo = neg s; hi = s }
 
+abbrev pub isSymmetric : Interval → Bool
+isSymmetric a = eq (a .lo) (neg (a .hi))
+
 abbrev pub negOf : Interval → Interval
 negOf a = record { lo = neg (a .hi); hi = neg (a .lo) }
 

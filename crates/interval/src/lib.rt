@@ -12,9 +12,9 @@ use crate::step::below;
 use crate::step::least;
 use crate::step::most;
 ghost use mathlib.Core.Path.{_≡_};
-ghost use lib.Ieee.{eq, neg};
+ghost use lib.Ieee.{neg};
 ghost use Rattle.doubles.specs.Neighbour.{nextUp, nextDown};
-ghost use Rattle.interval.specs.Ops.{entire, newOf, pointOf, widthOf, containsOf, hullOf, signOf, checkedOf, sqrOf, addOf, subOf, mulOf, negOf, someNan, symmetricOf, reciprocalOf, divideOf};
+ghost use Rattle.interval.specs.Ops.{entire, newOf, pointOf, widthOf, containsOf, hullOf, signOf, checkedOf, sqrOf, addOf, subOf, mulOf, negOf, someNan, symmetricOf, isSymmetric, reciprocalOf, divideOf};
 
 pub mod float;
 pub mod place;
@@ -220,7 +220,7 @@ impl Interval {
 
     // Its ends are opposite numbers.
     pub fn is_symmetric(self) -> bool
-        ensures { λ r. ⌜ r ≡ eq (self .lo) (neg (self .hi)) ⌝ }
+        ensures { λ r. ⌜ r ≡ isSymmetric self ⌝ }
     {
         self.lo == -self.hi
     }

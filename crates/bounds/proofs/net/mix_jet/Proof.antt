@@ -1,27 +1,30 @@
 use mathlib.Core.Path.{_≡_, refl, sym, ap, _∙_, subst}
+use Rattle.bounds.specs.Net.{slopeOf}
+use Rattle.bounds.specs.Jet.{jetAdd, jetMul}
 use borrow.Author.Needs.{needs}
 use Rattle.bounds.proofs.net.mix_jet.Statement.{statement}
 use Rattle.bounds.proofs.net.mix_jet.Tie as tie
 use Rattle.bounds.proofs.net.mix_jet.Reads as reads
 use Rattle.bounds.proofs.net.mix_jet.Lts as lts
-use Rattle.bounds.proofs.jet.Jet.add.Reads as add-reads
-use Rattle.bounds.proofs.jet.Jet.mul.Reads as mul-reads
+use Rattle.bounds.proofs.net.dot.Reads as dot-reads
+use Rattle.bounds.proofs.net.slope.Reads as slope-reads
 
--- src/net.rt:52:5
-mul-requires : tie.Need-mul-requires
-mul-requires c κs = search needs
+-- src/net.rt:119:12
+dot-requires : tie.Need-dot-requires
+dot-requires c κs = search needs
 
--- src/net.rt:52:21
-mul-requires-2 : tie.Need-mul-requires-2
-mul-requires-2 c κs = search needs
+-- src/net.rt:120:13
+slope-requires : tie.Need-slope-requires
+slope-requires c κs = search needs
 
--- src/net.rt:52:5
-add-requires : tie.Need-add-requires
-add-requires c κs = search needs
+-- src/net.rt:121:13
+slope-requires-2 : tie.Need-slope-requires-2
+slope-requires-2 c κs = search needs
 
--- src/net.rt:49:1
+-- src/net.rt:113:1
 returns : tie.Need-returns
-returns c = rw ((c .add .ensures), (c .before .mul2 .ensures), (c .before .before .mul .ensures))
+unfolding jetAdd jetMul slopeOf
+returns c = rw ((c .slope2 .ensures), (c .before .slope .ensures), (c .before .before .dot .ensures))
 
 pub mix-jet-spec : {M : Type 1} → statement M
-mix-jet-spec = tie.close (tie.spec mul-requires mul-requires-2 add-requires returns)
+mix-jet-spec = tie.close (tie.spec dot-requires slope-requires slope-requires-2 returns)

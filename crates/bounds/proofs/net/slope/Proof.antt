@@ -1,0 +1,74 @@
+use mathlib.Core.Path.{_≡_, refl, sym, ap, _∙_, subst}
+use Rattle.bounds.specs.Net.{slopeOf}
+use Rattle.bounds.proofs.Slopes.{slope-is}
+use borrow.Author.Needs.{needs}
+use Rattle.bounds.proofs.net.slope.Statement.{statement}
+use Rattle.bounds.proofs.net.slope.Tie as tie
+use Rattle.bounds.proofs.net.slope.Reads as reads
+use Rattle.bounds.proofs.net.slope.Lts as lts
+use Rattle.bounds.proofs.net.about_zero.Reads as about-zero-reads
+use Rattle.bounds.proofs.net.all_symmetric.Reads as all-symmetric-reads
+use Rattle.bounds.proofs.net.dot.Reads as dot-reads
+use Rattle.interval.proofs.Interval.add.Reads as add-reads
+use Rattle.interval.proofs.Interval.hi.Reads as hi-reads
+
+-- src/net.rt:107:8
+all-symmetric-requires : tie.Need-all-symmetric-requires
+all-symmetric-requires c κs = search needs
+
+-- src/net.rt:108:30
+hi-requires : tie.Need-hi-requires
+hi-requires c κs = search needs
+
+-- src/net.rt:108:42
+hi-requires-2 : tie.Need-hi-requires-2
+hi-requires-2 c κs = search needs
+
+-- src/net.rt:108:54
+hi-requires-3 : tie.Need-hi-requires-3
+hi-requires-3 c κs = search needs
+
+-- src/net.rt:108:66
+hi-requires-4 : tie.Need-hi-requires-4
+hi-requires-4 c κs = search needs
+
+-- src/net.rt:108:9
+about-zero-requires : tie.Need-about-zero-requires
+about-zero-requires c κs = search needs
+
+-- src/net.rt:108:9
+returns : tie.Need-returns
+returns c = rw ((c .about-zero .ensures), (c .before .hi4 .ensures), (c .before .before .hi3 .ensures), (c .before .before .before .hi2 .ensures), (c .before .before .before .before .hi .ensures)) (slope-is (c .before .before .before .before .before .before .before .args .b) (c .before .before .before .before .before .before .before .args .bd) (c .before .before .before .before .before .before .before .args .a) (c .before .before .before .before .before .before .before .args .ad) (c .before .before .before .before .before .before .before .args .c) (c .before .before .before .before .before .before .before .args .cd) (c .before .before .before .before .before .before .before .args .d) (c .before .before .before .before .before .before .before .args .dd) (sym (c .before .before .before .before .before .before .all-symmetric .ensures) ∙ c .before .before .before .before .before .if1 .taken))
+
+-- src/net.rt:110:5
+dot-requires : tie.Need-dot-requires
+dot-requires c κs = search needs
+
+-- src/net.rt:110:27
+dot-requires-2 : tie.Need-dot-requires-2
+dot-requires-2 c κs = search needs
+
+-- src/net.rt:110:5
+add-requires : tie.Need-add-requires
+add-requires c κs = search needs
+
+-- src/net.rt:95:1
+returns-2 : tie.Need-returns-2
+unfolding slopeOf
+returns-2 c = rw ((c .add .ensures), (c .before .dot2 .ensures), (c .before .before .dot .ensures))
+
+pub slope-spec : {M : Type 1} → statement M
+slope-spec =
+    tie.close
+    (tie.spec
+    all-symmetric-requires
+    hi-requires
+    hi-requires-2
+    hi-requires-3
+    hi-requires-4
+    about-zero-requires
+    returns
+    dot-requires
+    dot-requires-2
+    add-requires
+    returns-2)
