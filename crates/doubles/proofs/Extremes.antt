@@ -1,5 +1,5 @@
 -- The smaller and the larger of two doubles that are no NaN, and of four. Assumes nothing.
-use mathlib.Core.Path.{_≡_, refl}
+use mathlib.Core.Path.{_≡_, refl, sym, ap, _∙_, subst}
 use mathlib.Core.Bool.{Bool, true, false, not, _||_, cond}
 use lib.Dec.{T, not-T}
 use lib.Ieee.{Float, nan, inf, fin, Format, fits, isNan, lt}
@@ -8,7 +8,7 @@ use lib.Ieee.Bits.{is-false}
 use Rattle.doubles.specs.Value.{Number, _⊑_}
 use Rattle.doubles.specs.Neighbour.{fmin, fmax, least4, greatest4}
 use Rattle.doubles.proofs.Tests.{Tn-of}
-use Rattle.doubles.proofs.Order.{⊑-trans, lt-irrefl, lt-asym, lt-left, lt-right}
+use Rattle.doubles.proofs.Order.{⊑-trans, lt-trans, lt-irrefl, lt-asym, lt-left, lt-right}
 
 -- m is no NaN, and stands in the relation R to both
 pub record Picked (R : Float → Float → Type 0) (a b m : Float) : Type 0 where
@@ -67,12 +67,42 @@ max-first (inf true) n = refl
 max-first (inf false) n = refl
 max-first (fin s m e) n = refl
 
+-- ---- the first of the best, in any order of asking
+module _ (R : Float → Float → Bool) where
+  abbrev pick : Float → Float → Float
+  pick a b = cond (R b a || isNan a) b a
+
+  picks : (x y z : Float) → isNan x ≡ false → isNan y ≡ false → (T (R z y) → T (R y x) → T (R z x)) → (T (not (R y x)) → T (not (R z y)) → T (not (R z x))) → pick x (pick y z) ≡ pick (pick x y) z
+  picks x y z n m h g = rw (n, m) (go (R y x) (R z y) (R z x) refl refl refl h g)
+    where
+      go : (k l w : Bool) → R y x ≡ k → R z y ≡ l → R z x ≡ w → (T l → T k → T w) → (T (not k) → T (not l) → T (not w))
+          → cond (R (cond (l || false) z y) x || false) (cond (l || false) z y) x ≡ pick (cond (k || false) y x) z
+      go true true true a b c h g = rw (m, b, c)
+      go true true false a b c h g = absurd (h tt tt)
+      go true false w a b c h g = rw (m, a, b)
+      go false true w a b c h g = rw n
+      go false false true a b c h g = absurd (g tt tt)
+      go false false false a b c h g = rw (n, a, c)
+
+min-picks : (x y z : Float) → isNan x ≡ false → isNan y ≡ false → fmin x (fmin y z) ≡ fmin (fmin x y) z
+min-picks x y z n m = picks (λ b a. lt b a) x y z n m (lt-trans z y x) (λ h k. ⊑-trans x y z (Tn-of _ m) h k)
+
+max-picks : (x y z : Float) → isNan x ≡ false → isNan y ≡ false → fmax x (fmax y z) ≡ fmax (fmax x y) z
+max-picks x y z n m = picks (λ b a. lt a b) x y z n m (λ h k. lt-trans x y z k h) (λ h k. ⊑-trans z y x (Tn-of _ m) k h)
+
 -- ---- of four
 pub record Four (P : Float → Type 0) (p q r s : Float) : Type 0 where
   pub one : P p
   pub two : P q
   pub three : P r
   pub four : P s
+
+module _ (p q r s : Float) (n : Four (λ x. isNan x ≡ false) p q r s) where
+  pub least-pairs : fmin (fmin p q) (fmin r s) ≡ least4 p q r s
+  least-pairs = min-picks (fmin p q) r s (min-number p q (n .one)) (n .three) ∙ sym (ap (λ (x : Float). fmin (fmin (fmin x q) r) s) (min-first p (Tn-of _ (n .one))))
+
+  pub greatest-pairs : fmax (fmax p q) (fmax r s) ≡ greatest4 p q r s
+  greatest-pairs = max-picks (fmax p q) r s (max-number p q (n .one)) (n .three) ∙ sym (ap (λ (x : Float). fmax (fmax (fmax x q) r) s) (max-first p (Tn-of _ (n .one))))
 
 pub record Best (f : Format) (R : Float → Float → Type 0) (p q r s m : Float) : Type 0 where
   pub held : T (fits f m)

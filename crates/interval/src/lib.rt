@@ -195,8 +195,8 @@ impl Interval {
         if some_nan(p, q, r, s) {
             return Interval::entire();
         }
-        let lo = least(least(least(p, q), r), s);
-        let hi = most(most(most(p, q), r), s);
+        let lo = least(least(p, q), least(r, s));
+        let hi = most(most(p, q), most(r, s));
         Interval::outward(lo, hi)
     }
 

@@ -1,9 +1,8 @@
 use mathlib.Core.Path.{_≡_, sym, ap, _∙_}
 use mathlib.Core.Bool.{false}
 use lib.Ieee.{binary64, isNan}
-use Rattle.doubles.proofs.Tests.{Tn-of}
 use Rattle.doubles.proofs.Products.{Products}
-use Rattle.doubles.proofs.Extremes.{min-number, max-number, min-first, max-first}
+use Rattle.doubles.proofs.Extremes.{min-number, max-number, least-pairs, greatest-pairs}
 use Rattle.interval.specs.Ops.{mulOf}
 use Rattle.interval.proofs.Facts.{none-nan}
 use borrow.Author.Needs.{needs}
@@ -35,26 +34,28 @@ least-requires : tie.Need-least-requires
 least-requires c κs = none c .one
 
 least-requires-2 : tie.Need-least-requires-2
-least-requires-2 c κs = ap isNan (c .least .ensures) ∙ min-number _ _ (none (c .before) .one)
+least-requires-2 c κs = none (c .before) .three
 
 least-requires-3 : tie.Need-least-requires-3
-least-requires-3 c κs = ap isNan (c .least2 .ensures) ∙ min-number _ _ (ap isNan (c .before .least .ensures) ∙ min-number _ _ (none (c .before .before) .one))
+least-requires-3 c κs = ap isNan (c .before .least .ensures) ∙ min-number _ _ (none (c .before .before) .one)
 
 most-requires : tie.Need-most-requires
 most-requires c κs = none (c .before .before .before) .one
 
 most-requires-2 : tie.Need-most-requires-2
-most-requires-2 c κs = ap isNan (c .most .ensures) ∙ max-number _ _ (none (c .before .before .before .before) .one)
+most-requires-2 c κs = none (c .before .before .before .before) .three
 
 most-requires-3 : tie.Need-most-requires-3
-most-requires-3 c κs = ap isNan (c .most2 .ensures) ∙ max-number _ _ (ap isNan (c .before .most .ensures) ∙ max-number _ _ (none (c .before .before .before .before .before) .one))
+most-requires-3 c κs = ap isNan (c .before .most .ensures) ∙ max-number _ _ (none (c .before .before .before .before .before) .one)
 
 outward-requires : tie.Need-outward-requires
 outward-requires c κs = search needs
 
 returns-2 : tie.Need-returns-2
 unfolding mulOf
-returns-2 c = let n = Tn-of _ (none (c .before .before .before .before .before .before .before) .one) in rw (← (c .before .before .before .before .before .before .before .before .some-nan .ensures), c .before .before .before .before .before .before .before .if1 .left, min-first _ n, max-first _ n, c .outward .ensures, c .before .before .before .before .least3 .ensures, c .before .before .before .before .before .least2 .ensures, c .before .before .before .before .before .before .least .ensures, c .before .most3 .ensures, c .before .before .most2 .ensures, c .before .before .before .most .ensures)
+returns-2 c =
+    let n = none (c .before .before .before .before .before .before .before) in
+    rw (← (c .before .before .before .before .before .before .before .before .some-nan .ensures), c .before .before .before .before .before .before .before .if1 .left, ← (least-pairs _ _ _ _ n), ← (greatest-pairs _ _ _ _ n), c .outward .ensures, c .before .before .before .before .least3 .ensures, c .before .before .before .before .before .least2 .ensures, c .before .before .before .before .before .before .least .ensures, c .before .most3 .ensures, c .before .before .most2 .ensures, c .before .before .before .most .ensures)
 
 pub mul-spec : {M : Type 1} → statement M
 mul-spec =
