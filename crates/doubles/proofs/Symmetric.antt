@@ -81,7 +81,7 @@ bottom (inf true) = tt
 bottom (inf false) = tt
 bottom (fin s m e) = tt
 
-pub peak : (f : Format) (p q r s : Float) → Four (λ x. T (fits f x)) p q r s → Four Number p q r s → Peak p q r s (greatest4 p q r s)
+peak : (f : Format) (p q r s : Float) → Four (λ x. T (fits f x)) p q r s → Four Number p q r s → Peak p q r s (greatest4 p q r s)
 peak f p q r s h n =
     let g = greatest f p q r s h n in
     record {
@@ -97,7 +97,7 @@ peaks-up f p q r s m w y z = up-same f m w (y .number) (z .number) (y .least w (
 swapped : (P : Float → Type 0) (p q r s : Float) → Four P p r q s → Four P p q r s
 swapped P p q r s z = record { one = z .one; two = z .three; three = z .two; four = z .four }
 
-pub peak-swapped : (p q r s m : Float) → Peak p r q s m → Peak p q r s m
+peak-swapped : (p q r s m : Float) → Peak p r q s m → Peak p q r s m
 peak-swapped p q r s m z = record { number = z .number; each = swapped (Over m) p q r s (z .each); least = λ b k. z .least b (swapped (Over b) p r q s k) }
 
 -- ---- the sides of opposite numbers
@@ -186,7 +186,7 @@ neg-top : neg (inf false) ≡ inf true
 unfolding neg
 neg-top = refl
 
-pub neg-least : (p q r s : Float) → neg (least4 p q r s) ≡ greatest4 (neg p) (neg q) (neg r) (neg s)
+neg-least : (p q r s : Float) → neg (least4 p q r s) ≡ greatest4 (neg p) (neg q) (neg r) (neg s)
 neg-least p q r s =
     neg-min _ s
     ∙ ap (λ (z : Float). fmax z (neg s)) (neg-min _ r ∙ ap (λ (z : Float). fmax z (neg r)) (neg-min _ q ∙ ap (λ (z : Float). fmax z (neg q)) (neg-min (inf false) p ∙ ap (λ (z : Float). fmax z (neg p)) neg-top)))
