@@ -1,3 +1,4 @@
 -- Facts on values that the functions' proofs cite, and that each operation encloses.
 pub mod Facts
+pub mod Nans
 pub mod Contain

@@ -9,6 +9,7 @@ use crate::float::next_up;
 ghost use mathlib.Core.Path.{_≡_};
 ghost use Rattle.interval.specs.Ops.{entire, newOf, pointOf, widthOf, containsOf, hullOf, signOf, checkedOf, sqrOf, addOf, subOf, mulOf, negOf, someNan, divideOf};
 
+pub mod bits;
 pub mod float;
 pub mod place;
 
