@@ -1,9 +1,9 @@
 -- What the tests of an answer's bits say of the answer.
 -- Assumes nothing.
 use Prim.Native.Nat.{ℕ}
-use mathlib.Core.Path.{_≡_, refl, sym, ap, _∙_}
-use mathlib.Core.Bool.{Bool, true, false}
-use mathlib.Core.Logic.{_⊎_, inl, inr}
+use mathlib.Core.Path.{_≡_, sym, ap, _∙_}
+use mathlib.Core.Bool.{Bool, true}
+use mathlib.Core.Logic.{inl, inr}
 use lib.Dec.{T, eqb}
 use lib.Ieee.{Float, binary64, fits, eq, ofBits, toBits}
 use lib.Ieee.Bits.{ofBits-toBits, ofBits-fits}

@@ -3,10 +3,10 @@
 use Prim.Native.Nat.{ℕ, _+_, _*_, _-_, _^_, _≤_, _<_}
 use native.Mathlib.Numerals.{add-one}
 use native.Mathlib.Omega.{arith}
-use mathlib.Core.Path.{_≡_, sym, ap, _∙_}
+use mathlib.Core.Path.{_≡_, ap, _∙_}
 use lib.Pow.{pow-add, pow-mono}
 use borrow.Author.Needs.{needs}
-use Rattle.replaying.specs.Digits.{digitOf, hex}
+use Rattle.replaying.specs.Digits.{hex}
 use Rattle.replaying.proofs.words.value.Statement.{statement}
 use Rattle.replaying.proofs.words.value.Tie as tie
 
