@@ -1,4 +1,6 @@
-//! The exported functions as tasulogi.h declares them.
+//! The exported functions as tasulogi.h declares them. A run crosses as a pointer and a length.
+use crate::tables::{Curve, Surface};
+
 unsafe extern "C" {
     pub safe fn tasulogi_is_nan(x: f64) -> bool;
     pub safe fn tasulogi_is_finite(x: f64) -> bool;
@@ -8,86 +10,14 @@ unsafe extern "C" {
     pub safe fn tasulogi_max(a: f64, b: f64) -> f64;
     pub safe fn tasulogi_place(x: f64) -> i64;
     pub safe fn tasulogi_steps(lo: f64, hi: f64) -> u64;
-
-    pub fn tasulogi_interval_entire(out: *mut f64, n: usize) -> u32;
-    pub fn tasulogi_interval_new(lo: f64, hi: f64, out: *mut f64, n: usize) -> u32;
-    pub fn tasulogi_interval_point(x: f64, out: *mut f64, n: usize) -> u32;
-    pub fn tasulogi_interval_width(lo: f64, hi: f64, out: *mut f64, n: usize) -> u32;
     pub safe fn tasulogi_interval_contains(lo: f64, hi: f64, x: f64) -> u32;
     pub safe fn tasulogi_interval_sign(lo: f64, hi: f64) -> u32;
-    pub fn tasulogi_interval_sqr(lo: f64, hi: f64, out: *mut f64, n: usize) -> u32;
-    pub fn tasulogi_interval_neg(lo: f64, hi: f64, out: *mut f64, n: usize) -> u32;
-    pub fn tasulogi_interval_hull(al: f64, ah: f64, bl: f64, bh: f64, out: *mut f64, n: usize) -> u32;
-    pub fn tasulogi_interval_add(al: f64, ah: f64, bl: f64, bh: f64, out: *mut f64, n: usize) -> u32;
-    pub fn tasulogi_interval_sub(al: f64, ah: f64, bl: f64, bh: f64, out: *mut f64, n: usize) -> u32;
-    pub fn tasulogi_interval_mul(al: f64, ah: f64, bl: f64, bh: f64, out: *mut f64, n: usize) -> u32;
-    pub fn tasulogi_interval_divide(al: f64, ah: f64, bl: f64, bh: f64, out: *mut f64, n: usize) -> u32;
-
     pub safe fn tasulogi_class_of(number: u32) -> u8;
-    pub fn tasulogi_curve_refusal(
-        degree: usize,
-        knots: *const f64,
-        knots_n: usize,
-        points: *const f64,
-        points_n: usize,
-        rational: bool,
-        weights: *const f64,
-        weights_n: usize,
-    ) -> u32;
-    pub fn tasulogi_surface_refusal(
-        u_degree: usize,
-        v_degree: usize,
-        u_knots: *const f64,
-        u_knots_n: usize,
-        v_knots: *const f64,
-        v_knots_n: usize,
-        u_count: usize,
-        v_count: usize,
-        points: *const f64,
-        points_n: usize,
-        rational: bool,
-        weights: *const f64,
-        weights_n: usize,
-    ) -> u32;
+
     pub fn tasulogi_find_span(degree: usize, count: usize, knots: *const f64, knots_n: usize, u: f64) -> u64;
     pub fn tasulogi_next_span(degree: usize, count: usize, knots: *const f64, knots_n: usize, from: usize) -> usize;
     pub fn tasulogi_span_of(degree: usize, count: usize, u: f64, knots: *const f64, knots_n: usize) -> usize;
     pub fn tasulogi_clamp(degree: usize, count: usize, u: f64, knots: *const f64, knots_n: usize) -> f64;
-    pub fn tasulogi_bound_curve(
-        degree: usize,
-        knots: *const f64,
-        knots_n: usize,
-        points: *const f64,
-        points_n: usize,
-        rational: bool,
-        weights: *const f64,
-        weights_n: usize,
-        lo: f64,
-        hi: f64,
-        out: *mut f64,
-        n: usize,
-    ) -> u32;
-    pub fn tasulogi_bound_surface(
-        u_degree: usize,
-        v_degree: usize,
-        u_knots: *const f64,
-        u_knots_n: usize,
-        v_knots: *const f64,
-        v_knots_n: usize,
-        u_count: usize,
-        v_count: usize,
-        points: *const f64,
-        points_n: usize,
-        rational: bool,
-        weights: *const f64,
-        weights_n: usize,
-        u_lo: f64,
-        u_hi: f64,
-        v_lo: f64,
-        v_hi: f64,
-        out: *mut f64,
-        n: usize,
-    ) -> u32;
     pub fn tasulogi_basis_derivatives(
         span: usize,
         u: f64,
@@ -98,99 +28,67 @@ unsafe extern "C" {
         out: *mut f64,
         out_n: usize,
     );
-    pub fn tasulogi_eval(
-        degree: usize,
-        knots: *const f64,
-        knots_n: usize,
-        points: *const f64,
-        points_n: usize,
-        rational: bool,
-        weights: *const f64,
-        weights_n: usize,
-        t: f64,
-        out: *mut f64,
-        n: usize,
-    ) -> u32;
-    pub fn tasulogi_eval_at(
-        degree: usize,
-        knots: *const f64,
-        knots_n: usize,
-        points: *const f64,
-        points_n: usize,
-        rational: bool,
-        weights: *const f64,
-        weights_n: usize,
-        t: f64,
-        out: *mut f64,
-        n: usize,
-    ) -> u32;
-    pub fn tasulogi_eval2(
-        degree: usize,
-        knots: *const f64,
-        knots_n: usize,
-        points: *const f64,
-        points_n: usize,
-        rational: bool,
-        weights: *const f64,
-        weights_n: usize,
-        t: f64,
-        out: *mut f64,
-        n: usize,
-    ) -> u32;
-    pub fn tasulogi_eval_surface(
-        u_degree: usize,
-        v_degree: usize,
-        u_knots: *const f64,
-        u_knots_n: usize,
-        v_knots: *const f64,
-        v_knots_n: usize,
-        u_count: usize,
-        v_count: usize,
-        points: *const f64,
-        points_n: usize,
-        rational: bool,
-        weights: *const f64,
-        weights_n: usize,
-        u: f64,
-        v: f64,
-        out: *mut f64,
-        n: usize,
-    ) -> u32;
-    pub fn tasulogi_reversed(
-        degree: usize,
-        knots: *const f64,
-        knots_n: usize,
-        points: *const f64,
-        points_n: usize,
-        rational: bool,
-        weights: *const f64,
-        weights_n: usize,
-        out_knots: *mut f64,
-        out_knots_n: usize,
-        out_points: *mut f64,
-        out_points_n: usize,
-        out_weights: *mut f64,
-        out_weights_n: usize,
-    ) -> u32;
-    pub fn tasulogi_iso_curve(
-        u_degree: usize,
-        v_degree: usize,
-        u_knots: *const f64,
-        u_knots_n: usize,
-        v_knots: *const f64,
-        v_knots_n: usize,
-        u_count: usize,
-        v_count: usize,
-        points: *const f64,
-        points_n: usize,
-        rational: bool,
-        weights: *const f64,
-        weights_n: usize,
-        constant_u: bool,
-        t: f64,
-        out_points: *mut f64,
-        out_points_n: usize,
-        out_weights: *mut f64,
-        out_weights_n: usize,
-    ) -> u32;
+}
+
+/// Functions that take a table in the parts named, then numbers, then lent runs; callers hand over table and runs whole.
+macro_rules! exported {
+    ($table:tt $(fn $name:ident $takes:tt $(lends $($out:ident),+)?;)*) => {
+        $(exported! { @one $table $name $takes $($($out)+)? })*
+    };
+    (@one ($($t:ident: $table:ty => $($part:expr, $kind:ty;)*)?) $name:ident ($($x:ident: $number:ty),*) $($out:ident)*) => {
+        #[inline]
+        pub fn $name($($t: $table,)? $($x: $number,)* $($out: &mut [f64],)*) -> u32 {
+            unsafe extern "C" {
+                fn $name($($(_: $kind,)*)? $($x: $number,)* $($out: *mut f64, _: usize,)*) -> u32;
+            }
+            unsafe { $name($($($part,)*)? $($x,)* $($out.as_mut_ptr(), $out.len(),)*) }
+        }
+    };
+}
+
+exported! {
+    ()
+    fn tasulogi_interval_entire() lends out;
+    fn tasulogi_interval_new(lo: f64, hi: f64) lends out;
+    fn tasulogi_interval_point(x: f64) lends out;
+    fn tasulogi_interval_width(lo: f64, hi: f64) lends out;
+    fn tasulogi_interval_sqr(lo: f64, hi: f64) lends out;
+    fn tasulogi_interval_neg(lo: f64, hi: f64) lends out;
+    fn tasulogi_interval_hull(al: f64, ah: f64, bl: f64, bh: f64) lends out;
+    fn tasulogi_interval_add(al: f64, ah: f64, bl: f64, bh: f64) lends out;
+    fn tasulogi_interval_sub(al: f64, ah: f64, bl: f64, bh: f64) lends out;
+    fn tasulogi_interval_mul(al: f64, ah: f64, bl: f64, bh: f64) lends out;
+    fn tasulogi_interval_divide(al: f64, ah: f64, bl: f64, bh: f64) lends out;
+}
+
+exported! {
+    (c: &Curve =>
+        c.degree, usize;
+        c.knots.as_ptr(), *const f64; c.knots.len(), usize;
+        c.points.as_ptr(), *const f64; c.points.len(), usize;
+        c.rational, bool;
+        c.weights.as_ptr(), *const f64; c.weights.len(), usize;
+    )
+    fn tasulogi_curve_refusal();
+    fn tasulogi_bound_curve(lo: f64, hi: f64) lends out;
+    fn tasulogi_eval(t: f64) lends out;
+    fn tasulogi_eval_at(t: f64) lends out;
+    fn tasulogi_eval2(t: f64) lends out;
+    fn tasulogi_reversed() lends knots, points, weights;
+}
+
+exported! {
+    (s: &Surface =>
+        s.degrees[0], usize; s.degrees[1], usize;
+        s.knots[0].as_ptr(), *const f64; s.knots[0].len(), usize;
+        s.knots[1].as_ptr(), *const f64; s.knots[1].len(), usize;
+        s.counts[0], usize; s.counts[1], usize;
+        s.points.as_ptr(), *const f64; s.points.len(), usize;
+        s.rational, bool;
+        s.weights.as_ptr(), *const f64; s.weights.len(), usize;
+    )
+    fn tasulogi_surface_refusal();
+    fn tasulogi_bound_surface(u_lo: f64, u_hi: f64, v_lo: f64, v_hi: f64) lends out;
+    fn tasulogi_eval_surface(u: f64, v: f64) lends out;
+    fn tasulogi_iso_curve(constant_u: bool, t: f64) lends points, weights;
 }

@@ -10,16 +10,19 @@ pub enum Match {
     Differs,
 }
 
+impl From<bool> for Match {
+    fn from(same: bool) -> Self {
+        if same { Match::Same } else { Match::Differs }
+    }
+}
+
 /// Bit for bit, a NaN with any NaN.
 pub fn matched(want: u64, got: u64, open_zero: bool) -> Match {
     let (w, g) = (f64::from_bits(want), f64::from_bits(got));
-    if want == got || w.is_nan() && g.is_nan() {
-        Match::Same
-    } else if open_zero && w == 0.0 && g == 0.0 {
-        Match::ZeroSign
-    } else {
-        Match::Differs
+    if open_zero && want != got && w == 0.0 && g == 0.0 {
+        return Match::ZeroSign;
     }
+    Match::from(want == got || w.is_nan() && g.is_nan())
 }
 
 const GUARD: usize = 2;
@@ -33,12 +36,12 @@ pub struct Lent {
 
 impl Lent {
     /// A run of `room` numbers, each with the same mark: finite, and so rare that no call answers it.
-    pub fn lend(&mut self, r: &mut Rng, room: usize) -> (*mut f64, usize) {
+    pub fn lend(&mut self, r: &mut Rng, room: usize) -> &mut [f64] {
         self.mark = 0x4330_0000_0000_0000 | r.next() >> 16;
         self.room = room;
         self.numbers.clear();
         self.numbers.resize(room + 2 * GUARD, f64::from_bits(self.mark));
-        (self.numbers[GUARD..].as_mut_ptr(), room)
+        &mut self.numbers[GUARD..GUARD + room]
     }
 
     pub fn words(&self) -> Vec<u64> {
@@ -47,21 +50,17 @@ impl Lent {
 
     /// The front holds `want`, every number behind it is +0.0, and nothing around the run was written.
     pub fn holds(&self, want: &[u64], open_zero: bool) -> Match {
-        let mut worst = Match::Same;
-        for (i, x) in self.numbers.iter().enumerate() {
+        let place = |(i, x): (usize, &f64)| {
             let got = x.to_bits();
             let at = i.wrapping_sub(GUARD);
-            let m = if at >= self.room {
-                if got == self.mark { Match::Same } else { Match::Differs }
+            if at >= self.room {
+                Match::from(got == self.mark)
             } else if at < want.len() {
                 matched(want[at], got, open_zero)
-            } else if got == 0 {
-                Match::Same
             } else {
-                Match::Differs
-            };
-            worst = worst.max(m);
-        }
-        worst
+                Match::from(got == 0)
+            }
+        };
+        self.numbers.iter().enumerate().map(place).max().unwrap_or(Match::Same)
     }
 }

@@ -8,7 +8,7 @@ mod rng;
 mod tables;
 mod tally;
 
-use modules::{Block, Module};
+use modules::{ALL, Desk, Module, Place};
 use rng::Rng;
 use std::io::{IsTerminal, Write};
 use std::path::{Path, PathBuf};
@@ -16,7 +16,7 @@ use std::process::ExitCode;
 use std::sync::Mutex;
 use std::sync::atomic::{AtomicU64, Ordering};
 use std::time::{Duration, Instant};
-use tally::{Tally, grouped};
+use tally::{Difference, Tally, grouped};
 
 const USAGE: &str = "usage: compare/run [--cases N] [--seed S] [--only MODULE] | --write-lists | --bench [--rounds K]";
 const BLOCK: u64 = 16_384;
@@ -55,45 +55,42 @@ fn main() -> ExitCode {
         eprintln!("{USAGE}");
         return ExitCode::from(2);
     };
-    let modules = modules::all();
-    let picked: Vec<&dyn Module> =
-        modules.iter().map(|m| m.as_ref()).filter(|m| o.only.as_deref().is_none_or(|n| n == m.name())).collect();
+    let picked: Vec<Module> = ALL.into_iter().filter(|m| o.only.as_deref().is_none_or(|n| n == m.name)).collect();
     if picked.is_empty() {
-        let names: Vec<&str> = modules.iter().map(|m| m.name()).collect();
+        let names = ALL.map(|m| m.name);
         eprintln!("no such module; there are: {}", names.join(" "));
         return ExitCode::from(2);
     }
     if let Some(crates) = &o.lists {
-        return picked.iter().map(|m| write_list(*m, crates)).find(|c| *c != ExitCode::SUCCESS).unwrap_or(ExitCode::SUCCESS);
+        return picked.iter().map(|m| write_list(m, crates)).find(|c| *c != ExitCode::SUCCESS).unwrap_or(ExitCode::SUCCESS);
     }
     if o.bench {
-        picked.iter().for_each(|m| m.bench(o.rounds));
+        picked.iter().for_each(|m| (m.bench)(o.rounds));
         return ExitCode::SUCCESS;
     }
     compare(&picked, &o)
 }
 
 /// Writes stdin and stdout of the program crate replay_NAME.
-fn write_list(m: &dyn Module, crates: &Path) -> ExitCode {
-    let folder = crates.join(format!("replay_{}", m.name()));
+fn write_list(m: &Module, crates: &Path) -> ExitCode {
+    let folder = crates.join(format!("replay_{}", m.name));
     let (mut stdin, mut stdout) = (Vec::new(), Vec::new());
-    let done = m
-        .list(&mut stdin, &mut stdout)
+    let done = (m.list)(&mut stdin, &mut stdout)
         .and_then(|()| std::fs::write(folder.join("stdin"), &stdin))
         .and_then(|()| std::fs::write(folder.join("stdout"), &stdout));
     match done {
         Ok(()) => {
-            println!("wrote stdin ({} bytes) and stdout of replay_{}", stdin.len(), m.name());
+            println!("wrote stdin ({} bytes) and stdout of replay_{}", stdin.len(), m.name);
             ExitCode::SUCCESS
         }
         Err(e) => {
-            eprintln!("replay_{}: {e}", m.name());
+            eprintln!("replay_{}: {e}", m.name);
             ExitCode::FAILURE
         }
     }
 }
 
-fn compare(picked: &[&dyn Module], o: &Options) -> ExitCode {
+fn compare(picked: &[Module], o: &Options) -> ExitCode {
     let (mut passed, mut failed) = o.and;
     let fails = |what: &str| {
         println!("FAILED: {what}");
@@ -110,15 +107,16 @@ fn compare(picked: &[&dyn Module], o: &Options) -> ExitCode {
     }
     for m in picked {
         let start = Instant::now();
-        let calls = m.calls();
-        let tally = run(*m, o.cases.unwrap_or(m.default_cases()), o.seed);
-        println!("{}", tally.table(m.name(), &calls, m.features()));
-        println!("{}: seed {}, {:.1} s", m.name(), o.seed, start.elapsed().as_secs_f64());
+        let calls = (m.calls)();
+        let tally = run(m, o.cases.unwrap_or(m.default_cases), o.seed);
+        println!("{}", tally.table(m.name, &calls, m.features));
+        println!("{}: seed {}, {:.1} s", m.name, o.seed, start.elapsed().as_secs_f64());
         passed += tally.passed();
         failed += tally.failed();
-        failed += tally.unmet(&calls, m.features()).iter().map(|line| fails(line)).sum::<u64>();
+        failed += tally.unmet(&calls, m.features).iter().map(|line| fails(line)).sum::<u64>();
         if let Some(d) = &tally.first {
-            println!("FAILED: the first case that differs: seed {}, block {}, case {}: {}", o.seed, d.block, d.case, d.text);
+            let Place { block, case } = d.place;
+            println!("FAILED: the first case that differs: seed {}, block {block}, case {case}: {}", o.seed, d.text);
         }
     }
     println!("{passed} passed, {failed} failed");
@@ -126,30 +124,41 @@ fn compare(picked: &[&dyn Module], o: &Options) -> ExitCode {
 }
 
 /// All blocks of a module, on every processor.
-fn run(m: &dyn Module, cases: u64, seed: u64) -> Tally {
-    let (calls, features) = (m.calls().len(), m.features().len());
+fn run(m: &Module, cases: u64, seed: u64) -> Tally {
+    let (calls, features) = ((m.calls)().len(), m.features.len());
     let blocks = cases.div_ceil(BLOCK);
     let (next, done) = (AtomicU64::new(0), AtomicU64::new(0));
     let whole = Mutex::new(Tally::new(calls, features));
     let threads = std::thread::available_parallelism().map_or(1, |n| n.get());
     std::thread::scope(|s| {
         let work = || {
-            let mut tally = Tally::new(calls, features);
+            let mut desk = Desk { r: Rng::new(seed, 0), lent: Default::default(), tally: Tally::new(calls, features) };
             loop {
-                let place = next.fetch_add(1, Ordering::Relaxed);
-                if place >= blocks {
+                let block = next.fetch_add(1, Ordering::Relaxed);
+                if block >= blocks {
                     break;
                 }
-                let size = BLOCK.min(cases - place * BLOCK);
-                m.run(&mut Rng::new(seed, place), Block { place, cases: size }, &mut tally);
+                let size = BLOCK.min(cases - block * BLOCK);
+                desk.r = Rng::new(seed, block);
+                each_case(m, block, size, &mut desk);
                 done.fetch_add(size, Ordering::Relaxed);
             }
-            whole.lock().expect("no thread panicked").merge(tally);
+            whole.lock().expect("no thread panicked").merge(desk.tally);
         };
         let workers: Vec<_> = (0..threads).map(|_| s.spawn(work)).collect();
-        progress(m.name(), cases, &done, || workers.iter().all(|w| w.is_finished()));
+        progress(m.name, cases, &done, || workers.iter().all(|w| w.is_finished()));
     });
     whole.into_inner().expect("no thread panicked")
+}
+
+/// The cases of a block; the text of one that differs goes to the tally.
+fn each_case(m: &Module, block: u64, cases: u64, desk: &mut Desk) {
+    for case in 0..cases {
+        let place = Place { block, case };
+        if let Some(text) = (m.case)(place, desk) {
+            desk.tally.keep(Difference { place, text });
+        }
+    }
 }
 
 /// One line that is written over on a terminal, else a line now and then.

@@ -1,5 +1,6 @@
 //! What a run has seen: a row per call, the kinds of doubles, and the first case that differs.
-use crate::doubles::KINDS;
+use crate::doubles::{KINDS, kind};
+use crate::modules::Place;
 use std::fmt::Write;
 
 /// A call of a module, as a row of the table.
@@ -30,8 +31,7 @@ impl Row {
 
 /// A case that differs, and where it stands in the run.
 pub struct Difference {
-    pub block: u64,
-    pub case: u64,
+    pub place: Place,
     pub text: String,
 }
 
@@ -48,9 +48,26 @@ impl Tally {
         Self { rows: vec![Row::EMPTY; calls], kinds: [0; KINDS.len()], features: vec![0; features], first: None }
     }
 
+    /// Counts the kinds of the doubles that are passed to a call.
+    pub fn count<'a>(&mut self, doubles: impl IntoIterator<Item = &'a f64>) {
+        doubles.into_iter().for_each(|&d| self.kinds[kind(d)] += 1);
+    }
+
+    /// Counts a compared case by what it answers; its text where it differs.
+    pub fn judged(&mut self, row: usize, number: u32, agrees: bool, text: impl FnOnce() -> String) -> Option<String> {
+        let row = &mut self.rows[row];
+        row.cases += 1;
+        if agrees {
+            row.numbers[number as usize] += 1;
+            return None;
+        }
+        row.differ += 1;
+        Some(text())
+    }
+
     /// Keeps the difference that stands first in the run.
     pub fn keep(&mut self, d: Difference) {
-        if self.first.as_ref().is_none_or(|f| (d.block, d.case) < (f.block, f.case)) {
+        if self.first.as_ref().is_none_or(|f| d.place < f.place) {
             self.first = Some(d);
         }
     }

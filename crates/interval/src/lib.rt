@@ -16,6 +16,7 @@ ghost use lib.Ieee.{neg};
 ghost use Rattle.doubles.specs.Neighbour.{nextUp, nextDown};
 ghost use Rattle.interval.specs.Ops.{entire, newOf, pointOf, widthOf, containsOf, hullOf, signOf, checkedOf, sqrOf, addOf, subOf, mulOf, negOf, someNan, symmetricOf, isSymmetric, reciprocalOf, divideOf};
 
+pub mod bits;
 pub mod float;
 pub mod place;
 mod step;

@@ -1,5 +1,5 @@
 // Numbers as text, stored into a run of bytes.
-use record::double::bits_of;
+use interval::bits::bits_of;
 ghost use mathlib.Core.Path.{_≡_};
 ghost use Prim.Native.Nat.{_+_, _≤_, _<_};
 ghost use lib.ListN.{length};

@@ -1,5 +1,4 @@
 pub mod Little
-pub mod Nans
 pub mod Runs
 pub mod Tests
 pub mod Fields

@@ -1,5 +1,5 @@
 // Numbers in little-endian bytes.
-use crate::double::double_of;
+use interval::bits::double_of;
 ghost use mathlib.Core.Path.{_≡_};
 ghost use Prim.Native.Nat.{_+_, _%_, _<_};
 ghost use lib.ListN.{length, drop};

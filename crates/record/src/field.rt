@@ -3,7 +3,7 @@ use crate::bytes::double_at;
 use crate::bytes::put_u16;
 use crate::bytes::put_u64;
 use crate::bytes::u16_at;
-use crate::double::bits_of;
+use interval::bits::bits_of;
 ghost use mathlib.Core.Path.{_≡_};
 ghost use Prim.Native.Nat.{_+_, _*_, _<_, _≤_};
 ghost use lib.ListN.{length, drop};

@@ -1,7 +1,6 @@
 // The table record: its reader and its writer.
 mod bytes;
 pub mod clear;
-pub mod double;
 mod field;
 pub mod read;
 pub mod table;

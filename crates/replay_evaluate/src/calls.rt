@@ -78,7 +78,69 @@ fn held(out: &[f64]) -> bool {
     all
 }
 
-fn point(twice: bool) -> bool {
+fn all(a: bool, b: bool, c: bool, d: bool) -> bool {
+    if a {
+        if b {
+            if c {
+                return d;
+            }
+        }
+    }
+    false
+}
+
+// Reads what `eval` answers.
+fn eval_agrees(a: CurveAnswer) -> bool {
+    match a {
+        CurveAnswer::At(d) => if accepted() {
+            two(d.point, d.d1)
+        } else {
+            false
+        },
+        CurveAnswer::Refused(r) => refused(r),
+    }
+}
+
+// Reads what `eval2` answers.
+fn eval2_agrees(a: CurveAnswer2) -> bool {
+    match a {
+        CurveAnswer2::At(d) => if accepted() {
+            three(d.point, d.d1, d.d2)
+        } else {
+            false
+        },
+        CurveAnswer2::Refused(r) => refused(r),
+    }
+}
+
+// Reads what `eval_surface` answers.
+fn surface_agrees(a: SurfaceAnswer) -> bool {
+    match a {
+        SurfaceAnswer::At(d) => if accepted() {
+            three(d.point, d.du, d.dv)
+        } else {
+            false
+        },
+        SurfaceAnswer::Refused(r) => refused(r),
+    }
+}
+
+fn curve_agrees(
+    second: bool,
+    degree: usize,
+    knots: &[f64],
+    points: &[f64],
+    rational: bool,
+    weights: &[f64],
+    t: f64,
+) -> bool {
+    if second {
+        return eval2_agrees(eval2(degree, knots, points, rational, weights, t));
+    }
+    eval_agrees(eval(degree, knots, points, rational, weights, t))
+}
+
+fn point(second: bool) -> bool {
     let mut knots = [0.0; 512];
     let mut points = [0.0; 512];
     let mut weights = [0.0; 512];
@@ -88,39 +150,15 @@ fn point(twice: bool) -> bool {
     let rational = flag();
     let w = run(&mut weights);
     let t = double();
-    if twice {
-        match eval2(
-            degree,
-            &knots[..k],
-            &points[..p],
-            rational,
-            &weights[..w],
-            t,
-        ) {
-            CurveAnswer2::At(d) => if accepted() {
-                three(d.point, d.d1, d.d2)
-            } else {
-                false
-            },
-            CurveAnswer2::Refused(r) => refused(r),
-        }
-    } else {
-        match eval(
-            degree,
-            &knots[..k],
-            &points[..p],
-            rational,
-            &weights[..w],
-            t,
-        ) {
-            CurveAnswer::At(d) => if accepted() {
-                two(d.point, d.d1)
-            } else {
-                false
-            },
-            CurveAnswer::Refused(r) => refused(r),
-        }
-    }
+    curve_agrees(
+        second,
+        degree,
+        &knots[..k],
+        &points[..p],
+        rational,
+        &weights[..w],
+        t,
+    )
 }
 
 fn surface_point() -> bool {
@@ -139,7 +177,7 @@ fn surface_point() -> bool {
     let w = run(&mut weights);
     let u = double();
     let v = double();
-    match eval_surface(
+    surface_agrees(eval_surface(
         u_degree,
         v_degree,
         &u_knots[..a],
@@ -151,14 +189,7 @@ fn surface_point() -> bool {
         &weights[..w],
         u,
         v,
-    ) {
-        SurfaceAnswer::At(d) => if accepted() {
-            three(d.point, d.du, d.dv)
-        } else {
-            false
-        },
-        SurfaceAnswer::Refused(r) => refused(r),
-    }
+    ))
 }
 
 fn back() -> bool {
@@ -186,14 +217,7 @@ fn back() -> bool {
     let a = held(&out_knots);
     let b = held(&out_points);
     let c = held(&out_weights);
-    if r {
-        if a {
-            if b {
-                return c;
-            }
-        }
-    }
-    false
+    all(r, a, b, c)
 }
 
 // The knots that are handed back are held against the Rust's whether the curve is refused or not.
@@ -233,14 +257,7 @@ fn along() -> bool {
     let x = held(&out_points);
     let y = held(&out_weights);
     let z = held(iso_knots(constant_u, &u_knots[..a], &v_knots[..b]));
-    if r {
-        if x {
-            if y {
-                return z;
-            }
-        }
-    }
-    false
+    all(r, x, y, z)
 }
 
 // Reads one case of a call and says whether the answer is the list's.

@@ -1,31 +1,39 @@
 // Answers beside those of the list.
-use crate::words::double_of;
 use crate::words::word;
 use interval::Interval;
-use interval::float;
+use interval::bits::bits_of;
+use interval::bits::double_of;
 ghost use Prim.Native.Nat.{_≤_};
+ghost use Rattle.replaying.specs.Same.{Same, SameEnds, Judges};
 
-// The bits are those of the list. A NaN is any NaN, and an open zero has either sign.
-pub fn same(x: f64, want: u64, open: bool) -> bool {
-    if float::is_nan(x) {
-        return float::is_nan(double_of(want));
-    }
-    if open {
+// The answer is the double of the wanted pattern. A NaN is any NaN, and a zero where `either` is set has either sign.
+pub fn same(x: f64, want: u64, either: bool) -> bool
+    ensures { λ r. ⌜ Judges (Same x want either) r ⌝ }
+{
+    let y = double_of(want);
+    if either {
         if x == 0.0 {
-            return double_of(want) == 0.0;
+            return y == 0.0;
         }
     }
-    f64::to_bits(x) == want
+    bits_of(x) == bits_of(y)
+}
+
+// The interval has two patterns as its ends.
+pub fn are_ends(i: Interval, lo: u64, hi: u64, either: bool) -> bool
+    ensures { λ r. ⌜ Judges (SameEnds i lo hi either) r ⌝ }
+{
+    if same(i.lo(), lo, either) {
+        return same(i.hi(), hi, either);
+    }
+    false
 }
 
 // Reads two words: the interval has them as its ends.
-pub fn ends(i: Interval, open: bool) -> bool {
+pub fn ends(i: Interval, either: bool) -> bool {
     let lo = word();
     let hi = word();
-    if same(i.lo(), lo, open) {
-        return same(i.hi(), hi, open);
-    }
-    false
+    are_ends(i, lo, hi, either)
 }
 
 // Writes the outcome of one call behind its heading, as `add       300 cases, 0 differ`.

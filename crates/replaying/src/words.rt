@@ -1,10 +1,12 @@
 // The list is a text of headings and words. A word is 16 hexadecimal digits in lower case and one byte that is not looked at.
+use interval::bits::double_of;
 ghost use mathlib.Core.Path.{_≡_};
 ghost use Prim.Native.Nat.{_<_};
-ghost use lib.Ieee.{binary64, ofBits};
+ghost use Rattle.replaying.specs.Digits.{digitOf, hex};
 
 // Any byte that is no digit counts as 0.
 fn digit(b: u8) -> u64
+    ensures { λ r. ⌜ r ≡ digitOf b ⌝ }
     ensures { λ r. ⌜ r < 16 ⌝ }
 {
     if b < 48 {
@@ -22,18 +24,16 @@ fn digit(b: u8) -> u64
     0
 }
 
-fn four(a: u8, b: u8, c: u8, d: u8) -> u64
-    ensures { λ r. ⌜ r < 0x10000 ⌝ }
+fn value(t: &[u8; 17]) -> u64
+    ensures { λ r. ⌜ r ≡ hex 16 (now (t .entry)) ⌝ }
 {
-    digit(a) * 0x1000 + digit(b) * 0x100 + digit(c) * 0x10 + digit(d)
-}
-
-fn value(t: &[u8; 17]) -> u64 {
-    let a = four(t[0], t[1], t[2], t[3]);
-    let b = four(t[4], t[5], t[6], t[7]);
-    let c = four(t[8], t[9], t[10], t[11]);
-    let d = four(t[12], t[13], t[14], t[15]);
-    a * 0x1_0000_0000_0000 + b * 0x1_0000_0000 + c * 0x10000 + d
+    let mut v = 0u64;
+    let mut i = 0usize;
+    while i < 16 {
+        v = 16 * v + digit(t[i]);
+        i += 1;
+    }
+    v
 }
 
 // Writes the next heading: a name in ten bytes, filled up with spaces.
@@ -48,16 +48,6 @@ pub fn word() -> u64 {
     let mut text = [0u8; 17];
     io::read_full(0, &mut text);
     value(&text)
-}
-
-// The double of a bit pattern. No NaN has a pattern of its own, so every NaN pattern is 0.0 / 0.0.
-pub fn double_of(bits: u64) -> f64
-    ensures { λ r. ⌜ r ≡ ofBits binary64 bits ⌝ }
-{
-    if bits % 0x8000_0000_0000_0000 > 0x7ff0_0000_0000_0000 {
-        return 0.0 / 0.0;
-    }
-    f64::from_bits(bits)
 }
 
 pub fn double() -> f64 {

@@ -3,17 +3,13 @@ mod bench;
 mod calls;
 mod list;
 
-use super::{Block, Module};
-use crate::doubles::kind;
-use crate::lent::{Lent, Match};
+use super::answered::{Asked, Wanted, compared};
+use super::{Desk, Module, Place};
 use crate::rng::Rng;
-use crate::tables::make::{self, Care};
-use crate::tables::{FEATURES, class_agrees, double_literal, hex};
-use crate::tally::{Call, Difference, Tally};
-use calls::{CurveCase, Order, SurfaceCase, Wanted};
-use std::io::{Result, Write};
-
-pub struct Evaluate;
+use crate::tables::make::Care;
+use crate::tables::{FEATURES, double_literal};
+use crate::tally::Call;
+use calls::{CurveCase, Order, SurfaceCase};
 
 const CARE: Care = Care { steep: [300, 300, 200, 100, 20, 20], broken: 6, long: 20_000 };
 const SURFACE_CARE: Care = Care { steep: [400, 300, 100, 30, 5, 5], broken: 8, long: 8000 };
@@ -27,67 +23,42 @@ const CALLS: [(&str, &[u32]); 6] = [
     ("eval_at", &[0, 12, 30, 31]),
 ];
 
-impl Module for Evaluate {
-    fn name(&self) -> &'static str {
-        "evaluate"
-    }
+pub const MODULE: Module = Module {
+    name: "evaluate",
+    calls: || CALLS.map(|c| Call { name: c.0, numbers: c.1, idle: &[] }).into(),
+    features: &FEATURES,
+    default_cases: 2_000_000,
+    case,
+    list: list::write,
+    bench: bench::table,
+};
 
-    fn calls(&self) -> Vec<Call> {
-        CALLS.iter().map(|c| Call { name: c.0, numbers: c.1, idle: &[] }).collect()
-    }
-
-    fn features(&self) -> &'static [&'static str] {
-        &FEATURES
-    }
-
-    fn default_cases(&self) -> u64 {
-        2_000_000
-    }
-
-    fn run(&self, r: &mut Rng, block: Block, tally: &mut Tally) {
-        let mut lent = [Lent::default(), Lent::default(), Lent::default()];
-        for case in 0..block.cases {
-            let text = match r.below(6) {
-                0 => point(r, Order::One, &mut lent, tally),
-                1 => point(r, Order::Two, &mut lent, tally),
-                2 => surface_point(r, &mut lent, tally),
-                3 => reversed(r, &mut lent, tally),
-                4 => validated_point(r, &mut lent, tally),
-                _ => iso_curve(r, &mut lent, tally),
-            };
-            if let Some(text) = text {
-                tally.keep(Difference { block: block.place, case, text });
-            }
-        }
-    }
-
-    fn list(&self, stdin: &mut dyn Write, stdout: &mut dyn Write) -> Result<()> {
-        list::write(stdin, stdout)
-    }
-
-    fn bench(&self, rounds: u32) {
-        bench::table(rounds);
+fn case(_: Place, desk: &mut Desk) -> Option<String> {
+    match desk.r.below(6) {
+        0 => point(desk, Order::One),
+        1 => point(desk, Order::Two),
+        2 => surface_point(desk),
+        3 => reversed(desk),
+        4 => point(desk, Order::Validated),
+        _ => iso_curve(desk),
     }
 }
 
-fn made_curve(r: &mut Rng, tally: &mut Tally) -> CurveCase {
-    let table = make::curve(r, &CARE);
-    let case = CurveCase { t: make::parameter(r, &table.knots), table };
-    case.table.features(&mut tally.features);
-    case.table.doubles().take(400).chain([&case.t]).for_each(|&d| tally.kinds[kind(d)] += 1);
+fn made_curve(desk: &mut Desk) -> CurveCase {
+    let case = CurveCase::made(&mut desk.r);
+    case.table.features(&mut desk.tally.features);
+    desk.tally.count(case.table.doubles().take(400).chain([&case.t]));
     case
 }
 
-fn made_surface(r: &mut Rng, tally: &mut Tally) -> SurfaceCase {
-    let table = make::surface(r, &SURFACE_CARE);
-    let u = make::parameter(r, &table.knots[0]);
-    let case = SurfaceCase { u, v: make::parameter(r, &table.knots[1]), table };
-    case.table.features(&mut tally.features);
-    case.table.doubles().take(400).chain([&case.u, &case.v]).for_each(|&d| tally.kinds[kind(d)] += 1);
+fn made_surface(desk: &mut Desk) -> SurfaceCase {
+    let case = SurfaceCase::made(&mut desk.r);
+    case.table.features(&mut desk.tally.features);
+    desk.tally.count(case.table.doubles().take(400).chain([&case.u, &case.v]));
     case
 }
 
-/// The room for a run of so many numbers: mostly that, now and then one short, one over, or none.
+/// Mostly the room that is needed, now and then one short, one over, or none.
 fn room(r: &mut Rng, need: usize) -> usize {
     match r.below(24) {
         0 => need.saturating_sub(1),
@@ -98,83 +69,55 @@ fn room(r: &mut Rng, need: usize) -> usize {
     }
 }
 
-/// Our answer in lent runs beside the wanted runs; the text of the answers where they differ.
-fn compared(
-    r: &mut Rng,
+/// The call of a row beside the Rust; the text of the case where they differ.
+fn asked(
+    desk: &mut Desk,
     row: usize,
-    want: &Wanted,
     needs: &[usize],
-    ours: impl Fn(&[(*mut f64, usize)]) -> u32,
-    lent: &mut [Lent],
-    tally: &mut Tally,
+    want: &Wanted,
+    ours: impl FnOnce(&mut [&mut [f64]]) -> u32,
+    literal: impl FnOnce() -> String,
 ) -> Option<String> {
-    let rooms: Vec<usize> = needs.iter().map(|n| room(r, *n)).collect();
-    let short = rooms.iter().zip(needs).any(|(a, b)| a < b);
-    let number = match want {
-        Wanted::Refused(n) => *n,
-        Wanted::Formed(_) | Wanted::Runs(_) if short => 30,
-        Wanted::Formed(n) => *n,
-        Wanted::Runs(_) => 0,
+    let text = compared(desk, Asked { row, needs, room }, want, ours)?;
+    Some(format!("{}\n  Rust literal:  {}\n{text}", CALLS[row].0, literal()))
+}
+
+fn point(desk: &mut Desk, order: Order) -> Option<String> {
+    let case = made_curve(desk);
+    let (row, need) = match order {
+        Order::One => (0, 6),
+        Order::Two => (1, 9),
+        Order::Validated => {
+            // On a table that is not valid the call is total, and the Rust has no answer.
+            case.table.rust().ok()?;
+            (5, 6)
+        }
     };
-    let given: Vec<(*mut f64, usize)> = lent.iter_mut().zip(&rooms).map(|(l, n)| l.lend(r, *n)).collect();
-    let got = ours(&given);
-    let none = vec![Vec::new(); needs.len()];
-    let runs = match want {
-        Wanted::Runs(runs) if number == 0 => runs,
-        _ => &none,
-    };
-    let same = runs.iter().zip(lent.iter()).all(|(w, l)| l.holds(w, false) == Match::Same);
-    let row = &mut tally.rows[row];
-    row.cases += 1;
-    if got == number && same && class_agrees(got) {
-        row.numbers[number as usize] += 1;
-        return None;
-    }
-    row.differ += 1;
-    let mut text = format!("  lent:          {rooms:?} numbers\n  the Rust:      {number}");
-    runs.iter().for_each(|w| text.push_str(&format!("\n                {}", hex(w.iter().copied()))));
-    text.push_str(&format!("\n  ours:          {got}"));
-    lent.iter().take(needs.len()).for_each(|l| text.push_str(&format!("\n                {}", hex(l.words()))));
-    Some(text)
+    let literal = || format!("{}, at {}", case.table.literal(), double_literal(case.t));
+    asked(desk, row, &[need], &case.rust_point(order), |l| case.ours_point(order, l[0]), literal)
 }
 
-fn point(r: &mut Rng, order: Order, lent: &mut [Lent], tally: &mut Tally) -> Option<String> {
-    let case = made_curve(r, tally);
-    let (row, need) = if order == Order::One { (0, 6) } else { (1, 9) };
-    let text = compared(r, row, &case.rust_point(order), &[need], |l| case.ours_point(order, l[0]), lent, tally)?;
-    Some(format!("{}\n  Rust literal:  {}, at {}\n{text}", CALLS[row].0, case.table.literal(), double_literal(case.t)))
+fn surface_point(desk: &mut Desk) -> Option<String> {
+    let case = made_surface(desk);
+    let literal = || format!("{}, at {}, {}", case.table.literal(), double_literal(case.u), double_literal(case.v));
+    asked(desk, 2, &[9], &case.rust_point(), |l| case.ours_point(l[0]), literal)
 }
 
-/// Only tables that are valid: on others the call is total, and the Rust has no answer.
-fn validated_point(r: &mut Rng, lent: &mut [Lent], tally: &mut Tally) -> Option<String> {
-    let case = made_curve(r, tally);
-    case.table.rust().ok()?;
-    let order = Order::Validated;
-    let text = compared(r, 5, &case.rust_point(order), &[6], |l| case.ours_point(order, l[0]), lent, tally)?;
-    Some(format!("eval_at\n  Rust literal:  {}, at {}\n{text}", case.table.literal(), double_literal(case.t)))
-}
-
-fn surface_point(r: &mut Rng, lent: &mut [Lent], tally: &mut Tally) -> Option<String> {
-    let case = made_surface(r, tally);
-    let text = compared(r, 2, &case.rust_point(), &[9], |l| case.ours_point(l[0]), lent, tally)?;
-    let (u, v) = (double_literal(case.u), double_literal(case.v));
-    Some(format!("eval_surface\n  Rust literal:  {}, at {u}, {v}\n{text}", case.table.literal()))
-}
-
-fn reversed(r: &mut Rng, lent: &mut [Lent], tally: &mut Tally) -> Option<String> {
-    let case = made_curve(r, tally);
+fn reversed(desk: &mut Desk) -> Option<String> {
+    let case = made_curve(desk);
     let t = &case.table;
     let needs = [t.knots.len(), t.points.len(), if t.rational { t.weights.len() } else { 0 }];
-    let text = compared(r, 3, &case.rust_reversed(), &needs, |l| case.ours_reversed(l), lent, tally)?;
-    Some(format!("reversed\n  Rust literal:  {}\n{text}", t.literal()))
+    asked(desk, 3, &needs, &case.rust_reversed(), |l| case.ours_reversed(l), || t.literal())
 }
 
-fn iso_curve(r: &mut Rng, lent: &mut [Lent], tally: &mut Tally) -> Option<String> {
-    let case = made_surface(r, tally);
-    let constant_u = r.below(2) == 0;
+fn iso_curve(desk: &mut Desk) -> Option<String> {
+    let case = made_surface(desk);
+    let constant_u = desk.r.below(2) == 0;
     let other = case.table.counts[constant_u as usize];
     let needs = if other < 1 << 20 { [3 * other, other] } else { [0, 0] };
-    let text = compared(r, 4, &case.rust_iso(constant_u), &needs, |l| case.ours_iso(constant_u, l), lent, tally)?;
-    let t = double_literal(if constant_u { case.u } else { case.v });
-    Some(format!("iso_curve\n  Rust literal:  {}.unwrap().iso_curve({constant_u}, {t})\n{text}", case.table.literal()))
+    let literal = || {
+        let t = double_literal(case.constant(constant_u));
+        format!("{}.unwrap().iso_curve({constant_u}, {t})", case.table.literal())
+    };
+    asked(desk, 4, &needs, &case.rust_iso(constant_u), |l| case.ours_iso(constant_u, l), literal)
 }

@@ -1,4 +1,6 @@
 //! Lists of tables and answers as words: what the replaying crates read.
+use super::answered::Wanted;
+use crate::rng::Rng;
 use crate::tables::{Curve, Surface};
 use std::collections::BTreeMap;
 use std::io::{Result, Write};
@@ -15,6 +17,24 @@ pub fn word(x: f64) -> u64 {
 pub struct Listed {
     pub words: Vec<u64>,
     pub answer: u32,
+}
+
+impl Listed {
+    /// Behind a case the number and the direction, then the runs; where `lengths` counts them, each behind its length.
+    pub fn answered(mut words: Vec<u64>, want: Wanted, lengths: usize) -> Self {
+        let (answer, runs) = match want {
+            Wanted::Refused(n) | Wanted::Formed(n) => (n, vec![Vec::new(); lengths]),
+            Wanted::Runs(runs) => (0, runs),
+        };
+        words.extend([answer as u64 % 100, (answer as u64 / 100 + 2) % 3]);
+        for run in runs {
+            if lengths > 0 {
+                words.push(run.len() as u64);
+            }
+            words.extend(run.iter().map(|w| word(f64::from_bits(*w))));
+        }
+        Self { words, answer }
+    }
 }
 
 pub fn run(words: &mut Vec<u64>, run: &[f64]) {
@@ -48,12 +68,27 @@ pub fn surface(s: &Surface) -> Option<Vec<u64>> {
     Some(words)
 }
 
+/// How many cases are made, from which stream of random numbers, how many are kept, and how many of each refusal.
+pub struct Choice {
+    pub stream: u64,
+    pub tried: u64,
+    pub cases: usize,
+    pub each: usize,
+}
+
+impl Choice {
+    pub fn of(&self, mut case: impl FnMut(&mut Rng) -> Option<Listed>) -> Vec<Listed> {
+        let mut r = Rng::new(1, self.stream);
+        chosen((0..self.tried).filter_map(|_| case(&mut r)), self.cases, self.each)
+    }
+}
+
 /// How many cases of an answer are looked at for each that is kept.
 const LOOKED_AT: usize = 8;
 
 /// `each` cases of every refusal, and of the answer 0 all that are left of `cases`: of each the degrees in turn, and of
 /// a refusal the shortest.
-pub fn chosen(tried: impl Iterator<Item = Listed>, cases: usize, each: usize) -> Vec<Listed> {
+fn chosen(tried: impl Iterator<Item = Listed>, cases: usize, each: usize) -> Vec<Listed> {
     let mut by: BTreeMap<u32, Vec<Listed>> = BTreeMap::new();
     for case in tried {
         let most = LOOKED_AT * if case.answer == 0 { cases } else { each };

@@ -1,8 +1,10 @@
-//! The modules that are compared. A later one is one file here and one line in `all`.
+//! The modules that are compared. A later one is one file here and one word in `ALL`.
+use crate::lent::Lent;
 use crate::rng::Rng;
 use crate::tally::{Call, Tally};
 use std::io::{Result, Write};
 
+mod answered;
 mod bounds;
 mod evaluate;
 mod interval;
@@ -10,29 +12,34 @@ mod knots;
 mod listed;
 mod timed;
 
-/// A block of a run: its place and how many cases it has.
-pub struct Block {
-    pub place: u64,
-    pub cases: u64,
+/// Where a case stands in a run.
+#[derive(Clone, Copy, PartialEq, Eq, PartialOrd, Ord)]
+pub struct Place {
+    pub block: u64,
+    pub case: u64,
 }
 
-pub trait Module: Sync {
-    fn name(&self) -> &'static str;
+/// What a thread makes and compares its cases with.
+pub struct Desk {
+    pub r: Rng,
+    pub lent: [Lent; 3],
+    pub tally: Tally,
+}
+
+pub struct Module {
+    pub name: &'static str,
     /// The rows of the table, in order.
-    fn calls(&self) -> Vec<Call>;
+    pub calls: fn() -> Vec<Call>,
     /// What the tables of a run have to have had.
-    fn features(&self) -> &'static [&'static str] {
-        &[]
-    }
+    pub features: &'static [&'static str],
     /// How many cases a run has where the command does not say.
-    fn default_cases(&self) -> u64;
-    fn run(&self, r: &mut Rng, block: Block, tally: &mut Tally);
+    pub default_cases: u64,
+    /// Makes a case and compares it; its text where it differs.
+    pub case: fn(Place, &mut Desk) -> Option<String>,
     /// Writes the list that `crates/replay_NAME` reads, and the lines that it then has to print.
-    fn list(&self, stdin: &mut dyn Write, stdout: &mut dyn Write) -> Result<()>;
-    /// Prints times against the Rust, the best of `rounds`.
-    fn bench(&self, rounds: u32);
+    pub list: fn(&mut dyn Write, &mut dyn Write) -> Result<()>,
+    /// Prints times against the Rust, the best of so many rounds.
+    pub bench: fn(u32),
 }
 
-pub fn all() -> Vec<Box<dyn Module>> {
-    vec![Box::new(interval::Intervals), Box::new(knots::Knots), Box::new(evaluate::Evaluate), Box::new(bounds::Bounds)]
-}
+pub const ALL: [Module; 4] = [interval::MODULE, knots::MODULE, evaluate::MODULE, bounds::MODULE];

@@ -6,6 +6,9 @@ use oracle::{BCurve, BSurface, Point3, Refusal, class_of, refusal};
 /// The most numbers that an input run may have.
 pub const LIMIT: usize = 1_048_576;
 
+/// The highest degree that an evaluation or a bound takes; the Rust has no such limit.
+const HIGHEST: usize = 64;
+
 /// Weights that are not given are passed all the same, and must not be looked at.
 #[derive(Clone, Default)]
 pub struct Curve {
@@ -55,6 +58,10 @@ impl Curve {
         self.points.len() / 3
     }
 
+    pub fn is_steep(&self) -> bool {
+        self.degree > HIGHEST
+    }
+
     fn given(&self) -> &[f64] {
         if self.rational { &self.weights } else { &[] }
     }
@@ -81,6 +88,10 @@ impl Curve {
 }
 
 impl Surface {
+    pub fn is_steep(&self) -> bool {
+        self.degrees.iter().any(|d| *d > HIGHEST)
+    }
+
     fn given(&self) -> &[f64] {
         if self.rational { &self.weights } else { &[] }
     }

@@ -1,13 +1,16 @@
 //! Times of bounds beside the Rust's. Ours validate the table at each call; the Rust's are given a valid one, and once
 //! more with the making of it counted.
-use super::calls::{BOX, CurveCase, SurfaceCase};
-use crate::modules::timed::time;
+use super::calls::{BOX, CurveCase, SurfaceCase, bounded};
+use crate::modules::timed::{Times, time};
 use crate::rng::Rng;
 use crate::tables::{Curve, Surface};
-use oracle::{BCurve, BSurface, ParamRange, bound_curve, bound_surface};
+use oracle::{NurbsBounds, bound_curve, bound_surface};
 use std::hint::black_box;
 
 const CASES: usize = 256;
+
+const TIMES: Times<3, 2> =
+    Times { name: 24, times: (["ours", "the Rust", "with new"], 10, 0), ratios: [("ratio", 8), ("to with new", 12)] };
 
 fn clamped(degree: usize, count: usize) -> Vec<f64> {
     let last = count - degree;
@@ -42,54 +45,51 @@ fn surface(r: &mut Rng, degree: usize) -> SurfaceCase {
     SurfaceCase { table, u: (0.4, 0.45), v: (0.7, 0.9) }
 }
 
-fn ranged(range: (f64, f64)) -> ParamRange {
-    ParamRange::bounded(range.0, range.1)
+fn low(b: NurbsBounds) -> f64 {
+    b.point[0].lo()
 }
 
-fn row(name: &str, ours: f64, rust: f64, made: f64) {
-    println!("{name:<24} {ours:>10.0} {rust:>10.0} {made:>10.0} {:>8.2} {:>12.2}", ours / rust, ours / made);
+/// One row: the Rust's call on a table made before, and with the making of it.
+fn row<C, T>(
+    (name, rounds, calls): (&str, u32, usize),
+    cases: impl Iterator<Item = C>,
+    ours: impl Fn(&C, &mut [f64]) -> u32,
+    made: impl Fn(&C) -> T,
+    rust: impl Fn(&C, &T) -> f64,
+) {
+    let with_table = |c: C| {
+        let table = made(&c);
+        (c, table)
+    };
+    let cases: Vec<(C, T)> = cases.take(CASES).map(with_table).collect();
+    let mut out = [0.0; BOX];
+    let us = time(rounds, calls, &cases, |c| {
+        ours(&c.0, black_box(&mut out).as_mut_slice());
+        out[0]
+    });
+    let on_valid = time(rounds, calls, &cases, |c| rust(&c.0, &c.1));
+    let with_new = time(rounds, calls, &cases, |c| rust(&c.0, &made(&c.0)));
+    TIMES.row(name, [us, on_valid, with_new]);
 }
 
 pub fn table(rounds: u32) {
-    println!("{:<24} {:>10} {:>10} {:>10} {:>8} {:>12}", "ns", "ours", "the Rust", "with new", "ratio", "to with new");
-    let mut out = [0.0; BOX];
+    TIMES.head("ns");
     for degree in [1, 2, 3, 5, 10, 20] {
         let mut r = Rng::new(7, degree as u64);
-        let cases: Vec<(CurveCase, BCurve)> = (0..CASES)
-            .map(|_| {
-                let c = curve(&mut r, degree);
-                let made = c.table.rust().expect("valid");
-                (c, made)
-            })
-            .collect();
-        let calls = 200_000 / (degree * degree + 4);
-        let ours = time(rounds, calls, &cases, |c| {
-            c.0.ours(black_box(&mut out).as_mut_ptr(), BOX);
-            out[0]
-        });
-        let rust = time(rounds, calls, &cases, |c| bound_curve(&c.1, ranged(c.0.range)).map_or(0.0, |b| b.point[0].lo()));
-        let made = time(rounds, calls, &cases, |c| {
-            let table = c.0.table.rust().expect("valid");
-            bound_curve(&table, ranged(c.0.range)).map_or(0.0, |b| b.point[0].lo())
-        });
-        row(&format!("bound_curve, degree {degree}"), ours, rust, made);
+        row(
+            (&format!("bound_curve, degree {degree}"), rounds, 200_000 / (degree * degree + 4)),
+            std::iter::repeat_with(|| curve(&mut r, degree)),
+            CurveCase::ours,
+            |c| c.table.rust().expect("valid"),
+            |c, made| bound_curve(made, bounded(c.range)).map_or(0.0, low),
+        );
     }
     let mut r = Rng::new(7, 0);
-    let cases: Vec<(SurfaceCase, BSurface)> = (0..CASES)
-        .map(|_| {
-            let c = surface(&mut r, 3);
-            let made = c.table.rust().expect("valid");
-            (c, made)
-        })
-        .collect();
-    let ours = time(rounds, 2000, &cases, |c| {
-        c.0.ours(black_box(&mut out).as_mut_ptr(), BOX);
-        out[0]
-    });
-    let rust = time(rounds, 2000, &cases, |c| bound_surface(&c.1, ranged(c.0.u), ranged(c.0.v)).map_or(0.0, |b| b.point[0].lo()));
-    let made = time(rounds, 2000, &cases, |c| {
-        let table = c.0.table.rust().expect("valid");
-        bound_surface(&table, ranged(c.0.u), ranged(c.0.v)).map_or(0.0, |b| b.point[0].lo())
-    });
-    row("bound_surface, 3 x 3", ours, rust, made);
+    row(
+        ("bound_surface, 3 x 3", rounds, 2000),
+        std::iter::repeat_with(|| surface(&mut r, 3)),
+        SurfaceCase::ours,
+        |s| s.table.rust().expect("valid"),
+        |s, made| bound_surface(made, bounded(s.u), bounded(s.v)).map_or(0.0, low),
+    );
 }

@@ -1,5 +1,5 @@
 //! Exact containment: the point and its derivatives by Cox-de Boor over fractions, inside the box that was answered.
-use super::calls::{BOX, CurveCase, SurfaceCase};
+use super::calls::{CurveCase, SurfaceCase};
 use crate::fraction::{Fraction, between};
 use crate::rng::Rng;
 use crate::tables::make::inside;
@@ -102,7 +102,7 @@ fn sums(points: &[f64], weight: impl Fn(usize) -> f64, active: &[(usize, Fractio
 }
 
 /// Whether coordinate k and its derivative along each given direction lie in the box: places 6 and 12 have du and dv.
-fn holds(b: &[u64; BOX], h: &[Fraction; 4], along: &[[Fraction; 4]]) -> bool {
+fn holds(b: &[u64], h: &[Fraction; 4], along: &[[Fraction; 4]]) -> bool {
     let square = h[3].mul(&h[3]);
     (0..3).all(|k| {
         is_between(&h[k], &h[3], b[2 * k], b[2 * k + 1])
@@ -114,7 +114,7 @@ fn holds(b: &[u64; BOX], h: &[Fraction; 4], along: &[[Fraction; 4]]) -> bool {
     })
 }
 
-pub fn curve(r: &mut Rng, case: &CurveCase, b: &[u64; BOX], row: &mut Row) -> Option<String> {
+pub fn curve(r: &mut Rng, case: &CurveCase, b: &[u64], row: &mut Row) -> Option<String> {
     let c = &case.table;
     let p = c.degree as i64;
     if spread(c.knots.iter().chain([&case.range.0, &case.range.1])) * p * (p + 1) / 2 + spread(c.points.iter()) > MOST_BITS {
@@ -140,7 +140,7 @@ pub fn curve(r: &mut Rng, case: &CurveCase, b: &[u64; BOX], row: &mut Row) -> Op
     None
 }
 
-pub fn surface(r: &mut Rng, case: &SurfaceCase, b: &[u64; BOX], row: &mut Row) -> Option<String> {
+pub fn surface(r: &mut Rng, case: &SurfaceCase, b: &[u64], row: &mut Row) -> Option<String> {
     let c = &case.table;
     let bits = |k: usize| spread(c.knots[k].iter()) * (c.degrees[k] * (c.degrees[k] + 1) / 2) as i64;
     if 2 * (bits(0) + bits(1)) + spread(c.points.iter()) > MOST_BITS {

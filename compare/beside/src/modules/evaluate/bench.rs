@@ -2,30 +2,20 @@
 //! a valid table (`the Rust`); `eval` and `eval2` validate at each call, as the Rust does `with new`.
 use super::calls::{CurveCase, Order};
 use crate::face::tasulogi_basis_derivatives;
-use crate::modules::timed::time;
+use crate::modules::timed::{BESIDE, Times, clamped, time};
 use crate::rng::Rng;
-use crate::tables::Curve;
 use oracle::{basis_derivatives, find_span};
 use std::hint::black_box;
 
-fn curve(r: &mut Rng, degree: usize, knots: usize) -> Curve {
-    let count = knots - degree - 1;
-    let last = (count - degree) as f64;
-    Curve {
-        degree,
-        knots: (0..knots).map(|i| (i as f64 - degree as f64).clamp(0.0, last)).collect(),
-        points: (0..3 * count).map(|_| r.unit()).collect(),
-        rational: true,
-        weights: (0..count).map(|_| 0.5 + r.unit()).collect(),
-    }
-}
+const POINTS: Times<3, 2> =
+    Times { name: 34, times: (["ours", "the Rust", "with new"], 12, 0), ratios: [("ratio", 8), ("to with new", 12)] };
 
 fn basis(rounds: u32) {
-    println!("{:<34} {:>12} {:>12} {:>8}", "ns", "ours", "the Rust", "ratio");
+    BESIDE.head("ns");
     let mut out = [0.0; 195];
     for degree in [1, 2, 3, 5, 10, 64] {
         let mut r = Rng::new(7, degree as u64);
-        let c = curve(&mut r, degree, 4 * degree + 8);
+        let c = clamped(&mut r, degree, 4 * degree + 8);
         let end = c.knots[c.knots.len() - 1];
         let cases: Vec<(usize, f64)> = (0..256)
             .map(|_| {
@@ -40,24 +30,24 @@ fn basis(rounds: u32) {
             out[0]
         });
         let rust = time(rounds, calls, &cases, |&(s, u)| basis_derivatives(s, u, degree, 1, &c.knots)[0][0]);
-        println!("{:<34} {ours:>12.1} {rust:>12.1} {:>8.2}", format!("basis_derivatives, degree {degree}"), ours / rust);
+        BESIDE.row(&format!("basis_derivatives, degree {degree}"), [ours, rust]);
     }
 }
 
 fn points(rounds: u32) {
-    println!("{:<34} {:>12} {:>12} {:>12} {:>8} {:>12}", "ns", "ours", "the Rust", "with new", "ratio", "to with new");
+    POINTS.head("ns");
     let mut out = [0.0; 9];
     for (order, name) in [(Order::Validated, "eval_at"), (Order::One, "eval"), (Order::Two, "eval2")] {
         for knots in [10, 1_000, 100_000] {
             let mut r = Rng::new(7, knots as u64);
-            let table = curve(&mut r, 3, knots);
+            let table = clamped(&mut r, 3, knots);
             let made = table.rust().expect("valid");
             let end = table.knots[knots - 1];
             let cases: Vec<CurveCase> =
                 (0..if knots > 1_000 { 4 } else { 64 }).map(|_| CurveCase { t: r.unit() * end, table: table.clone() }).collect();
             let calls = (20_000_000 / knots).min(200_000);
             let ours = time(rounds, calls, &cases, |c| {
-                c.ours_point(order, (black_box(&mut out).as_mut_ptr(), 9));
+                c.ours_point(order, black_box(&mut out).as_mut_slice());
                 out[0]
             });
             let x = |c: &oracle::BCurve, t: f64| {
@@ -65,8 +55,7 @@ fn points(rounds: u32) {
             };
             let rust = time(rounds, calls, &cases, |c| x(&made, c.t));
             let new = time(rounds, calls, &cases, |c| x(&c.table.rust().expect("valid"), c.t));
-            let name = format!("{name}, degree 3, {knots} knots");
-            println!("{name:<34} {ours:>12.0} {rust:>12.0} {new:>12.0} {:>8.2} {:>12.2}", ours / rust, ours / new);
+            POINTS.row(&format!("{name}, degree 3, {knots} knots"), [ours, rust, new]);
         }
     }
 }

@@ -1,19 +1,10 @@
-//! The five calls: what the Rust answers, and the exported functions.
+//! The calls: what the Rust answers, and the exported functions.
+use super::{CARE, SURFACE_CARE};
 use crate::face::*;
-use crate::tables::{Curve, Surface, packed};
+use crate::modules::answered::Wanted;
+use crate::rng::Rng;
+use crate::tables::{Curve, Surface, make, packed};
 use oracle::{BCurve, Point3, Vec3, refusal};
-
-/// The highest degree that a call takes; the Rust has no such limit.
-const HIGHEST: usize = 64;
-
-pub enum Wanted {
-    /// What each lent run has to start with.
-    Runs(Vec<Vec<u64>>),
-    /// A refusal that comes before the rooms are looked at.
-    Refused(u32),
-    /// A refusal of what was formed: the rooms were looked at before.
-    Formed(u32),
-}
 
 #[derive(Clone, Copy, PartialEq, Eq)]
 pub enum Order {
@@ -55,11 +46,16 @@ fn coordinates(c: &BCurve) -> Vec<u64> {
 }
 
 impl CurveCase {
+    pub fn made(r: &mut Rng) -> Self {
+        let table = make::curve(r, &CARE);
+        Self { t: make::parameter(r, &table.knots), table }
+    }
+
     /// Validity, 31, 12, and for two derivatives 21.
     pub fn rust_point(&self, order: Order) -> Wanted {
         match self.table.rust() {
             Err(n) => Wanted::Refused(n),
-            Ok(_) if self.table.degree > HIGHEST => Wanted::Refused(31),
+            Ok(_) if self.table.is_steep() => Wanted::Refused(31),
             Ok(_) if !self.t.is_finite() => Wanted::Refused(12),
             Ok(c) if order != Order::Two => {
                 let d = c.eval(self.t);
@@ -72,15 +68,12 @@ impl CurveCase {
         }
     }
 
-    pub fn ours_point(&self, order: Order, out: (*mut f64, usize)) -> u32 {
-        let c = &self.table;
-        let (k, p, w) = (&c.knots, &c.points, &c.weights);
-        let call = match order {
-            Order::One => tasulogi_eval,
-            Order::Validated => tasulogi_eval_at,
-            Order::Two => tasulogi_eval2,
-        };
-        unsafe { call(c.degree, k.as_ptr(), k.len(), p.as_ptr(), p.len(), c.rational, w.as_ptr(), w.len(), self.t, out.0, out.1) }
+    pub fn ours_point(&self, order: Order, out: &mut [f64]) -> u32 {
+        match order {
+            Order::One => tasulogi_eval(&self.table, self.t, out),
+            Order::Validated => tasulogi_eval_at(&self.table, self.t, out),
+            Order::Two => tasulogi_eval2(&self.table, self.t, out),
+        }
     }
 
     pub fn rust_reversed(&self) -> Wanted {
@@ -93,39 +86,28 @@ impl CurveCase {
         }
     }
 
-    pub fn ours_reversed(&self, out: &[(*mut f64, usize)]) -> u32 {
-        let c = &self.table;
-        let (k, p, w) = (&c.knots, &c.points, &c.weights);
-        unsafe {
-            tasulogi_reversed(
-                c.degree,
-                k.as_ptr(),
-                k.len(),
-                p.as_ptr(),
-                p.len(),
-                c.rational,
-                w.as_ptr(),
-                w.len(),
-                out[0].0,
-                out[0].1,
-                out[1].0,
-                out[1].1,
-                out[2].0,
-                out[2].1,
-            )
-        }
+    pub fn ours_reversed(&self, out: &mut [&mut [f64]]) -> u32 {
+        let [knots, points, weights] = out else { unreachable!("three runs are lent") };
+        tasulogi_reversed(&self.table, knots, points, weights)
     }
 }
 
 impl SurfaceCase {
-    fn steep(&self) -> bool {
-        self.table.degrees.iter().any(|d| *d > HIGHEST)
+    pub fn made(r: &mut Rng) -> Self {
+        let table = make::surface(r, &SURFACE_CARE);
+        let u = make::parameter(r, &table.knots[0]);
+        Self { u, v: make::parameter(r, &table.knots[1]), table }
+    }
+
+    /// The parameter that an isocurve keeps.
+    pub fn constant(&self, constant_u: bool) -> f64 {
+        if constant_u { self.u } else { self.v }
     }
 
     pub fn rust_point(&self) -> Wanted {
         match self.table.rust() {
             Err(n) => Wanted::Refused(n),
-            Ok(_) if self.steep() => Wanted::Refused(31),
+            Ok(_) if self.table.is_steep() => Wanted::Refused(31),
             Ok(_) if !self.u.is_finite() || !self.v.is_finite() => Wanted::Refused(12),
             Ok(s) => {
                 let d = s.eval(self.u, self.v);
@@ -134,39 +116,16 @@ impl SurfaceCase {
         }
     }
 
-    pub fn ours_point(&self, out: (*mut f64, usize)) -> u32 {
-        let s = &self.table;
-        let ([u, v], p, w) = (&s.knots, &s.points, &s.weights);
-        let ([du, dv], [m, k]) = (s.degrees, s.counts);
-        unsafe {
-            tasulogi_eval_surface(
-                du,
-                dv,
-                u.as_ptr(),
-                u.len(),
-                v.as_ptr(),
-                v.len(),
-                m,
-                k,
-                p.as_ptr(),
-                p.len(),
-                s.rational,
-                w.as_ptr(),
-                w.len(),
-                self.u,
-                self.v,
-                out.0,
-                out.1,
-            )
-        }
+    pub fn ours_point(&self, out: &mut [f64]) -> u32 {
+        tasulogi_eval_surface(&self.table, self.u, self.v, out)
     }
 
     /// Validity, 31, 22, 30, 23, then what is formed.
     pub fn rust_iso(&self, constant_u: bool) -> Wanted {
         match self.table.rust() {
             Err(n) => Wanted::Refused(n),
-            Ok(_) if self.steep() => Wanted::Refused(31),
-            Ok(s) => match s.iso_curve(constant_u, if constant_u { self.u } else { self.v }) {
+            Ok(_) if self.table.is_steep() => Wanted::Refused(31),
+            Ok(s) => match s.iso_curve(constant_u, self.constant(constant_u)) {
                 Ok(c) => Wanted::Runs(vec![coordinates(&c), words(c.weights().unwrap_or(&[]))]),
                 Err(e) => match packed(refusal(&e)) {
                     22 => Wanted::Refused(22),
@@ -176,32 +135,8 @@ impl SurfaceCase {
         }
     }
 
-    pub fn ours_iso(&self, constant_u: bool, out: &[(*mut f64, usize)]) -> u32 {
-        let s = &self.table;
-        let ([u, v], p, w) = (&s.knots, &s.points, &s.weights);
-        let ([du, dv], [m, k]) = (s.degrees, s.counts);
-        unsafe {
-            tasulogi_iso_curve(
-                du,
-                dv,
-                u.as_ptr(),
-                u.len(),
-                v.as_ptr(),
-                v.len(),
-                m,
-                k,
-                p.as_ptr(),
-                p.len(),
-                s.rational,
-                w.as_ptr(),
-                w.len(),
-                constant_u,
-                if constant_u { self.u } else { self.v },
-                out[0].0,
-                out[0].1,
-                out[1].0,
-                out[1].1,
-            )
-        }
+    pub fn ours_iso(&self, constant_u: bool, out: &mut [&mut [f64]]) -> u32 {
+        let [points, weights] = out else { unreachable!("two runs are lent") };
+        tasulogi_iso_curve(&self.table, constant_u, self.constant(constant_u), points, weights)
     }
 }

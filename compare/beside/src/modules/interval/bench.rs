@@ -1,12 +1,15 @@
 //! Times of interval calls beside the Rust's: inlined as Rust callers have them, and behind a call like ours.
 use crate::face::*;
+use crate::modules::timed::{self, Times};
 use crate::rng::Rng;
 use oracle::{Interval, divide};
 use std::hint::black_box;
-use std::time::Instant;
 
 const CASES: usize = 4096;
-const PASSES: usize = 16;
+const CALLS: usize = 16 * CASES;
+
+const TIMES: Times<3, 2> =
+    Times { name: 8, times: (["ours", "inlined", "called"], 9, 2), ratios: [("to inlined", 12), ("to called", 12)] };
 
 type Ends = [f64; 4];
 
@@ -19,23 +22,6 @@ fn operands() -> Vec<Ends> {
             [a, a + r.unit(), b, b + r.unit()]
         })
         .collect()
-}
-
-/// Nanoseconds per call, the best of `rounds`.
-fn time(rounds: u32, cases: &[Ends], mut f: impl FnMut(&Ends) -> f64) -> f64 {
-    let mut best = f64::INFINITY;
-    for _ in 0..rounds {
-        let start = Instant::now();
-        for _ in 0..PASSES {
-            let mut sum = 0.0;
-            for x in black_box(cases) {
-                sum += f(x);
-            }
-            black_box(sum);
-        }
-        best = best.min(start.elapsed().as_secs_f64());
-    }
-    best * 1e9 / (CASES * PASSES) as f64
 }
 
 fn both(x: &Ends) -> Option<(Interval, Interval)> {
@@ -72,29 +58,32 @@ fn rust_divide(x: &Ends, out: &mut [f64]) -> u32 {
     put(both(x).and_then(|(a, b)| divide(a, b).ok()), out)
 }
 
-type Face = unsafe extern "C" fn(f64, f64, f64, f64, *mut f64, usize) -> u32;
+fn time(rounds: u32, cases: &[Ends], f: impl FnMut(&Ends) -> f64) -> f64 {
+    timed::time(rounds, CALLS, cases, f)
+}
+
 type Behind = fn(&Ends, &mut [f64]) -> u32;
 
-fn row(name: &str, rounds: u32, cases: &[Ends], ours: Face, behind: Behind, inlined: f64) {
+fn row(name: &str, rounds: u32, cases: &[Ends], ours: impl Fn(&Ends, &mut [f64]) -> u32, behind: Behind, inlined: f64) {
     let mut out = [0.0; 2];
     let called = time(rounds, cases, |x| {
         behind(x, black_box(&mut out));
         out[0]
     });
     let us = time(rounds, cases, |x| {
-        unsafe { ours(x[0], x[1], x[2], x[3], black_box(&mut out).as_mut_ptr(), 2) };
+        ours(x, black_box(&mut out).as_mut_slice());
         out[0]
     });
-    println!("{name:<8} {us:>9.2} {inlined:>9.2} {called:>9.2} {:>12.2} {:>12.2}", us / inlined, us / called);
+    TIMES.row(name, [us, inlined, called]);
 }
 
 pub fn table(rounds: u32) {
     let cases = operands();
-    println!("{:<8} {:>9} {:>9} {:>9} {:>12} {:>12}", "ns", "ours", "inlined", "called", "to inlined", "to called");
+    TIMES.head("ns");
     let add = time(rounds, &cases, |x| both(x).map_or(0.0, |(a, b)| (a + b).lo()));
-    row("add", rounds, &cases, tasulogi_interval_add, rust_add, add);
+    row("add", rounds, &cases, |x, out| tasulogi_interval_add(x[0], x[1], x[2], x[3], out), rust_add, add);
     let mul = time(rounds, &cases, |x| both(x).map_or(0.0, |(a, b)| (a * b).lo()));
-    row("mul", rounds, &cases, tasulogi_interval_mul, rust_mul, mul);
+    row("mul", rounds, &cases, |x, out| tasulogi_interval_mul(x[0], x[1], x[2], x[3], out), rust_mul, mul);
     let quotient = time(rounds, &cases, |x| both(x).and_then(|(a, b)| divide(a, b).ok()).map_or(0.0, |i| i.lo()));
-    row("divide", rounds, &cases, tasulogi_interval_divide, rust_divide, quotient);
+    row("divide", rounds, &cases, |x, out| tasulogi_interval_divide(x[0], x[1], x[2], x[3], out), rust_divide, quotient);
 }

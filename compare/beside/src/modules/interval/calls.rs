@@ -15,7 +15,7 @@ pub enum Ours {
     Word(fn(&X) -> u64),
     Double(fn(&X) -> f64),
     /// So many doubles go to the front of a lent run.
-    Run(usize, fn(&X, *mut f64, usize) -> u32),
+    Run(usize, fn(&X, &mut [f64]) -> u32),
 }
 
 pub struct IntervalCall {
@@ -162,7 +162,7 @@ pub const CALLS: [IntervalCall; 21] = [
         TOTAL,
         "Interval::ENTIRE",
         |_| ends(Interval::ENTIRE),
-        Ours::Run(2, |_, out, n| unsafe { tasulogi_interval_entire(out, n) }),
+        Ours::Run(2, |_, out| tasulogi_interval_entire(out)),
     ),
     call(
         "new",
@@ -170,7 +170,7 @@ pub const CALLS: [IntervalCall; 21] = [
         MADE,
         "Interval::new({0}, {1})",
         |x| one(x, ends),
-        Ours::Run(2, |x, out, n| unsafe { tasulogi_interval_new(x[0], x[1], out, n) }),
+        Ours::Run(2, |x, out| tasulogi_interval_new(x[0], x[1], out)),
     ),
     call(
         "point",
@@ -178,7 +178,7 @@ pub const CALLS: [IntervalCall; 21] = [
         TOTAL,
         "Interval::point({0})",
         |x| ends(Interval::point(x[0])),
-        Ours::Run(2, |x, out, n| unsafe { tasulogi_interval_point(x[0], out, n) }),
+        Ours::Run(2, |x, out| tasulogi_interval_point(x[0], out)),
     ),
     call(
         "width",
@@ -186,7 +186,7 @@ pub const CALLS: [IntervalCall; 21] = [
         MADE,
         "Interval::new({0}, {1}).unwrap().width()",
         |x| one(x, |a| value(a.width())),
-        Ours::Run(1, |x, out, n| unsafe { tasulogi_interval_width(x[0], x[1], out, n) }),
+        Ours::Run(1, |x, out| tasulogi_interval_width(x[0], x[1], out)),
     ),
     call(
         "contains",
@@ -210,7 +210,7 @@ pub const CALLS: [IntervalCall; 21] = [
         MADE,
         "Interval::new({0}, {1}).unwrap().sqr()",
         |x| one(x, |a| ends(a.sqr())),
-        Ours::Run(2, |x, out, n| unsafe { tasulogi_interval_sqr(x[0], x[1], out, n) }),
+        Ours::Run(2, |x, out| tasulogi_interval_sqr(x[0], x[1], out)),
     ),
     call(
         "neg",
@@ -218,7 +218,7 @@ pub const CALLS: [IntervalCall; 21] = [
         MADE,
         "-Interval::new({0}, {1}).unwrap()",
         |x| one(x, |a| ends(-a)),
-        Ours::Run(2, |x, out, n| unsafe { tasulogi_interval_neg(x[0], x[1], out, n) }),
+        Ours::Run(2, |x, out| tasulogi_interval_neg(x[0], x[1], out)),
     ),
     open_zero(call(
         "hull",
@@ -226,7 +226,7 @@ pub const CALLS: [IntervalCall; 21] = [
         MADE,
         "Interval::new({0}, {1}).unwrap().hull(Interval::new({2}, {3}).unwrap())",
         |x| two(x, |a, b| ends(a.hull(b))),
-        Ours::Run(2, |x, out, n| unsafe { tasulogi_interval_hull(x[0], x[1], x[2], x[3], out, n) }),
+        Ours::Run(2, |x, out| tasulogi_interval_hull(x[0], x[1], x[2], x[3], out)),
     )),
     call(
         "add",
@@ -234,7 +234,7 @@ pub const CALLS: [IntervalCall; 21] = [
         MADE,
         "Interval::new({0}, {1}).unwrap() + Interval::new({2}, {3}).unwrap()",
         |x| two(x, |a, b| ends(a + b)),
-        Ours::Run(2, |x, out, n| unsafe { tasulogi_interval_add(x[0], x[1], x[2], x[3], out, n) }),
+        Ours::Run(2, |x, out| tasulogi_interval_add(x[0], x[1], x[2], x[3], out)),
     ),
     call(
         "sub",
@@ -242,7 +242,7 @@ pub const CALLS: [IntervalCall; 21] = [
         MADE,
         "Interval::new({0}, {1}).unwrap() - Interval::new({2}, {3}).unwrap()",
         |x| two(x, |a, b| ends(a - b)),
-        Ours::Run(2, |x, out, n| unsafe { tasulogi_interval_sub(x[0], x[1], x[2], x[3], out, n) }),
+        Ours::Run(2, |x, out| tasulogi_interval_sub(x[0], x[1], x[2], x[3], out)),
     ),
     call(
         "mul",
@@ -250,7 +250,7 @@ pub const CALLS: [IntervalCall; 21] = [
         MADE,
         "Interval::new({0}, {1}).unwrap() * Interval::new({2}, {3}).unwrap()",
         |x| two(x, |a, b| ends(a * b)),
-        Ours::Run(2, |x, out, n| unsafe { tasulogi_interval_mul(x[0], x[1], x[2], x[3], out, n) }),
+        Ours::Run(2, |x, out| tasulogi_interval_mul(x[0], x[1], x[2], x[3], out)),
     ),
     idle(
         call(
@@ -259,7 +259,7 @@ pub const CALLS: [IntervalCall; 21] = [
             &[0, 26, 30, 99],
             "divide(Interval::new({0}, {1}).unwrap(), Interval::new({2}, {3}).unwrap())",
             |x| two(x, |a, b| divide(a, b).map_or_else(|e| case(refusal(&e).number), ends)),
-            Ours::Run(2, |x, out, n| unsafe { tasulogi_interval_divide(x[0], x[1], x[2], x[3], out, n) }),
+            Ours::Run(2, |x, out| tasulogi_interval_divide(x[0], x[1], x[2], x[3], out)),
         ),
         &[28],
     ),

@@ -2,8 +2,9 @@
 use super::calls::{CALLS, Ours};
 use super::operands::X;
 use crate::fraction::{Fraction, between};
+use crate::modules::Desk;
 use crate::rng::Rng;
-use crate::tally::Tally;
+use crate::tables::hex;
 
 /// Two fractions per case, so that ends and inner numbers meet.
 const TRIES: u32 = 2;
@@ -27,20 +28,20 @@ fn result(r: &mut Rng, name: &str, x: &X) -> Option<Fraction> {
 }
 
 /// The text of a case whose exact result lies outside.
-pub fn check(r: &mut Rng, at: usize, x: &X, tally: &mut Tally) -> Option<String> {
+pub fn check(desk: &mut Desk, at: usize, x: &X) -> Option<String> {
     let call = &CALLS[at];
     let Ours::Run(count, ours) = call.ours else { return None };
     let mut out = [0.0; 2];
-    if ours(x, out.as_mut_ptr(), count) != 0 {
+    if ours(x, &mut out[..count]) != 0 {
         return None;
     }
     let (lo, hi) = if count == 1 { (f64::NEG_INFINITY, out[0]) } else { (out[0], out[1]) };
     for _ in 0..TRIES {
-        let Some(exact) = result(r, call.name, x) else { continue };
-        tally.rows[at].exact += 1;
+        let Some(exact) = result(&mut desk.r, call.name, x) else { continue };
+        desk.tally.rows[at].exact += 1;
         if !exact.is_inside(lo, hi) {
-            tally.rows[at].outside += 1;
-            let words: String = x[..call.operands.doubles()].iter().map(|d| format!(" {:016x}", d.to_bits())).collect();
+            desk.tally.rows[at].outside += 1;
+            let words = hex(x[..call.operands.doubles()].iter().map(|d| d.to_bits()));
             return Some(format!(
                 "{}: an exact result lies outside\n  as words:     {words}\n  answered:      {lo:?} {hi:?}\n  exact:         {exact:?}",
                 call.name

@@ -1,7 +1,8 @@
-//! The list that crates/replay_interval reads: for each call a heading, the number of cases, and the cases as words.
+//! The list that crates/replay_interval reads: cases of each answer, and of each mix of operands.
 use super::calls::{CALLS, IntervalCall, Ours};
 use super::operands::{X, operands};
 use crate::doubles::kind;
+use crate::modules::listed::{self, Listed};
 use crate::rng::Rng;
 use std::collections::HashMap;
 use std::io::{Result, Write};
@@ -18,16 +19,10 @@ fn is_listed(call: &IntervalCall) -> bool {
     !matches!(call.ours, Ours::Word(_))
 }
 
-/// One pattern for every NaN, and +0.0 where the Rust leaves a zero's sign open, so that every machine writes one list.
+/// +0.0 where the Rust leaves a zero's sign open, so that every machine writes one list.
 fn word(bits: u64, open_zero: bool) -> u64 {
     let x = f64::from_bits(bits);
-    if x.is_nan() {
-        0x7ff8_0000_0000_0000
-    } else if open_zero && x == 0.0 {
-        0
-    } else {
-        bits
-    }
+    if open_zero && x == 0.0 { 0 } else { listed::word(x) }
 }
 
 /// The number and the kinds of the answer's doubles.
@@ -71,25 +66,26 @@ fn chosen(call: &IntervalCall, r: &mut Rng) -> Vec<X> {
     cases
 }
 
+fn in_words(call: &IntervalCall, x: &X) -> Listed {
+    let answer = (call.rust)(x);
+    let mut words: Vec<u64> = x[..call.operands.doubles()].iter().map(|d| listed::word(*d)).collect();
+    let count = match call.ours {
+        Ours::Number(_) => 0,
+        Ours::Double(_) | Ours::Word(_) => 1,
+        Ours::Run(count, _) => count,
+    };
+    if matches!(call.ours, Ours::Number(_) | Ours::Run(..)) {
+        words.push(answer.number as u64);
+    }
+    words.extend(answer.words[..count].iter().map(|&w| word(w, call.open_zero)));
+    Listed { words, answer: answer.number }
+}
+
 pub fn write(stdin: &mut dyn Write, stdout: &mut dyn Write) -> Result<()> {
     for (at, call) in CALLS.iter().enumerate().filter(|c| is_listed(c.1)) {
         let cases = chosen(call, &mut Rng::new(SEED, at as u64));
-        writeln!(stdin, "{:<10}{:016x}", call.name, cases.len())?;
-        for x in &cases {
-            let answer = (call.rust)(x);
-            let mut words: Vec<u64> = x[..call.operands.doubles()].iter().map(|d| word(d.to_bits(), false)).collect();
-            match call.ours {
-                Ours::Number(_) => words.push(answer.number as u64),
-                Ours::Run(count, _) => {
-                    words.push(answer.number as u64);
-                    words.extend(answer.words[..count].iter().map(|&w| word(w, call.open_zero)));
-                }
-                Ours::Double(_) | Ours::Word(_) => words.push(word(answer.words[0], call.open_zero)),
-            }
-            let line: Vec<String> = words.iter().map(|w| format!("{w:016x}")).collect();
-            writeln!(stdin, "{}", line.join(" "))?;
-        }
-        writeln!(stdout, "{:<10}{} cases, 0 differ", call.name, cases.len())?;
+        let cases: Vec<Listed> = cases.iter().map(|x| in_words(call, x)).collect();
+        listed::write(stdin, stdout, call.name, &cases)?;
     }
     Ok(())
 }

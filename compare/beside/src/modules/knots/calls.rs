@@ -1,6 +1,6 @@
 //! The calls of the module: what the Rust answers, or a rule of the comparison's own where the Rust has no such call.
 use crate::face::*;
-use crate::tables::{Curve, LIMIT, Surface, packed};
+use crate::tables::{LIMIT, packed};
 use oracle::{BCurve, ParamRange, Point3, find_span, knot_spans, refusal};
 
 /// A degree, a count of points and a knot run: what the calls on spans take.
@@ -8,33 +8,6 @@ pub struct Run<'a> {
     pub degree: usize,
     pub count: usize,
     pub knots: &'a [f64],
-}
-
-pub fn our_curve(c: &Curve) -> u32 {
-    let (k, p, w) = (&c.knots, &c.points, &c.weights);
-    unsafe { tasulogi_curve_refusal(c.degree, k.as_ptr(), k.len(), p.as_ptr(), p.len(), c.rational, w.as_ptr(), w.len()) }
-}
-
-pub fn our_surface(s: &Surface) -> u32 {
-    let ([u, v], p, w) = (&s.knots, &s.points, &s.weights);
-    let ([du, dv], [m, n]) = (s.degrees, s.counts);
-    unsafe {
-        tasulogi_surface_refusal(
-            du,
-            dv,
-            u.as_ptr(),
-            u.len(),
-            v.as_ptr(),
-            v.len(),
-            m,
-            n,
-            p.as_ptr(),
-            p.len(),
-            s.rational,
-            w.as_ptr(),
-            w.len(),
-        )
-    }
 }
 
 pub fn our_span(k: &Run, u: f64) -> u64 {

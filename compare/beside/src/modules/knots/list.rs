@@ -1,11 +1,11 @@
 //! The list that crates/replay_knots reads.
 use super::calls::{Run, clamp, next, span};
-use crate::modules::listed::{self, Listed, word};
+use crate::modules::answered::Wanted;
+use crate::modules::listed::{self, Choice, Listed, word};
 use crate::rng::Rng;
 use crate::tables::make::{self, Care};
 use std::io::{Result, Write};
 
-const TRIED: u64 = 200_000;
 /// Fewer high degrees than a run has, so that the list stays short.
 const CARE: Care = Care { steep: [300, 300, 200, 60, 10, 4], broken: 32, long: 6000 };
 
@@ -30,10 +30,8 @@ fn case(r: &mut Rng, call: &str) -> Option<Listed> {
         }
         "surface" => {
             let s = make::surface(r, &CARE);
-            let mut words = listed::surface(&s)?;
-            let answer = s.rust().err().unwrap_or(0);
-            words.extend([answer as u64 % 100, (answer as u64 / 100 + 2) % 3]);
-            Some(Listed { words, answer })
+            let words = listed::surface(&s)?;
+            Some(Listed::answered(words, Wanted::Refused(s.rust().err().unwrap_or(0)), 0))
         }
         "find_span" => on_knots(r, |r, k, words| {
             let u = make::parameter(r, k.knots);
@@ -57,12 +55,10 @@ fn case(r: &mut Rng, call: &str) -> Option<Listed> {
 }
 
 pub fn write(stdin: &mut dyn Write, stdout: &mut dyn Write) -> Result<()> {
-    for (at, (call, each)) in
-        [("curve", 16), ("surface", 9), ("find_span", 16), ("next_span", 80), ("clamp", 60)].iter().enumerate()
-    {
-        let mut r = Rng::new(1, at as u64);
-        let tried = (0..TRIED).filter_map(|_| case(&mut r, call));
-        listed::write(stdin, stdout, call, &listed::chosen(tried, 240, *each))?;
+    let calls = [("curve", 16), ("surface", 9), ("find_span", 16), ("next_span", 80), ("clamp", 60)];
+    for (stream, (call, each)) in calls.into_iter().enumerate() {
+        let choice = Choice { stream: stream as u64, tried: 200_000, cases: 240, each };
+        listed::write(stdin, stdout, call, &choice.of(|r| case(r, call)))?;
     }
     let classes: Vec<Listed> = (0..40u32)
         .map(|n| {

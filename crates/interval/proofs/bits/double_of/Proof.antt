@@ -7,9 +7,9 @@ use lib.Ieee.{binary64}
 use lib.Ieee.Bits.{nanBits-is, nanBits-above}
 use borrow.Author.Needs.{needs}
 use borrow.Author.Tests.{lt-ltb, le-ltb}
-use Rattle.record.proofs.Nans.{only-nan, zero-by-zero}
-use Rattle.record.proofs.double.double_of.Statement.{statement}
-use Rattle.record.proofs.double.double_of.Tie as tie
+use Rattle.interval.proofs.Nans.{only-nan, zero-by-zero}
+use Rattle.interval.proofs.bits.double_of.Statement.{statement}
+use Rattle.interval.proofs.bits.double_of.Tie as tie
 
 returns : tie.Need-returns
 returns c = zero-by-zero ∙ only-nan _ (sym (nanBits-is binary64 (c .before .args .bits)) ∙ (nanBits-above binary64 (c .before .args .bits) ∙ lt-ltb _ _ (c .if1 .taken)))

@@ -1,9 +1,9 @@
 -- The pattern of a double: a NaN is tested first, because `to_bits` is not defined at one.
 -- Assumes nothing.
-use Rattle.record.proofs.Nans.{nan-pattern, not-nan}
+use Rattle.interval.proofs.Nans.{nan-pattern, not-nan}
 use borrow.Author.Needs.{needs}
-use Rattle.record.proofs.double.bits_of.Statement.{statement}
-use Rattle.record.proofs.double.bits_of.Tie as tie
+use Rattle.interval.proofs.bits.bits_of.Statement.{statement}
+use Rattle.interval.proofs.bits.bits_of.Tie as tie
 
 returns : tie.Need-returns
 returns c = nan-pattern (c .before .args .x) (c .if1 .taken)
