@@ -53,6 +53,11 @@ const EDGES: [f64; 24] = [
     9_007_199_254_740_992.0,
 ];
 
+/// A NaN that does not signal: Rust's min and max of a signalling one depend on the processor.
+fn quiet(x: f64) -> f64 {
+    if x.is_nan() { f64::from_bits(x.to_bits() | 0x0008_0000_0000_0000) } else { x }
+}
+
 fn signed(r: &mut Rng, x: f64) -> f64 {
     if r.next() & 1 == 0 { x } else { -x }
 }
@@ -66,7 +71,7 @@ pub fn double(r: &mut Rng) -> f64 {
         0 | 1 => r.pick(&EDGES),
         2 => f64::from_bits(r.below(64)),
         3 => f64::from_bits(r.next() >> 12),
-        4 => f64::from_bits(r.next()),
+        4 => quiet(f64::from_bits(r.next())),
         5 => r.below(9) as f64,
         6 => r.below(2001) as f64 / 64.0,
         7 => 1.0 + r.below(5) as f64 * f64::EPSILON,

@@ -8,6 +8,9 @@ use Rattle.interval.proofs.Symmetric.{symmetric-left, symmetric-right, product-
 use Rattle.knots.proofs.Below.{and-left, and-right}
 use Rattle.bounds.specs.Net.{slopeOf}
 
+pub times-is : (a d : Interval) → isSymmetric d ≡ true → symmetricOf (mulOf (symmetricOf (d .hi)) a .hi) ≡ mulOf a d
+times-is a d e = sym (product-is (d .hi) a) ∙ symmetric-right d a e
+
 -- the high end of a sum of two by theirs
 abbrev highOf : Float → Float → Float
 highOf x y = addOf (symmetricOf x) (symmetricOf y) .hi

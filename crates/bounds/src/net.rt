@@ -91,6 +91,16 @@ fn about_zero(
     Interval::symmetric(reach_sum(x, y))
 }
 
+// a d, where d is the derivative of a control: [0, 0] at first.
+fn times(a: Interval, d: Interval) -> Interval
+    ensures { λ r. ⌜ r ≡ mulOf a d ⌝ }
+{
+    if d.is_symmetric() {
+        return Interval::symmetric(a.reach(d.hi()));
+    }
+    a.mul(d)
+}
+
 // How b a + c d changes. A derivative along the other parameter is symmetric: it costs half as much.
 fn slope(
     b: Interval,
@@ -107,7 +117,9 @@ fn slope(
     if all_symmetric(bd, ad, cd, dd) {
         return about_zero(b, bd.hi(), a, ad.hi(), c, cd.hi(), d, dd.hi());
     }
-    dot(bd, a, b, ad).add(dot(cd, d, c, dd))
+    let x = bd.mul(a).add(times(b, ad));
+    let y = cd.mul(d).add(times(c, dd));
+    x.add(y)
 }
 
 fn mix_jet(beta: Jet, a: Jet, alpha: Jet, b: Jet) -> Jet

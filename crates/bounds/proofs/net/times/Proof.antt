@@ -1,0 +1,52 @@
+use mathlib.Core.Path.{_≡_, refl, sym, ap, _∙_, subst}
+use Rattle.bounds.proofs.Slopes.{times-is}
+use borrow.Author.Needs.{needs}
+use Rattle.bounds.proofs.net.times.Statement.{statement}
+use Rattle.bounds.proofs.net.times.Tie as tie
+use Rattle.bounds.proofs.net.times.Reads as reads
+use Rattle.bounds.proofs.net.times.Lts as lts
+use Rattle.interval.proofs.Interval.hi.Reads as hi-reads
+use Rattle.interval.proofs.Interval.is_symmetric.Reads as is-symmetric-reads
+use Rattle.interval.proofs.Interval.mul.Reads as mul-reads
+use Rattle.interval.proofs.Interval.reach.Reads as reach-reads
+use Rattle.interval.proofs.Interval.symmetric.Reads as symmetric-reads
+
+-- src/net.rt:98:8
+is-symmetric-requires : tie.Need-is-symmetric-requires
+is-symmetric-requires c κs = search needs
+
+-- src/net.rt:99:44
+hi-requires : tie.Need-hi-requires
+hi-requires c κs = search needs
+
+-- src/net.rt:99:36
+reach-requires : tie.Need-reach-requires
+reach-requires c κs = search needs
+
+-- src/net.rt:99:9
+symmetric-requires : tie.Need-symmetric-requires
+symmetric-requires c κs = search needs
+
+-- src/net.rt:99:9
+returns : tie.Need-returns
+returns c = rw ((c .symmetric .ensures), (c .before .reach .ensures), (c .before .before .hi .ensures)) (times-is (c .before .before .before .before .before .args .a) (c .before .before .before .before .before .args .d) (sym (c .before .before .before .before .is-symmetric .ensures) ∙ c .before .before .before .if1 .taken))
+
+-- src/net.rt:101:5
+mul-requires : tie.Need-mul-requires
+mul-requires c κs = search needs
+
+-- src/net.rt:95:1
+returns-2 : tie.Need-returns-2
+returns-2 c = c .mul .ensures
+
+pub times-spec : {M : Type 1} → statement M
+times-spec =
+    tie.close
+    (tie.spec
+    is-symmetric-requires
+    hi-requires
+    reach-requires
+    symmetric-requires
+    returns
+    mul-requires
+    returns-2)
