@@ -1,0 +1,3 @@
+// Knots inserted into a curve, in lent runs.
+mod control;
+mod counts;
