@@ -1,2 +1,5 @@
 pub mod Counting
 pub mod Tested
+pub mod RowLoops
+pub mod Storing
+pub mod Forming

@@ -1,2 +1,4 @@
 pub mod Control
 pub mod Counts
+pub mod Rows
+pub mod Insert
