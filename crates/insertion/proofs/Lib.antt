@@ -3,3 +3,4 @@ pub mod Tested
 pub mod RowLoops
 pub mod Storing
 pub mod Forming
+pub mod Folds

@@ -2,3 +2,4 @@ pub mod Control
 pub mod Counts
 pub mod Rows
 pub mod Insert
+pub mod Fold
