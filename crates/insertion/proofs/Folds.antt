@@ -122,7 +122,7 @@ module _ (p : ℕ) (g : Bool) (goal : Outcome) (a b c : ℕ) (k₁ p₁ w₁ : L
       rw e ((z, G .knots, G .points, G .weights))
 
 -- ---- i knots of the list are inserted
-given-mono : (g : Bool) (x y : ℕ) → x ≤ y → given g x ≤ given g y
+pub given-mono : (g : Bool) (x y : ℕ) → x ≤ y → given g x ≤ given g y
 given-mono true x y h = h
 given-mono false x y h = omega arith
 

@@ -4,3 +4,5 @@ pub mod RowLoops
 pub mod Storing
 pub mod Forming
 pub mod Folds
+pub mod Starting
+pub mod Outcomes

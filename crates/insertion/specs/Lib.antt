@@ -3,3 +3,5 @@ pub mod Counts
 pub mod Rows
 pub mod Insert
 pub mod Fold
+pub mod Start
+pub mod Whole

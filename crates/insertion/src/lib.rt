@@ -2,7 +2,9 @@
 pub mod answer;
 mod control;
 mod counts;
+pub mod insert;
 mod list;
 mod one;
 mod rows;
 mod runs;
+mod start;
