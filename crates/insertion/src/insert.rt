@@ -24,6 +24,14 @@ fn clear_outputs(knots: &mut [f64], points: &mut [f64], weights: &mut [f64])
     clear(weights);
 }
 
+// The same, and the run that was worked in.
+fn clear_all(knots: &mut [f64], points: &mut [f64], weights: &mut [f64], rows: &mut [f64])
+    ensures { λ _. ⌜ (now (knots .exit) ≡ zeros (length (now (knots .entry)))) × (now (points .exit) ≡ zeros (length (now (points .entry)))) × (now (weights .exit) ≡ zeros (length (now (weights .entry)))) × (now (rows .exit) ≡ zeros (length (now (rows .entry)))) ⌝ }
+{
+    clear_outputs(knots, points, weights);
+    clear(rows);
+}
+
 // The curve goes into cleared runs, and the knots are inserted there.
 fn insert_into(
     degree: usize,
@@ -109,11 +117,11 @@ pub fn insert_knots(
         out_weights,
         scratch,
     );
-    clear(scratch);
     if refusal.number != 0 {
-        clear_outputs(out_knots, out_points, out_weights);
+        clear_all(out_knots, out_points, out_weights, scratch);
         return EditAnswer::Refused(refusal);
     }
+    clear(scratch);
     let count = points.len() / 3 + inserted.len();
     EditAnswer::Formed { degree, count }
 }
