@@ -16,7 +16,7 @@ use Rattle.knots.specs.Below.{allBelow}
 use Rattle.knots.specs.Refusal.{refuse, accepted, knot-outside, knot-full, control-bad, edit-bad}
 use Rattle.knots.specs.Knots.{ValidKnots}
 use Rattle.knots.specs.Curve.{formedRefusal}
-use Rattle.knots.specs.Span.{SpanAt, SpanFound, spanOf}
+use Rattle.knots.specs.Span.{spanOf}
 use Rattle.knots.specs.declared.refusal.Refusal.{Refusal}
 use Rattle.knots.proofs.Below.{and-left, and-right}
 use Rattle.knots.proofs.Refusals.{passed, stop, skip}
@@ -24,7 +24,7 @@ use Rattle.basis.specs.Basis.{tabulate}
 use Rattle.basis.proofs.Whole.{length-tabulate}
 use Rattle.evaluate.specs.Controls.{pointOf}
 use Rattle.evaluate.specs.declared.vector.Vector.{Vector}
-use Rattle.evaluate.proofs.IsoCurves.{Within, span-found}
+use Rattle.evaluate.proofs.IsoCurves.{Within}
 use Rattle.insertion.specs.Control.{isLifted, isBlended, shareOf, blendOf, lowerOf}
 use Rattle.insertion.specs.Counts.{multiplicityOf}
 use Rattle.insertion.specs.Rows.{rowOf, liftAll, blendAt, axis, lowerAt, weightIn, given, LiftDone, LowerDone}

@@ -4,5 +4,7 @@ pub mod RowLoops
 pub mod Storing
 pub mod Forming
 pub mod Folds
+pub mod Domain
 pub mod Starting
 pub mod Outcomes
+pub mod Worked

@@ -6,14 +6,13 @@ use mathlib.Core.Path.{_≡_, refl, sym, _∙_, ap, ap₂, subst}
 use mathlib.Core.List.{List, [], _∷_, _++_}
 use native.Mathlib.Omega.{arith}
 use native.Mathlib.Nat.{not-suc-le-zero, le-of-suc-le-suc}
-use borrow.Author.Tests.{le-leb, lt-leb, leb-true, leb-false, eq-eqb, ne-eqb, eqb-true, eqb-false}
+use borrow.Author.Tests.{le-leb, lt-leb, leb-true, leb-false, eq-eqb, ne-eqb}
 use lib.ListN.{length, set, take, drop, length-take}
 use lib.Seq.{take-at, getD-take}
 use lib.Dec.{leb, eqb}
 use lib.Ieee.{Float, nan}
 use Rattle.doubles.specs.Run.{at}
 use Rattle.basis.specs.Basis.{tabulate}
-use Rattle.basis.proofs.Whole.{length-tabulate}
 use Rattle.evaluate.proofs.Overlays.{store-more}
 use Rattle.insertion.specs.Insert.{knotAt, moreKnots}
 
@@ -41,7 +40,7 @@ behind (suc n) f (x ∷ d) l = behind n (λ k. f (suc k)) d (le-of-suc-le-suc l)
 
 -- ---- a knot more
 module _ (k : ℕ) (t : Float) (ks : List Float) where
-  knot-low : (j : ℕ) → j ≤ k → at ks j ≡ knotAt k t ks j
+  pub knot-low : (j : ℕ) → j ≤ k → at ks j ≡ knotAt k t ks j
   unfolding knotAt
   knot-low j l = simp (le-leb j k l)
 
@@ -49,7 +48,7 @@ module _ (k : ℕ) (t : Float) (ks : List Float) where
   unfolding knotAt
   knot-here = simp (lt-leb (k + 1) k (omega arith), eq-eqb (k + 1) (k + 1) refl)
 
-  knot-high : (i : ℕ) → k + 1 ≤ i → at ks i ≡ knotAt k t ks (i + 1)
+  pub knot-high : (i : ℕ) → k + 1 ≤ i → at ks i ≡ knotAt k t ks (i + 1)
   unfolding knotAt
   knot-high i l = let e : i + 1 - 1 ≡ i = omega arith in simp (lt-leb (i + 1) k (omega arith), ne-eqb (i + 1) (k + 1) (λ q. omega arith)) (ap (at ks) (sym e))
 
