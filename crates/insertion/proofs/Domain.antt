@@ -24,7 +24,7 @@ module _ (p n : ℕ) (ks ps : List Float) (g : Bool) (ws : List Float) (t : Floa
   unfolding insertRefusal
   spot-in h =
       let a = orElse-none (spotRefusal (at ks p) (at ks n) t p (multiplicityOf ks t)) (formRefusal p n (spanOf p n ks t) (multiplicityOf ks t) t ks ps g ws) h in
-      let w = spot-open p n ks ps g ws t (multiplicityOf ks t) v (a .0) .0 in
+      let w = spot-open p n ks ps g ws t (multiplicityOf ks t) v (a .0) .within in
       let s = search-meets p n ks v t (w .parameter) (w .low) in
       let e = span-is p n ks v t _ (w .parameter) s in
       let x = s .from in

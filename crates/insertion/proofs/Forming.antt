@@ -11,12 +11,12 @@ use lib.Dec.{leb, ltb}
 use lib.Ieee.{Float, lt, le}
 use lib.Ieee.Scale.{finite}
 use Rattle.doubles.specs.Run.{at}
-use Rattle.doubles.proofs.Tested.{le-is, lt-asym}
+use Rattle.doubles.proofs.Tested.{le-fails, lt-asym}
 use Rattle.knots.specs.Below.{allBelow}
 use Rattle.knots.specs.Refusal.{refuse, accepted, knot-outside, knot-full, control-bad, edit-bad}
 use Rattle.knots.specs.Knots.{ValidKnots}
-use Rattle.knots.specs.Curve.{formedRefusal}
-use Rattle.knots.specs.Span.{spanOf}
+use Rattle.knots.specs.Curve.{controlRefusal, formedRefusal}
+use Rattle.knots.specs.Span.{SpanAt, SpanFound, spanOf}
 use Rattle.knots.specs.declared.refusal.Refusal.{Refusal}
 use Rattle.knots.proofs.Below.{and-left, and-right}
 use Rattle.knots.proofs.Refusals.{passed, stop, skip}
@@ -24,12 +24,13 @@ use Rattle.basis.specs.Basis.{tabulate}
 use Rattle.basis.proofs.Whole.{length-tabulate}
 use Rattle.evaluate.specs.Controls.{pointOf}
 use Rattle.evaluate.specs.declared.vector.Vector.{Vector}
-use Rattle.evaluate.proofs.IsoCurves.{Within}
+use Rattle.evaluate.proofs.IsoCurves.{Within, span-found}
 use Rattle.insertion.specs.Control.{isLifted, isBlended, shareOf, blendOf, lowerOf}
 use Rattle.insertion.specs.Counts.{multiplicityOf}
 use Rattle.insertion.specs.Rows.{rowOf, liftAll, blendAt, axis, lowerAt, weightIn, given, LiftDone, LowerDone}
 use Rattle.insertion.specs.Insert.{knotAt, moreKnots, inside, spotRefusal, lifted, blended, morePoints, moreWeights, formRefusal, Formed, KnotPut, insertedKnots, insertedPoints, insertedWeights, insertRefusal, Inserted}
 use Rattle.insertion.specs.declared.control.Control.{Control}
+use Rattle.insertion.proofs.Grown.{grown-valid, controls-left}
 use Rattle.insertion.proofs.Storing.{tabulate-cong, put-front, front-taken}
 
 -- ---- how many weights
@@ -92,12 +93,12 @@ module _ (a b : Bool) (x y z r : Refusal) where
 -- ---- the knot is put and the curve is checked
 pub knot-put : (p n k : ℕ) (t : Float) (g : Bool) (k₀ k₁ p₁ w₁ : List Float) (c : ℕ) (r : Refusal)
     → k₁ ≡ tabulate (n + p + 1 + 1) (knotAt k t k₀) ++ drop (n + p + 1 + 1) k₀ → c ≡ given g (n + 1)
-    → r ≡ formedRefusal p (n + 1) (take (n + p + 1 + 1) k₁) (take ((n + 1) * 3) p₁) g (take c w₁) → KnotPut p n k t g k₀ k₁ p₁ w₁ r
+    → r ≡ controlRefusal (n + 1) (take ((n + 1) * 3) p₁) g (take c w₁) → KnotPut p n k t g k₀ k₁ p₁ w₁ r
 knot-put p n k t g k₀ k₁ p₁ w₁ c r E C R =
     let e : n + p + 1 + 1 ≡ n + 1 + p + 1 = omega arith in
     record {
       knots = subst (λ (i : ℕ). k₁ ≡ tabulate i (knotAt k t k₀) ++ drop i k₀) e E;
-      refusal = R ∙ ap₂ (λ (i j : ℕ). formedRefusal p (n + 1) (take i k₁) (take ((n + 1) * 3) p₁) g (take j w₁)) e C;
+      refusal = R ∙ ap (λ (j : ℕ). controlRefusal (n + 1) (take ((n + 1) * 3) p₁) g (take j w₁)) C;
     }
 
 -- ---- 19, 20, and the curve that is formed
@@ -153,20 +154,19 @@ module _ (p n k s : ℕ) (t : Float) (k₀ p₀ : List Float) (g : Bool) (w₀ :
           no : r .number ≡ 0 → ⊥
           no z = let q : _≡_ {A = ℕ} 20 0 = sym (ap (λ (x : Refusal). x .number) e) ∙ z in omega arith
 
-      pub form-end : b ≡ true → n + p + 1 ≤ length k₀ → (r : Refusal) (k₁ : List Float) → KnotPut p n k t g k₀ k₁ p₁ w₁ r → Formed p n k s t KS PS g WS k₀ p₀ w₀ k₁ p₁ w₁ r
+      pub form-end : b ≡ true → n + p + 1 ≤ length k₀ → ValidKnots p (n + 1) (moreKnots k t KS) → (r : Refusal) (k₁ : List Float) → KnotPut p n k t g k₀ k₁ p₁ w₁ r → Formed p n k s t KS PS g WS k₀ p₀ w₀ k₁ p₁ w₁ r
       unfolding formRefusal morePoints moreWeights
-      form-end F l r k₁ U =
+      form-end F l v r k₁ U =
           let e : n + p + 1 + 1 ≡ n + 1 + p + 1 = omega arith in
           let m : tabulate (n + 1 + p + 1) (knotAt k t k₀) ≡ moreKnots k t KS = subst (λ (i : ℕ). tabulate i (knotAt k t k₀) ≡ moreKnots k t KS) e (put-front k t k₀ (n + p + 1) (omega arith) l) in
           let x : k₁ ≡ moreKnots k t KS ++ drop (n + 1 + p + 1) k₀ = U .knots ∙ ap (λ (i : List Float). i ++ drop (n + 1 + p + 1) k₀) m in
           let y = lower-done .points F in
           let z = lower-done .weights F in
-          let kx = front-taken (n + 1 + p + 1) (moreKnots k t KS) _ k₁ (ap length (sym m) ∙ length-tabulate (n + 1 + p + 1) _) x in
           let py = front-taken ((n + 1) * 3) _ _ p₁ (length-tabulate ((n + 1) * 3) _) y in
           let wz = front-taken (given g (n + 1)) _ _ w₁ (length-tabulate (given g (n + 1)) _) z in
           record {
             refusal = third-of all-lifted all-blended (refuse control-bad) (refuse edit-bad) checked r (sym (lift-done .answer) ∙ T) (sym (lower-done .answer) ∙ F)
-                (U .refusal ∙ (ap₂ (λ (i j : List Float). formedRefusal p (n + 1) i j g (take (given g (n + 1)) w₁)) kx py ∙ ap (formedRefusal p (n + 1) (moreKnots k t KS) (morePoints p n k s t KS PS g WS) g) wz));
+                (U .refusal ∙ (ap₂ (λ (i j : List Float). controlRefusal (n + 1) i g j) py wz ∙ controls-left p (n + 1) (moreKnots k t KS) (morePoints p n k s t KS PS g WS) g (moreWeights p n k s t KS PS g WS) v));
             knots = λ h. x;
             points = λ h. y;
             weights = λ h. z;
@@ -175,7 +175,13 @@ module _ (p n k s : ℕ) (t : Float) (k₀ p₀ : List Float) (g : Bool) (w₀ :
 -- ---- the whole
 module _ (p n : ℕ) (ks ps : List Float) (g : Bool) (ws : List Float) (t : Float) where
   -- a knot that is not refused lies in the domain, and there is room for it
-  pub spot-open : (s : ℕ) → ValidKnots p n ks → spotRefusal (at ks p) (at ks n) t p s .number ≡ 0 → Within p n ks t × (s ≤ p)
+  pub record SpotOpen (s : ℕ) : Type 0 where
+    pub within : Within p n ks t
+    pub low : lt (at ks p) t ≡ true
+    pub high : lt t (at ks n) ≡ true
+    pub room : s ≤ p
+
+  pub spot-open : (s : ℕ) → ValidKnots p n ks → spotRefusal (at ks p) (at ks n) t p s .number ≡ 0 → SpotOpen s
   unfolding spotRefusal inside
   spot-open s v h =
       let C = v .count in
@@ -185,11 +191,20 @@ module _ (p n : ℕ) (ks ps : List Float) (g : Bool) (ws : List Float) (t : Floa
       let i = not-false (inside (at ks p) (at ks n) t) (a .0) in
       let f : finite t ≡ true = and-left (finite t) _ i in
       let r = and-right (finite t) _ i in
-      let x : le t (at ks p) ≡ false = not-true _ (and-left (not (le t (at ks p))) _ r) in
-      let y : le (at ks n) t ≡ false = not-true _ (and-right (not (le t (at ks p))) _ r) in
-      let low : lt (at ks p) t ≡ true = not-false _ (sym (le-is t (at ks p) f (v .finites p (omega arith))) ∙ x) in
-      let high : lt t (at ks n) ≡ true = not-false _ (sym (le-is (at ks n) t (v .finites n (omega arith)) f) ∙ y) in
-      (record { parameter = f; low = lt-asym (at ks p) t low; high = lt-asym t (at ks n) high }, ltb-false p s (b .0))
+      let x = le-fails t (at ks p) f (v .finites p (omega arith)) (not-true _ (and-left (not (le t (at ks p))) _ r)) in
+      let y = le-fails (at ks n) t (v .finites n (omega arith)) f (not-true _ (and-right (not (le t (at ks p))) _ r)) in
+      record {
+        within = record { parameter = f; low = lt-asym (at ks p) t x; high = lt-asym t (at ks n) y };
+        low = x;
+        high = y;
+        room = ltb-false p s (b .0);
+      }
+
+  -- where it goes, and that the knots with it are valid
+  pub spot-found : (s k : ℕ) → s ≡ multiplicityOf ks t → ValidKnots p n ks → SpotOpen s → SpanFound p n ks t k → SpanAt p n ks t k × (k ≡ spanOf p n ks t) × ValidKnots p (n + 1) (moreKnots k t ks)
+  spot-found s k S v o F =
+      let a = span-found p n ks t v (o .within) k F in
+      (a .0, a .1, grown-valid p n ks v t (o .within .parameter) k (a .0) (o .low) (o .high) (subst (λ (i : ℕ). i ≤ p) S (o .room)))
 
   module _ (k₀ p₀ w₀ k₁ p₁ w₁ : List Float) (s k : ℕ) (S : s ≡ multiplicityOf ks t) (r : Refusal) where
     pub insert-early : r ≡ spotRefusal (at ks p) (at ks n) t p s → (r .number ≡ 0 → ⊥) → Inserted p n ks ps g ws t k₀ p₀ w₀ k₁ p₁ w₁ r

@@ -2,6 +2,7 @@ pub mod Counting
 pub mod Tested
 pub mod RowLoops
 pub mod Storing
+pub mod Grown
 pub mod Forming
 pub mod Folds
 pub mod Domain

@@ -44,7 +44,7 @@ module _ (k : ℕ) (t : Float) (ks : List Float) where
   unfolding knotAt
   knot-low j l = simp (le-leb j k l)
 
-  knot-here : t ≡ knotAt k t ks (k + 1)
+  pub knot-here : t ≡ knotAt k t ks (k + 1)
   unfolding knotAt
   knot-here = simp (lt-leb (k + 1) k (omega arith), eq-eqb (k + 1) (k + 1) refl)
 

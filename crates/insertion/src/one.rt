@@ -6,7 +6,7 @@ use crate::rows::lower_rows;
 use crate::rows::point_at;
 use crate::runs::put_knot;
 use interval::float::is_finite;
-use knots::curve::formed_refusal;
+use knots::curve::control_refusal;
 use knots::refusal::Refusal;
 use knots::refusal::refuse;
 use knots::span::span_of;
@@ -15,7 +15,7 @@ ghost use Prim.Native.Nat.{_+_, _*_, _<_, _≤_};
 ghost use lib.ListN.{length, take};
 ghost use Rattle.knots.specs.Knots.{ValidKnots};
 ghost use Rattle.insertion.specs.Rows.{given};
-ghost use Rattle.insertion.specs.Insert.{inside, spotRefusal, KnotPut, Formed, Inserted};
+ghost use Rattle.insertion.specs.Insert.{moreKnots, inside, spotRefusal, KnotPut, Formed, Inserted};
 
 // Finite, and strictly inside the domain.
 fn is_inside(lo: f64, hi: f64, t: f64) -> bool
@@ -50,7 +50,7 @@ pub fn given_count(rational: bool, n: usize) -> usize
     if rational { n } else { 0 }
 }
 
-// The knot is put, and the curve of n + 1 points is checked by 1 to 10.
+// The knot is put, and the curve of n + 1 points is checked by 8 to 10. 1 to 7 are left out: valid knots with a knot more are valid.
 fn form(
     spot: Spot,
     n: usize,
@@ -67,17 +67,9 @@ fn form(
     let m = n + spot.p + 1;
     put_knot(knots, spot.k, m, spot.t);
     let more = n + 1;
-    let a = m + 1;
     let b = more * 3;
     let c = given_count(rational, more);
-    formed_refusal(
-        spot.p,
-        more,
-        &knots[..a],
-        &points[..b],
-        rational,
-        &weights[..c],
-    )
+    control_refusal(more, &points[..b], rational, &weights[..c])
 }
 
 // The knot is inserted where it goes: 19, 20, and 1 to 10 of the curve that is formed.
@@ -95,6 +87,7 @@ fn insert_at(
     requires { ⌜ (n + 1) * 3 ≤ length (now points) ⌝ }
     requires { ⌜ given rational (n + 1) ≤ length (now weights) ⌝ }
     requires { ⌜ n * 4 ≤ length (now rows) ⌝ }
+    requires { ⌜ ValidKnots (spot .p) (n + 1) (moreKnots (spot .k) (spot .t) (take (n + spot .p + 1) (now knots))) ⌝ }
     ensures { λ r. ⌜ Formed (spot .p) n (spot .k) (spot .s) (spot .t) (take (n + spot .p + 1) (now (knots .entry))) (take (n * 3) (now (points .entry))) rational (take (given rational n) (now (weights .entry))) (now (knots .entry)) (now (points .entry)) (now (weights .entry)) (now (knots .exit)) (now (points .exit)) (now (weights .exit)) r ⌝ }
 {
     let m = n + spot.p + 1;

@@ -1,9 +1,9 @@
 -- `insertion::one::form` meets its contract.
 -- Assumes nothing.
-use borrow.Author.Needs.{needs}
 use native.Mathlib.Omega.{arith}
 use denote.Ref.{now}
 use lib.ListN.{length-take}
+use borrow.Author.Needs.{needs}
 use Rattle.insertion.proofs.Forming.{knot-put}
 use Rattle.insertion.proofs.one.form.Statement.{statement}
 use Rattle.insertion.proofs.one.form.Tie as tie
@@ -20,40 +20,29 @@ put-knot-requires c κs = search needs
 add-more : tie.Need-add-more
 add-more c = search needs
 
-add-a : tie.Need-add-a
-add-a c = search needs
-
 mul-b : tie.Need-mul-b
 mul-b c = search needs
 
 given-count-requires : tie.Need-given-count-requires
 given-count-requires c κs = search needs
 
-slice-reshare-prefix-formed-refusal : tie.Need-slice-reshare-prefix-formed-refusal
-slice-reshare-prefix-formed-refusal c = search needs
-
-slice-aggregate-formed-refusal : tie.Need-slice-aggregate-formed-refusal
-slice-aggregate-formed-refusal c = let l = c .before .before .before .before .before .before .before .before .before .before .pre .0 .1 in
-    let e = c .before .before .before .knots .given in
+slice-aggregate-control-refusal : tie.Need-slice-aggregate-control-refusal
+slice-aggregate-control-refusal c = let l = c .before .before .before .before .before .before .before .before .before .before .pre .1 .0 in
     simp length-take (omega arith)
 
-slice-aggregate-formed-refusal-2 : tie.Need-slice-aggregate-formed-refusal-2
-slice-aggregate-formed-refusal-2 c = let l = c .before .before .before .before .before .before .before .before .before .before .before .pre .1 .0 in
+slice-aggregate-control-refusal-2 : tie.Need-slice-aggregate-control-refusal-2
+slice-aggregate-control-refusal-2 c = let l = c .before .before .before .before .before .before .before .before .before .before .before .pre .1 .1 in
+    let e = c .before .before .given-count .ensures in
     simp length-take (omega arith)
 
-slice-aggregate-formed-refusal-3 : tie.Need-slice-aggregate-formed-refusal-3
-slice-aggregate-formed-refusal-3 c = let l = c .before .before .before .before .before .before .before .before .before .before .before .before .pre .1 .1 in
-    let e = c .before .before .before .given-count .ensures in
-    simp length-take (omega arith)
-
-formed-refusal-requires : tie.Need-formed-refusal-requires
-formed-refusal-requires c κs = search needs
+control-refusal-requires : tie.Need-control-refusal-requires
+control-refusal-requires c κs = search needs
 
 same-length : tie.Need-same-length
 same-length c = search needs
 
 returns : tie.Need-returns
-returns c = knot-put (c .before .before .before .before .before .before .before .before .before .before .before .before .before .args .spot .p) (c .before .before .before .before .before .before .before .before .before .before .before .before .before .args .n) (c .before .before .before .before .before .before .before .before .before .before .before .before .before .args .spot .k) (c .before .before .before .before .before .before .before .before .before .before .before .before .before .args .spot .t) (c .before .before .before .before .before .before .before .before .before .before .before .before .before .args .rational) (now (c .before .before .before .before .before .before .before .before .before .before .before .before .before .args .knots)) _ (now (c .before .before .before .before .before .before .before .before .before .before .before .before .before .args .points)) (now (c .before .before .before .before .before .before .before .before .before .before .before .before .before .args .weights)) _ _ (c .before .before .before .before .before .before .before .put-knot .ensures) (c .before .before .before .before .given-count .ensures) (c .formed-refusal .ensures)
+returns c = knot-put (c .before .before .before .before .before .before .before .before .before .before .before .before .args .spot .p) (c .before .before .before .before .before .before .before .before .before .before .before .before .args .n) (c .before .before .before .before .before .before .before .before .before .before .before .before .args .spot .k) (c .before .before .before .before .before .before .before .before .before .before .before .before .args .spot .t) (c .before .before .before .before .before .before .before .before .before .before .before .before .args .rational) (now (c .before .before .before .before .before .before .before .before .before .before .before .before .args .knots)) _ (now (c .before .before .before .before .before .before .before .before .before .before .before .before .args .points)) (now (c .before .before .before .before .before .before .before .before .before .before .before .before .args .weights)) _ _ (c .before .before .before .before .before .before .put-knot .ensures) (c .before .before .before .given-count .ensures) (c .control-refusal .ensures)
 
 pub form-spec : {M : Type 1} → statement M
 form-spec =
@@ -63,13 +52,10 @@ form-spec =
     add-m-2
     put-knot-requires
     add-more
-    add-a
     mul-b
     given-count-requires
-    slice-reshare-prefix-formed-refusal
-    slice-aggregate-formed-refusal
-    slice-aggregate-formed-refusal-2
-    slice-aggregate-formed-refusal-3
-    formed-refusal-requires
+    slice-aggregate-control-refusal
+    slice-aggregate-control-refusal-2
+    control-refusal-requires
     same-length
     returns)

@@ -1,10 +1,10 @@
 -- `insertion::one::insert_at` meets its contract.
 -- Assumes nothing.
-use borrow.Author.Needs.{needs}
 use Prim.Native.Nat.{_+_}
 use native.Mathlib.Omega.{arith}
 use denote.Ref.{now}
 use lib.ListN.{length, length-take}
+use borrow.Author.Needs.{needs}
 use borrow.Author.Tests.{not-true, not-false}
 use Rattle.insertion.proofs.Forming.{given-room, given-less, given-taken, form-19, form-20, form-end}
 use Rattle.insertion.proofs.one.insert_at.Statement.{statement}
@@ -48,7 +48,7 @@ point-at-requires c κs = let l = c .before .before .before .before .before .bef
 
 lift-rows-requires : tie.Need-lift-rows-requires
 lift-rows-requires c κs = let l = c .before .before .before .before .before .before .before .before .before .before .pre .1 .1 .0 in
-    (simp length-take (omega arith), (given-taken (c .before .before .before .before .before .before .before .before .before .before .args .rational) (c .before .before .before .before .before .before .before .before .before .before .args .n) _ (now (c .before .before .before .before .before .before .before .before .before .before .args .weights)) (c .before .before .before .before .given-count .ensures) (c .before .before .before .before .before .before .before .before .before .before .pre .1 .1 .1 .0), c .before .before .before .before .before .before .before .before .before .before .pre .1 .1 .1 .1))
+    (simp length-take (omega arith), (given-taken (c .before .before .before .before .before .before .before .before .before .before .args .rational) (c .before .before .before .before .before .before .before .before .before .before .args .n) _ (now (c .before .before .before .before .before .before .before .before .before .before .args .weights)) (c .before .before .before .before .given-count .ensures) (c .before .before .before .before .before .before .before .before .before .before .pre .1 .1 .1 .0), c .before .before .before .before .before .before .before .before .before .before .pre .1 .1 .1 .1 .0))
 
 refuse-requires : tie.Need-refuse-requires
 refuse-requires c κs = search needs
@@ -77,7 +77,7 @@ lower-rows-requires c κs = let q = c .before .before .before .before .before .b
     let x = q .0 in
     let l = q .1 .0 in
     let e = c .before .before .before .before .before .before .rows .given in
-    let r = q .1 .1 .1 .1 in
+    let r = q .1 .1 .1 .1 .0 in
     ((x .0, x .1), ((x .2, simp length-take (omega arith)), (omega arith, (q .1 .1 .0, given-room (c .before .before .before .before .before .before .before .before .before .before .before .before .before .before .before .before .before .before .args .rational) (c .before .before .before .before .before .before .before .before .before .before .before .before .before .before .before .before .before .before .args .n + 1) (length (now (c .before .before .before .before .before .before .before .before .before .before .before .before .before .before .before .before .before .before .args .weights))) (q .1 .1 .1 .0)))))
 
 refuse-requires-2 : tie.Need-refuse-requires-2
@@ -121,7 +121,7 @@ same-length-11 c = search needs
 
 returns-3 : tie.Need-returns-3
 returns-3 c = let l = c .before .before .before .before .before .before .before .before .before .before .before .before .before .before .before .before .before .before .before .before .before .before .before .before .before .before .before .before .before .before .pre .1 .0 in
-    form-end (c .before .before .before .before .before .before .before .before .before .before .before .before .before .before .before .before .before .before .before .before .before .before .before .before .before .before .before .before .before .before .args .spot .p) (c .before .before .before .before .before .before .before .before .before .before .before .before .before .before .before .before .before .before .before .before .before .before .before .before .before .before .before .before .before .before .args .n) (c .before .before .before .before .before .before .before .before .before .before .before .before .before .before .before .before .before .before .before .before .before .before .before .before .before .before .before .before .before .before .args .spot .k) (c .before .before .before .before .before .before .before .before .before .before .before .before .before .before .before .before .before .before .before .before .before .before .before .before .before .before .before .before .before .before .args .spot .s) (c .before .before .before .before .before .before .before .before .before .before .before .before .before .before .before .before .before .before .before .before .before .before .before .before .before .before .before .before .before .before .args .spot .t) (now (c .before .before .before .before .before .before .before .before .before .before .before .before .before .before .before .before .before .before .before .before .before .before .before .before .before .before .before .before .before .before .args .knots)) (now (c .before .before .before .before .before .before .before .before .before .before .before .before .before .before .before .before .before .before .before .before .before .before .before .before .before .before .before .before .before .before .args .points)) (c .before .before .before .before .before .before .before .before .before .before .before .before .before .before .before .before .before .before .before .before .before .before .before .before .before .before .before .before .before .before .args .rational) (now (c .before .before .before .before .before .before .before .before .before .before .before .before .before .before .before .before .before .before .before .before .before .before .before .before .before .before .before .before .before .before .args .weights)) _ (c .before .before .before .before .before .before .before .before .before .before .before .before .before .before .before .before .before .before .before .before .before .before .before .before .given-count .ensures) _ (c .before .before .before .before .before .before .before .before .before .before .before .before .before .before .before .before .before .before .before .before .before .point-at .ensures) _ _ (c .before .before .before .before .before .before .before .before .before .before .before .before .before .before .before .before .before .before .before .lift-rows .ensures) (not-false _ (c .before .before .before .before .before .before .before .before .before .before .before .before .before .before .before .before .if1 .left)) (c .before .before .before .before .before .before .before .before .before .before .before .before .before .before .before .before .before .before .before .before .before .before .before .before .before .before .before .before .before .before .pre .0 .0) (c .before .before .before .before .before .before .before .before .before .before .before .before .before .before .before .before .before .before .before .before .before .before .before .before .before .before .before .before .before .before .pre .0 .1) (c .before .before .before .before .before .before .before .before .before .before .before .before .before .before .before .before .before .before .before .before .before .before .before .before .before .before .before .before .before .before .pre .0 .2) _ _ _ (c .before .before .before .before .before .before .before .before .before .before .before .lower-rows .ensures) (not-false _ (c .before .before .before .before .before .before .if2 .left)) (omega arith) _ _ (c .before .before .form .ensures)
+    form-end (c .before .before .before .before .before .before .before .before .before .before .before .before .before .before .before .before .before .before .before .before .before .before .before .before .before .before .before .before .before .before .args .spot .p) (c .before .before .before .before .before .before .before .before .before .before .before .before .before .before .before .before .before .before .before .before .before .before .before .before .before .before .before .before .before .before .args .n) (c .before .before .before .before .before .before .before .before .before .before .before .before .before .before .before .before .before .before .before .before .before .before .before .before .before .before .before .before .before .before .args .spot .k) (c .before .before .before .before .before .before .before .before .before .before .before .before .before .before .before .before .before .before .before .before .before .before .before .before .before .before .before .before .before .before .args .spot .s) (c .before .before .before .before .before .before .before .before .before .before .before .before .before .before .before .before .before .before .before .before .before .before .before .before .before .before .before .before .before .before .args .spot .t) (now (c .before .before .before .before .before .before .before .before .before .before .before .before .before .before .before .before .before .before .before .before .before .before .before .before .before .before .before .before .before .before .args .knots)) (now (c .before .before .before .before .before .before .before .before .before .before .before .before .before .before .before .before .before .before .before .before .before .before .before .before .before .before .before .before .before .before .args .points)) (c .before .before .before .before .before .before .before .before .before .before .before .before .before .before .before .before .before .before .before .before .before .before .before .before .before .before .before .before .before .before .args .rational) (now (c .before .before .before .before .before .before .before .before .before .before .before .before .before .before .before .before .before .before .before .before .before .before .before .before .before .before .before .before .before .before .args .weights)) _ (c .before .before .before .before .before .before .before .before .before .before .before .before .before .before .before .before .before .before .before .before .before .before .before .before .given-count .ensures) _ (c .before .before .before .before .before .before .before .before .before .before .before .before .before .before .before .before .before .before .before .before .before .point-at .ensures) _ _ (c .before .before .before .before .before .before .before .before .before .before .before .before .before .before .before .before .before .before .before .lift-rows .ensures) (not-false _ (c .before .before .before .before .before .before .before .before .before .before .before .before .before .before .before .before .if1 .left)) (c .before .before .before .before .before .before .before .before .before .before .before .before .before .before .before .before .before .before .before .before .before .before .before .before .before .before .before .before .before .before .pre .0 .0) (c .before .before .before .before .before .before .before .before .before .before .before .before .before .before .before .before .before .before .before .before .before .before .before .before .before .before .before .before .before .before .pre .0 .1) (c .before .before .before .before .before .before .before .before .before .before .before .before .before .before .before .before .before .before .before .before .before .before .before .before .before .before .before .before .before .before .pre .0 .2) _ _ _ (c .before .before .before .before .before .before .before .before .before .before .before .lower-rows .ensures) (not-false _ (c .before .before .before .before .before .before .if2 .left)) (omega arith) (c .before .before .before .before .before .before .before .before .before .before .before .before .before .before .before .before .before .before .before .before .before .before .before .before .before .before .before .before .before .before .pre .1 .1 .1 .1 .1) _ _ (c .before .before .form .ensures)
 
 pub insert-at-spec : {M : Type 1} → statement M
 insert-at-spec =

@@ -1,14 +1,13 @@
 -- `insertion::one::insert_one` meets its contract.
 -- Assumes nothing.
-use borrow.Author.Needs.{needs}
 use mathlib.Core.Path.{sym, _∙_, ap}
 use Prim.Native.Nat.{_+_, _*_}
 use denote.Ref.{now}
 use lib.ListN.{take}
-use Rattle.insertion.proofs.Forming.{spot-open, insert-early, insert-done}
+use borrow.Author.Needs.{needs}
+use Rattle.insertion.proofs.Forming.{spot-open, spot-found, insert-early, insert-done}
 use Rattle.knots.specs.declared.refusal.Refusal.{Refusal}
 use Rattle.insertion.specs.Rows.{given}
-use Rattle.evaluate.proofs.IsoCurves.{span-found}
 use Rattle.insertion.proofs.one.insert_one.Statement.{statement}
 use Rattle.insertion.proofs.one.insert_one.Tie as tie
 
@@ -53,9 +52,9 @@ span-of-requires c κs = search needs
 
 insert-at-requires : tie.Need-insert-at-requires
 insert-at-requires c κs = let o = spot-open (c .before .before .before .before .before .before .before .before .before .before .before .before .before .before .before .before .args .p) (c .before .before .before .before .before .before .before .before .before .before .before .before .before .before .before .before .args .n) (take (c .before .before .before .before .before .before .before .before .before .before .before .before .before .before .before .before .args .n + c .before .before .before .before .before .before .before .before .before .before .before .before .before .before .before .before .args .p + 1) (now (c .before .before .before .before .before .before .before .before .before .before .before .before .before .before .before .before .args .knots))) (take (c .before .before .before .before .before .before .before .before .before .before .before .before .before .before .before .before .args .n * 3) (now (c .before .before .before .before .before .before .before .before .before .before .before .before .before .before .before .before .args .points))) (c .before .before .before .before .before .before .before .before .before .before .before .before .before .before .before .before .args .rational) (take (given (c .before .before .before .before .before .before .before .before .before .before .before .before .before .before .before .before .args .rational) (c .before .before .before .before .before .before .before .before .before .before .before .before .before .before .before .before .args .n)) (now (c .before .before .before .before .before .before .before .before .before .before .before .before .before .before .before .before .args .weights))) (c .before .before .before .before .before .before .before .before .before .before .before .before .before .before .before .before .args .t) (c .before .before .before .before .before .before .before .before .before .before .multiplicity .result) (c .before .before .before .before .before .before .before .before .before .before .before .before .before .before .before .before .pre .0) (sym (ap (λ (r : Refusal). r .number) (c .before .before .before .before .before .before .before .spot-refusal .ensures)) ∙ c .before .before .before .before .before .if1 .left) in
-    let s = span-found (c .before .before .before .before .before .before .before .before .before .before .before .before .before .before .before .before .args .p) (c .before .before .before .before .before .before .before .before .before .before .before .before .before .before .before .before .args .n) (take (c .before .before .before .before .before .before .before .before .before .before .before .before .before .before .before .before .args .n + c .before .before .before .before .before .before .before .before .before .before .before .before .before .before .before .before .args .p + 1) (now (c .before .before .before .before .before .before .before .before .before .before .before .before .before .before .before .before .args .knots))) (c .before .before .before .before .before .before .before .before .before .before .before .before .before .before .before .before .args .t) (c .before .before .before .before .before .before .before .before .before .before .before .before .before .before .before .before .pre .0) (o .0) _ (c .before .before .before .before .span-of .ensures) in
+    let s = spot-found (c .before .before .before .before .before .before .before .before .before .before .before .before .before .before .before .before .args .p) (c .before .before .before .before .before .before .before .before .before .before .before .before .before .before .before .before .args .n) (take (c .before .before .before .before .before .before .before .before .before .before .before .before .before .before .before .before .args .n + c .before .before .before .before .before .before .before .before .before .before .before .before .before .before .before .before .args .p + 1) (now (c .before .before .before .before .before .before .before .before .before .before .before .before .before .before .before .before .args .knots))) (take (c .before .before .before .before .before .before .before .before .before .before .before .before .before .before .before .before .args .n * 3) (now (c .before .before .before .before .before .before .before .before .before .before .before .before .before .before .before .before .args .points))) (c .before .before .before .before .before .before .before .before .before .before .before .before .before .before .before .before .args .rational) (take (given (c .before .before .before .before .before .before .before .before .before .before .before .before .before .before .before .before .args .rational) (c .before .before .before .before .before .before .before .before .before .before .before .before .before .before .before .before .args .n)) (now (c .before .before .before .before .before .before .before .before .before .before .before .before .before .before .before .before .args .weights))) (c .before .before .before .before .before .before .before .before .before .before .before .before .before .before .before .before .args .t) (c .before .before .before .before .before .before .before .before .before .before .multiplicity .result) _ (c .before .before .before .before .before .before .before .before .before .before .multiplicity .ensures) (c .before .before .before .before .before .before .before .before .before .before .before .before .before .before .before .before .pre .0) o (c .before .before .before .before .span-of .ensures) in
     let q = c .before .before .before .before .before .before .before .before .before .before .before .before .before .before .before .before .pre in
-    ((o .1, s .0 .from, s .0 .below), (q .1 .0, (q .1 .1 .0, (q .1 .1 .1 .0, q .1 .1 .1 .1))))
+    ((o .room, s .0 .from, s .0 .below), (q .1 .0, (q .1 .1 .0, (q .1 .1 .1 .0, (q .1 .1 .1 .1, s .2)))))
 
 same-length-2 : tie.Need-same-length-2
 same-length-2 c = search needs
@@ -71,7 +70,7 @@ same-length-5 c = search needs
 
 returns-2 : tie.Need-returns-2
 returns-2 c = let o = spot-open (c .before .before .before .before .before .before .before .before .before .before .before .before .before .before .before .before .before .before .before .before .before .before .before .before .before .args .p) (c .before .before .before .before .before .before .before .before .before .before .before .before .before .before .before .before .before .before .before .before .before .before .before .before .before .args .n) (take (c .before .before .before .before .before .before .before .before .before .before .before .before .before .before .before .before .before .before .before .before .before .before .before .before .before .args .n + c .before .before .before .before .before .before .before .before .before .before .before .before .before .before .before .before .before .before .before .before .before .before .before .before .before .args .p + 1) (now (c .before .before .before .before .before .before .before .before .before .before .before .before .before .before .before .before .before .before .before .before .before .before .before .before .before .args .knots))) (take (c .before .before .before .before .before .before .before .before .before .before .before .before .before .before .before .before .before .before .before .before .before .before .before .before .before .args .n * 3) (now (c .before .before .before .before .before .before .before .before .before .before .before .before .before .before .before .before .before .before .before .before .before .before .before .before .before .args .points))) (c .before .before .before .before .before .before .before .before .before .before .before .before .before .before .before .before .before .before .before .before .before .before .before .before .before .args .rational) (take (given (c .before .before .before .before .before .before .before .before .before .before .before .before .before .before .before .before .before .before .before .before .before .before .before .before .before .args .rational) (c .before .before .before .before .before .before .before .before .before .before .before .before .before .before .before .before .before .before .before .before .before .before .before .before .before .args .n)) (now (c .before .before .before .before .before .before .before .before .before .before .before .before .before .before .before .before .before .before .before .before .before .before .before .before .before .args .weights))) (c .before .before .before .before .before .before .before .before .before .before .before .before .before .before .before .before .before .before .before .before .before .before .before .before .before .args .t) (c .before .before .before .before .before .before .before .before .before .before .before .before .before .before .before .before .before .before .before .multiplicity .result) (c .before .before .before .before .before .before .before .before .before .before .before .before .before .before .before .before .before .before .before .before .before .before .before .before .before .pre .0) (sym (ap (λ (r : Refusal). r .number) (c .before .before .before .before .before .before .before .before .before .before .before .before .before .before .before .before .spot-refusal .ensures)) ∙ c .before .before .before .before .before .before .before .before .before .before .before .before .before .before .if1 .left) in
-    let s = span-found (c .before .before .before .before .before .before .before .before .before .before .before .before .before .before .before .before .before .before .before .before .before .before .before .before .before .args .p) (c .before .before .before .before .before .before .before .before .before .before .before .before .before .before .before .before .before .before .before .before .before .before .before .before .before .args .n) (take (c .before .before .before .before .before .before .before .before .before .before .before .before .before .before .before .before .before .before .before .before .before .before .before .before .before .args .n + c .before .before .before .before .before .before .before .before .before .before .before .before .before .before .before .before .before .before .before .before .before .before .before .before .before .args .p + 1) (now (c .before .before .before .before .before .before .before .before .before .before .before .before .before .before .before .before .before .before .before .before .before .before .before .before .before .args .knots))) (c .before .before .before .before .before .before .before .before .before .before .before .before .before .before .before .before .before .before .before .before .before .before .before .before .before .args .t) (c .before .before .before .before .before .before .before .before .before .before .before .before .before .before .before .before .before .before .before .before .before .before .before .before .before .pre .0) (o .0) _ (c .before .before .before .before .before .before .before .before .before .before .before .before .before .span-of .ensures) in
+    let s = spot-found (c .before .before .before .before .before .before .before .before .before .before .before .before .before .before .before .before .before .before .before .before .before .before .before .before .before .args .p) (c .before .before .before .before .before .before .before .before .before .before .before .before .before .before .before .before .before .before .before .before .before .before .before .before .before .args .n) (take (c .before .before .before .before .before .before .before .before .before .before .before .before .before .before .before .before .before .before .before .before .before .before .before .before .before .args .n + c .before .before .before .before .before .before .before .before .before .before .before .before .before .before .before .before .before .before .before .before .before .before .before .before .before .args .p + 1) (now (c .before .before .before .before .before .before .before .before .before .before .before .before .before .before .before .before .before .before .before .before .before .before .before .before .before .args .knots))) (take (c .before .before .before .before .before .before .before .before .before .before .before .before .before .before .before .before .before .before .before .before .before .before .before .before .before .args .n * 3) (now (c .before .before .before .before .before .before .before .before .before .before .before .before .before .before .before .before .before .before .before .before .before .before .before .before .before .args .points))) (c .before .before .before .before .before .before .before .before .before .before .before .before .before .before .before .before .before .before .before .before .before .before .before .before .before .args .rational) (take (given (c .before .before .before .before .before .before .before .before .before .before .before .before .before .before .before .before .before .before .before .before .before .before .before .before .before .args .rational) (c .before .before .before .before .before .before .before .before .before .before .before .before .before .before .before .before .before .before .before .before .before .before .before .before .before .args .n)) (now (c .before .before .before .before .before .before .before .before .before .before .before .before .before .before .before .before .before .before .before .before .before .before .before .before .before .args .weights))) (c .before .before .before .before .before .before .before .before .before .before .before .before .before .before .before .before .before .before .before .before .before .before .before .before .before .args .t) (c .before .before .before .before .before .before .before .before .before .before .before .before .before .before .before .before .before .before .before .multiplicity .result) _ (c .before .before .before .before .before .before .before .before .before .before .before .before .before .before .before .before .before .before .before .multiplicity .ensures) (c .before .before .before .before .before .before .before .before .before .before .before .before .before .before .before .before .before .before .before .before .before .before .before .before .before .pre .0) o (c .before .before .before .before .before .before .before .before .before .before .before .before .before .span-of .ensures) in
     insert-done (c .before .before .before .before .before .before .before .before .before .before .before .before .before .before .before .before .before .before .before .before .before .before .before .before .before .args .p) (c .before .before .before .before .before .before .before .before .before .before .before .before .before .before .before .before .before .before .before .before .before .before .before .before .before .args .n) (take (c .before .before .before .before .before .before .before .before .before .before .before .before .before .before .before .before .before .before .before .before .before .before .before .before .before .args .n + c .before .before .before .before .before .before .before .before .before .before .before .before .before .before .before .before .before .before .before .before .before .before .before .before .before .args .p + 1) (now (c .before .before .before .before .before .before .before .before .before .before .before .before .before .before .before .before .before .before .before .before .before .before .before .before .before .args .knots))) (take (c .before .before .before .before .before .before .before .before .before .before .before .before .before .before .before .before .before .before .before .before .before .before .before .before .before .args .n * 3) (now (c .before .before .before .before .before .before .before .before .before .before .before .before .before .before .before .before .before .before .before .before .before .before .before .before .before .args .points))) (c .before .before .before .before .before .before .before .before .before .before .before .before .before .before .before .before .before .before .before .before .before .before .before .before .before .args .rational) (take (given (c .before .before .before .before .before .before .before .before .before .before .before .before .before .before .before .before .before .before .before .before .before .before .before .before .before .args .rational) (c .before .before .before .before .before .before .before .before .before .before .before .before .before .before .before .before .before .before .before .before .before .before .before .before .before .args .n)) (now (c .before .before .before .before .before .before .before .before .before .before .before .before .before .before .before .before .before .before .before .before .before .before .before .before .before .args .weights))) (c .before .before .before .before .before .before .before .before .before .before .before .before .before .before .before .before .before .before .before .before .before .before .before .before .before .args .t) (now (c .before .before .before .before .before .before .before .before .before .before .before .before .before .before .before .before .before .before .before .before .before .before .before .before .before .args .knots)) (now (c .before .before .before .before .before .before .before .before .before .before .before .before .before .before .before .before .before .before .before .before .before .before .before .before .before .args .points)) (now (c .before .before .before .before .before .before .before .before .before .before .before .before .before .before .before .before .before .before .before .before .before .before .before .before .before .args .weights)) _ _ _ _ _ (c .before .before .before .before .before .before .before .before .before .before .before .before .before .before .before .before .before .before .before .multiplicity .ensures) _ _ (c .before .before .before .before .before .before .before .before .before .before .before .before .before .before .before .before .spot-refusal .ensures) (c .before .before .before .before .before .before .before .before .before .before .before .before .before .before .if1 .left) (s .1) (c .before .before .before .before .before .before .before .before .insert-at .ensures)
 
 pub insert-one-spec : {M : Type 1} → statement M
