@@ -5,30 +5,31 @@ use mathlib.Core.Bool.{Bool, true, false, not, cond, _&&_}
 use mathlib.Core.Path.{_≡_, refl, sym, _∙_, ap, ap₂, subst}
 use mathlib.Core.List.{List, _++_}
 use native.Mathlib.Omega.{arith}
-use borrow.Author.Tests.{leb-true, leb-false, not-false, not-true, ltb-false}
+use borrow.Author.Tests.{eq-eqb, leb-true, leb-false, not-false, not-true, ltb-false}
 use lib.ListN.{length, take, drop, length-take}
 use lib.Dec.{leb, ltb}
 use lib.Ieee.{Float, lt, le}
 use lib.Ieee.Scale.{finite}
 use Rattle.doubles.specs.Run.{at}
+use Rattle.doubles.specs.Value.{zero+}
 use Rattle.doubles.proofs.Tested.{le-fails, lt-asym}
 use Rattle.knots.specs.Below.{allBelow}
-use Rattle.knots.specs.Refusal.{refuse, accepted, knot-outside, knot-full, control-bad, edit-bad}
-use Rattle.knots.specs.Knots.{ValidKnots}
-use Rattle.knots.specs.Curve.{controlRefusal, formedRefusal}
+use Rattle.knots.specs.Refusal.{refuse, accepted, knot-outside, knot-full, control-bad, edit-bad, point-not-finite}
+use Rattle.knots.specs.Knots.{allFinite, ValidKnots}
+use Rattle.knots.specs.Curve.{isWeight, allWeights, controlRefusal, formedRefusal}
 use Rattle.knots.specs.Span.{SpanAt, SpanFound, spanOf}
 use Rattle.knots.specs.declared.refusal.Refusal.{Refusal}
-use Rattle.knots.proofs.Below.{and-left, and-right}
+use Rattle.knots.proofs.Below.{and-true, and-left, and-right, all-at, all-in}
 use Rattle.knots.proofs.Refusals.{passed, stop, skip}
 use Rattle.basis.specs.Basis.{tabulate}
-use Rattle.basis.proofs.Whole.{length-tabulate}
+use Rattle.basis.proofs.Whole.{length-tabulate, at-tabulate}
 use Rattle.evaluate.specs.Controls.{pointOf}
 use Rattle.evaluate.specs.declared.vector.Vector.{Vector}
 use Rattle.evaluate.proofs.IsoCurves.{Within, span-found}
 use Rattle.insertion.specs.Control.{isLifted, isBlended, shareOf, blendOf, lowerOf}
 use Rattle.insertion.specs.Counts.{multiplicityOf}
 use Rattle.insertion.specs.Rows.{rowOf, liftAll, blendAt, axis, lowerAt, weightIn, given, LiftDone, LowerDone}
-use Rattle.insertion.specs.Insert.{knotAt, moreKnots, inside, spotRefusal, lifted, blended, morePoints, moreWeights, formRefusal, Formed, KnotPut, insertedKnots, insertedPoints, insertedWeights, insertRefusal, Inserted}
+use Rattle.insertion.specs.Insert.{knotAt, moreKnots, inside, spotRefusal, lifted, blended, morePoints, moreWeights, formRefusal, Formed, pointRefusal, KnotPut, insertedKnots, insertedPoints, insertedWeights, insertRefusal, Inserted}
 use Rattle.insertion.specs.declared.control.Control.{Control}
 use Rattle.insertion.proofs.Grown.{grown-valid, controls-left}
 use Rattle.insertion.proofs.Storing.{tabulate-cong, put-front, front-taken}
@@ -90,16 +91,40 @@ module _ (a b : Bool) (x y z r : Refusal) where
   third-of : a ≡ true → b ≡ true → r ≡ z → r ≡ cond (not a) x (cond (not b) y z)
   third-of A B e = simp (A, B) e
 
--- ---- the knot is put and the curve is checked
-pub knot-put : (p n k : ℕ) (t : Float) (g : Bool) (k₀ k₁ p₁ w₁ : List Float) (c : ℕ) (r : Refusal)
-    → k₁ ≡ tabulate (n + p + 1 + 1) (knotAt k t k₀) ++ drop (n + p + 1 + 1) k₀ → c ≡ given g (n + 1)
-    → r ≡ controlRefusal (n + 1) (take ((n + 1) * 3) p₁) g (take c w₁) → KnotPut p n k t g k₀ k₁ p₁ w₁ r
-knot-put p n k t g k₀ k₁ p₁ w₁ c r E C R =
+-- ---- the knot is put and the points are checked
+pub knot-put : (p n k : ℕ) (t : Float) (k₀ k₁ p₁ : List Float) (r : Refusal)
+    → k₁ ≡ tabulate (n + p + 1 + 1) (knotAt k t k₀) ++ drop (n + p + 1 + 1) k₀ → r ≡ pointRefusal (take ((n + 1) * 3) p₁) → KnotPut p n k t k₀ k₁ p₁ r
+knot-put p n k t k₀ k₁ p₁ r E R =
     let e : n + p + 1 + 1 ≡ n + 1 + p + 1 = omega arith in
-    record {
-      knots = subst (λ (i : ℕ). k₁ ≡ tabulate i (knotAt k t k₀) ++ drop i k₀) e E;
-      refusal = R ∙ ap (λ (j : ℕ). controlRefusal (n + 1) (take ((n + 1) * 3) p₁) g (take j w₁)) C;
-    }
+    record { knots = subst (λ (i : ℕ). k₁ ≡ tabulate i (knotAt k t k₀) ++ drop i k₀) e E; refusal = R }
+
+pub points-bad : (ps : List Float) (r : Refusal) → allFinite ps ≡ false → r ≡ refuse point-not-finite → r ≡ pointRefusal ps
+unfolding pointRefusal
+points-bad ps r h e = simp h e
+
+pub points-good : (ps : List Float) (r : Refusal) → allFinite ps ≡ true → r ≡ accepted → r ≡ pointRefusal ps
+unfolding pointRefusal
+points-good ps r h e = simp h e
+
+-- ---- what 20 lets pass has a weight: 9 and 10 are never given
+weight-is : (q : Control) → isBlended q ≡ true → isWeight (q .w) ≡ true
+unfolding isBlended isLifted isWeight
+weight-is q h =
+    let f = and-right (isLifted q) (finite (q .w)) h in
+    let a = and-right (finite (q .x)) _ (and-left (isLifted q) (finite (q .w)) h) in
+    let b = and-right (finite (q .y)) _ a in
+    let c = and-right (finite (q .z)) (not (le (q .w) zero+)) b in
+    and-true (finite (q .w)) _ f (le-fails (q .w) zero+ f refl (not-true _ c))
+
+points-left : (n : ℕ) (ps : List Float) (g : Bool) (h : ℕ → Control) → allBelow (λ i. isBlended (h i)) n ≡ true → pointRefusal ps ≡ controlRefusal n ps g (tabulate (given g n) (weightIn h))
+unfolding pointRefusal controlRefusal allWeights
+points-left n ps true h B =
+    let l = length-tabulate n (weightIn h) in
+    let w : allBelow (λ k. isWeight (at (tabulate n (weightIn h)) k)) (length (tabulate n (weightIn h))) ≡ true =
+    all-in (λ k. isWeight (at (tabulate n (weightIn h)) k)) (length (tabulate n (weightIn h)))
+    (λ k b. ap isWeight (at-tabulate n (weightIn h) k (omega arith)) ∙ weight-is (h k) (all-at (λ i. isBlended (h i)) n B k (omega arith))) in
+    simp (eq-eqb (length (tabulate n (weightIn h))) n l, w)
+points-left n ps false h B = refl
 
 -- ---- 19, 20, and the curve that is formed
 module _ (p n k s : ℕ) (t : Float) (k₀ p₀ : List Float) (g : Bool) (w₀ : List Float) (c : ℕ) (C : c ≡ given g n) where
@@ -154,7 +179,7 @@ module _ (p n k s : ℕ) (t : Float) (k₀ p₀ : List Float) (g : Bool) (w₀ :
           no : r .number ≡ 0 → ⊥
           no z = let q : _≡_ {A = ℕ} 20 0 = sym (ap (λ (x : Refusal). x .number) e) ∙ z in omega arith
 
-      pub form-end : b ≡ true → n + p + 1 ≤ length k₀ → ValidKnots p (n + 1) (moreKnots k t KS) → (r : Refusal) (k₁ : List Float) → KnotPut p n k t g k₀ k₁ p₁ w₁ r → Formed p n k s t KS PS g WS k₀ p₀ w₀ k₁ p₁ w₁ r
+      pub form-end : b ≡ true → n + p + 1 ≤ length k₀ → ValidKnots p (n + 1) (moreKnots k t KS) → (r : Refusal) (k₁ : List Float) → KnotPut p n k t k₀ k₁ p₁ r → Formed p n k s t KS PS g WS k₀ p₀ w₀ k₁ p₁ w₁ r
       unfolding formRefusal morePoints moreWeights
       form-end F l v r k₁ U =
           let e : n + p + 1 + 1 ≡ n + 1 + p + 1 = omega arith in
@@ -163,10 +188,10 @@ module _ (p n k s : ℕ) (t : Float) (k₀ p₀ : List Float) (g : Bool) (w₀ :
           let y = lower-done .points F in
           let z = lower-done .weights F in
           let py = front-taken ((n + 1) * 3) _ _ p₁ (length-tabulate ((n + 1) * 3) _) y in
-          let wz = front-taken (given g (n + 1)) _ _ w₁ (length-tabulate (given g (n + 1)) _) z in
           record {
             refusal = third-of all-lifted all-blended (refuse control-bad) (refuse edit-bad) checked r (sym (lift-done .answer) ∙ T) (sym (lower-done .answer) ∙ F)
-                (U .refusal ∙ (ap₂ (λ (i j : List Float). controlRefusal (n + 1) i g j) py wz ∙ controls-left p (n + 1) (moreKnots k t KS) (morePoints p n k s t KS PS g WS) g (moreWeights p n k s t KS PS g WS) v));
+                (U .refusal ∙ (ap pointRefusal py ∙ (points-left (n + 1) (morePoints p n k s t KS PS g WS) g (blended p n k s t KS PS g WS) (sym (lower-done .answer) ∙ F)
+                ∙ controls-left p (n + 1) (moreKnots k t KS) (morePoints p n k s t KS PS g WS) g (moreWeights p n k s t KS PS g WS) v)));
             knots = λ h. x;
             points = λ h. y;
             weights = λ h. z;

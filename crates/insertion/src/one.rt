@@ -6,7 +6,7 @@ use crate::rows::lower_rows;
 use crate::rows::point_at;
 use crate::runs::put_knot;
 use interval::float::is_finite;
-use knots::curve::control_refusal;
+use knots::knots::all_finite;
 use knots::refusal::Refusal;
 use knots::refusal::refuse;
 use knots::span::span_of;
@@ -50,26 +50,19 @@ pub fn given_count(rational: bool, n: usize) -> usize
     if rational { n } else { 0 }
 }
 
-// The knot is put, and the curve of n + 1 points is checked by 8 to 10. 1 to 7 are left out: valid knots with a knot more are valid.
-fn form(
-    spot: Spot,
-    n: usize,
-    rational: bool,
-    knots: &mut [f64],
-    points: &[f64],
-    weights: &[f64],
-) -> Refusal
+// The knot is put, and the n + 1 points are checked by 8. Nothing else of 1 to 10 can be: valid knots with a knot more are valid, and what 20 lets pass has a weight.
+fn form(spot: Spot, n: usize, knots: &mut [f64], points: &[f64]) -> Refusal
     requires { ⌜ (spot .k < n) × (n + spot .p + 1 < length (now knots)) ⌝ }
     requires { ⌜ (n + 1) * 3 ≤ length (now points) ⌝ }
-    requires { ⌜ given rational (n + 1) ≤ length (now weights) ⌝ }
-    ensures { λ r. ⌜ KnotPut (spot .p) n (spot .k) (spot .t) rational (now (knots .entry)) (now (knots .exit)) (now (points .entry)) (now (weights .entry)) r ⌝ }
+    ensures { λ r. ⌜ KnotPut (spot .p) n (spot .k) (spot .t) (now (knots .entry)) (now (knots .exit)) (now (points .entry)) r ⌝ }
 {
     let m = n + spot.p + 1;
     put_knot(knots, spot.k, m, spot.t);
-    let more = n + 1;
-    let b = more * 3;
-    let c = given_count(rational, more);
-    control_refusal(more, &points[..b], rational, &weights[..c])
+    let b = (n + 1) * 3;
+    if !all_finite(&points[..b]) {
+        return refuse(8);
+    }
+    refuse(0)
 }
 
 // The knot is inserted where it goes: 19, 20, and 1 to 10 of the curve that is formed.
@@ -103,7 +96,7 @@ fn insert_at(
     if !lower_rows(spot, n, o, ks, rational, rows, points, weights) {
         return refuse(20);
     }
-    form(spot, n, rational, knots, points, weights)
+    form(spot, n, knots, points)
 }
 
 // The knot t is inserted: 13, 14, 19, 20, and 1 to 10 of the curve that is formed. What the runs hold after a refusal is not said.
