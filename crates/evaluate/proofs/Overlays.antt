@@ -32,7 +32,7 @@ store-more n f d xs x l e h =
     ∙ subst (λ (k : ℕ). set (tabulate n f ++ drop n d) n (f n) ≡ tabulate k f ++ drop k d) (sym (add-one n)) (store-suc n f d l))
 
 -- ---- over a run of +0.0
-drop-zeros : (n m : ℕ) → drop n (zeros m) ≡ zeros (m - n)
+pub drop-zeros : (n m : ℕ) → drop n (zeros m) ≡ zeros (m - n)
 drop-zeros zero m = ap zeros (sym (sub-zero m))
 drop-zeros (suc n) zero = ap zeros (sym (zero-sub (suc n)))
 drop-zeros (suc n) (suc m) = drop-zeros n m ∙ ap zeros (sym (suc-sub-suc m n))

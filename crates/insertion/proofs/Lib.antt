@@ -1,0 +1,11 @@
+pub mod Counting
+pub mod Tested
+pub mod RowLoops
+pub mod Storing
+pub mod Grown
+pub mod Forming
+pub mod Folds
+pub mod Domain
+pub mod Starting
+pub mod Outcomes
+pub mod Worked

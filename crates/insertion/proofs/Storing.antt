@@ -1,0 +1,110 @@
+-- Runs that are stored place by place: a copy, and a knot put between others.
+-- Assumes nothing.
+use Prim.Native.Nat.{ℕ, zero, suc, _+_, _-_, _≤_, _<_}
+use mathlib.Core.Bool.{Bool, true, false}
+use mathlib.Core.Path.{_≡_, refl, sym, _∙_, ap, ap₂, subst}
+use mathlib.Core.List.{List, [], _∷_, _++_}
+use native.Mathlib.Omega.{arith}
+use native.Mathlib.Nat.{not-suc-le-zero, le-of-suc-le-suc}
+use borrow.Author.Tests.{le-leb, lt-leb, leb-true, leb-false, eq-eqb, ne-eqb}
+use lib.ListN.{length, set, take, drop, length-take}
+use lib.Seq.{take-at, getD-take}
+use lib.Dec.{leb, eqb}
+use lib.Ieee.{Float, nan}
+use Rattle.doubles.specs.Run.{at}
+use Rattle.basis.specs.Basis.{tabulate}
+use Rattle.evaluate.proofs.Overlays.{store-more}
+use Rattle.insertion.specs.Insert.{knotAt, moreKnots}
+
+-- ---- runs by their places
+pub tabulate-at : (xs : List Float) → tabulate (length xs) (at xs) ≡ xs
+tabulate-at [] = refl
+tabulate-at (x ∷ xs) = ap (λ (l : List Float). x ∷ l) (tabulate-at xs)
+
+pub tabulate-cong : (n : ℕ) (f g : ℕ → Float) → ((j : ℕ) → j < n → f j ≡ g j) → tabulate n f ≡ tabulate n g
+tabulate-cong zero f g h = refl
+tabulate-cong (suc n) f g h = ap₂ (λ (x : Float) (l : List Float). x ∷ l) (h 0 (omega arith)) (tabulate-cong n (λ k. f (suc k)) (λ k. g (suc k)) (λ j l. h (suc j) (omega arith)))
+
+-- a front that is already there
+front-is : (n : ℕ) (f : ℕ → Float) (d : List Float) → n ≤ length d → ((j : ℕ) → j < n → at d j ≡ f j) → d ≡ tabulate n f ++ drop n d
+front-is zero f d l h = refl
+front-is (suc n) f [] l h = absurd (not-suc-le-zero l)
+front-is (suc n) f (x ∷ d) l h =
+    ap₂ (λ (y : Float) (t : List Float). y ∷ t) (h 0 (omega arith)) (front-is n (λ k. f (suc k)) d (le-of-suc-le-suc l) (λ j b. h (suc j) (omega arith)))
+
+-- the first place behind it
+behind : (n : ℕ) (f : ℕ → Float) (d : List Float) → n < length d → at (tabulate n f ++ drop n d) n ≡ at d n
+behind n f [] l = absurd (not-suc-le-zero l)
+behind zero f (x ∷ d) l = refl
+behind (suc n) f (x ∷ d) l = behind n (λ k. f (suc k)) d (le-of-suc-le-suc l)
+
+-- ---- a knot more
+module _ (k : ℕ) (t : Float) (ks : List Float) where
+  pub knot-low : (j : ℕ) → j ≤ k → at ks j ≡ knotAt k t ks j
+  unfolding knotAt
+  knot-low j l = simp (le-leb j k l)
+
+  pub knot-here : t ≡ knotAt k t ks (k + 1)
+  unfolding knotAt
+  knot-here = simp (lt-leb (k + 1) k (omega arith), eq-eqb (k + 1) (k + 1) refl)
+
+  pub knot-high : (i : ℕ) → k + 1 ≤ i → at ks i ≡ knotAt k t ks (i + 1)
+  unfolding knotAt
+  knot-high i l = let e : i + 1 - 1 ≡ i = omega arith in simp (lt-leb (i + 1) k (omega arith), ne-eqb (i + 1) (k + 1) (λ q. omega arith)) (ap (at ks) (sym e))
+
+-- i places are there, and the knot that was at i is in hand
+pub record InPut (k m : ℕ) (t : Float) (k₀ k₁ : List Float) (carry : Float) (i : ℕ) : Type 0 where
+  pub from : k + 1 ≤ i
+  pub upto : i ≤ m + 1
+  pub long : length k₁ ≡ length k₀
+  pub front : k₁ ≡ tabulate i (knotAt k t k₀) ++ drop i k₀
+  pub next : carry ≡ knotAt k t k₀ i
+
+module _ (k m : ℕ) (t : Float) (k₀ : List Float) (b : k < m) (l : m < length k₀) where
+  pub put-start : InPut k m t k₀ k₀ t (k + 1)
+  put-start = record {
+    from = omega arith;
+    upto = omega arith;
+    long = refl;
+    front = front-is (k + 1) (knotAt k t k₀) k₀ (omega arith) (λ j h. knot-low k t k₀ j (omega arith));
+    next = knot-here k t k₀;
+  }
+
+  pub put-more : (k₁ : List Float) (carry : Float) (i : ℕ) → InPut k m t k₀ k₁ carry i → i ≤ m → length (set k₁ i carry) ≡ length k₀ → InPut k m t k₀ (set k₁ i carry) (at k₁ i) (i + 1)
+  put-more k₁ carry i I h L =
+      let F = I .from in
+      record {
+        from = omega arith;
+        upto = omega arith;
+        long = L;
+        front = store-more i (knotAt k t k₀) k₀ k₁ carry (omega arith) (I .front) (I .next);
+        next = ap (λ (xs : List Float). at xs i) (I .front) ∙ (behind i (knotAt k t k₀) k₀ (omega arith) ∙ knot-high k t k₀ i F);
+      }
+
+  pub put-end : (k₁ : List Float) (carry : Float) (i : ℕ) → InPut k m t k₀ k₁ carry i → m < i → k₁ ≡ tabulate (m + 1) (knotAt k t k₀) ++ drop (m + 1) k₀
+  put-end k₁ carry i I h =
+      let U = I .upto in
+      let e : i ≡ m + 1 = omega arith in
+      subst (λ (j : ℕ). k₁ ≡ tabulate j (knotAt k t k₀) ++ drop j k₀) e (I .front)
+
+-- what is put into a run is put into its front
+module _ (k : ℕ) (t : Float) (ks xs : List Float) (m : ℕ) (b : k < m) (same : (j : ℕ) → j < m → at xs j ≡ at ks j) where
+  knot-cong : (j : ℕ) → j < m + 1 → knotAt k t xs j ≡ knotAt k t ks j
+  unfolding knotAt
+  knot-cong j l = go (leb j k) refl (eqb j (k + 1)) refl
+    where
+      go : (x : Bool) → leb j k ≡ x → (y : Bool) → eqb j (k + 1) ≡ y → knotAt k t xs j ≡ knotAt k t ks j
+      go true e y f = let h = leb-true j k e in simp e (same j (omega arith))
+      go false e true f = simp (e, f)
+      go false e false f = let h = leb-false j k e in simp (e, f) (same (j - 1) (omega arith))
+
+pub put-front : (k : ℕ) (t : Float) (xs : List Float) (m : ℕ) → k < m → m ≤ length xs → tabulate (m + 1) (knotAt k t xs) ≡ moreKnots k t (take m xs)
+unfolding moreKnots
+put-front k t xs m b l =
+    let e : length (take m xs) ≡ m = simp length-take (omega arith) in
+    tabulate-cong (m + 1) (knotAt k t xs) (knotAt k t (take m xs)) (knot-cong k t (take m xs) xs m b (λ j h. sym (getD-take m xs j nan h)))
+    ∙ ap (λ (i : ℕ). tabulate (i + 1) (knotAt k t (take m xs))) (sym e)
+
+-- the front of a run
+pub front-taken : (n : ℕ) (l d xs : List Float) → length l ≡ n → xs ≡ l ++ d → take n xs ≡ l
+front-taken n l d xs h e = ap (take n) e ∙ take-at l d n h

@@ -1,0 +1,13 @@
+-- `insertion::control::lift_of` meets its contract.
+-- Assumes nothing.
+use borrow.Author.Needs.{needs}
+use Rattle.insertion.specs.Control.{liftOf}
+use Rattle.insertion.proofs.control.lift_of.Statement.{statement}
+use Rattle.insertion.proofs.control.lift_of.Tie as tie
+
+returns : tie.Need-returns
+unfolding liftOf
+returns c = search needs
+
+pub lift-of-spec : {M : Type 1} → statement M
+lift-of-spec = tie.close (tie.spec returns)

@@ -1,0 +1,13 @@
+-- `insertion::counts::larger_of` meets its contract.
+-- Assumes nothing.
+use Rattle.insertion.proofs.counts.larger_of.Statement.{statement}
+use Rattle.insertion.proofs.counts.larger_of.Tie as tie
+
+returns : tie.Need-returns
+returns c = simp (c .if1 .taken)
+
+returns-2 : tie.Need-returns-2
+returns-2 c = simp (c .if1 .left)
+
+pub larger-of-spec : {M : Type 1} → statement M
+larger-of-spec = tie.close (tie.spec returns returns-2)

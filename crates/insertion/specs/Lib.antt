@@ -1,0 +1,7 @@
+pub mod Control
+pub mod Counts
+pub mod Rows
+pub mod Insert
+pub mod Fold
+pub mod Start
+pub mod Whole

@@ -1,0 +1,63 @@
+// What is found by a walk over one run.
+ghost use mathlib.Core.Path.{_≡_};
+ghost use Prim.Native.Nat.{_+_, _<_};
+ghost use Rattle.evaluate.specs.Controls.{larger};
+ghost use Rattle.insertion.specs.Counts.{bit, multiplicityOf, largestOf, allEqual};
+
+// One more where yes.
+fn more(n: usize, yes: bool) -> usize
+    requires { ⌜ n < 18446744073709551615 ⌝ }
+    ensures { λ r. ⌜ r ≡ n + bit yes ⌝ }
+{
+    if yes { n + 1 } else { n }
+}
+
+// How many knots equal t as numbers: -0.0 and 0.0 are one knot.
+pub fn multiplicity(knots: &[f64], t: f64) -> usize
+    ensures { λ r. ⌜ r ≡ multiplicityOf (now (knots .entry)) t ⌝ }
+{
+    let mut n = 0usize;
+    let mut i = 0usize;
+    while i < knots.len() {
+        n = more(n, knots[i] == t);
+        i += 1;
+    }
+    n
+}
+
+// The larger of two, and the first where neither is.
+fn larger_of(a: f64, b: f64) -> f64
+    ensures { λ r. ⌜ r ≡ larger a b ⌝ }
+{
+    if a < b {
+        return b;
+    }
+    a
+}
+
+// The largest weight, and +0.0 where there is none. Weights over it neither overflow nor vanish together.
+pub fn largest(weights: &[f64]) -> f64
+    ensures { λ r. ⌜ r ≡ largestOf (now (weights .entry)) ⌝ }
+{
+    let mut a = 0.0;
+    let mut i = 0usize;
+    while i < weights.len() {
+        a = larger_of(a, weights[i]);
+        i += 1;
+    }
+    a
+}
+
+// Every number of the run equals x as a number.
+pub fn all_equal(xs: &[f64], x: f64) -> bool
+    ensures { λ r. ⌜ r ≡ allEqual (now (xs .entry)) x ⌝ }
+{
+    let mut i = 0usize;
+    while i < xs.len() {
+        if !(xs[i] == x) {
+            return false;
+        }
+        i += 1;
+    }
+    true
+}

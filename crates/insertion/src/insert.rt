@@ -1,0 +1,127 @@
+// Knots inserted into a curve: the public call.
+use crate::answer::EditAnswer;
+use crate::list::insert_all;
+use crate::one::given_count;
+use crate::runs::copy_run;
+use crate::start::insert_start;
+use knots::clear::clear;
+use knots::refusal::Refusal;
+ghost use mathlib.Core.Path.{_≡_};
+ghost use Prim.Native.Nat.{_+_, _*_, _/_, _≤_};
+ghost use lib.ListN.{length};
+ghost use Rattle.knots.specs.Clear.{zeros};
+ghost use Rattle.knots.specs.Curve.{ValidCurve};
+ghost use Rattle.insertion.specs.Rows.{given};
+ghost use Rattle.insertion.specs.Fold.{insertAll, ListMeets};
+ghost use Rattle.insertion.specs.Whole.{givenOf, InsertMeets};
+
+// Three runs at once.
+fn clear_outputs(knots: &mut [f64], points: &mut [f64], weights: &mut [f64])
+    ensures { λ _. ⌜ (now (knots .exit) ≡ zeros (length (now (knots .entry)))) × (now (points .exit) ≡ zeros (length (now (points .entry)))) × (now (weights .exit) ≡ zeros (length (now (weights .entry)))) ⌝ }
+{
+    clear(knots);
+    clear(points);
+    clear(weights);
+}
+
+// The same, and the run that was worked in.
+fn clear_all(knots: &mut [f64], points: &mut [f64], weights: &mut [f64], rows: &mut [f64])
+    ensures { λ _. ⌜ (now (knots .exit) ≡ zeros (length (now (knots .entry)))) × (now (points .exit) ≡ zeros (length (now (points .entry)))) × (now (weights .exit) ≡ zeros (length (now (weights .entry)))) × (now (rows .exit) ≡ zeros (length (now (rows .entry)))) ⌝ }
+{
+    clear_outputs(knots, points, weights);
+    clear(rows);
+}
+
+// The curve goes into cleared runs, and the knots are inserted there.
+fn insert_into(
+    degree: usize,
+    knots: &[f64],
+    points: &[f64],
+    rational: bool,
+    weights: &[f64],
+    inserted: &[f64],
+    out_knots: &mut [f64],
+    out_points: &mut [f64],
+    out_weights: &mut [f64],
+    rows: &mut [f64],
+) -> Refusal
+    requires { ⌜ ValidCurve degree (now knots) (now points) rational (now weights) ⌝ }
+    requires { ⌜ (length (now points) / 3 + length (now inserted) + degree + 1 ≤ length (now «out_knots»)) × (now «out_knots» ≡ zeros (length (now «out_knots»))) ⌝ }
+    requires { ⌜ ((length (now points) / 3 + length (now inserted)) * 3 ≤ length (now «out_points»)) × (now «out_points» ≡ zeros (length (now «out_points»))) ⌝ }
+    requires { ⌜ (given rational (length (now points) / 3 + length (now inserted)) ≤ length (now «out_weights»)) × (now «out_weights» ≡ zeros (length (now «out_weights»))) ⌝ }
+    requires { ⌜ (length (now points) / 3 + length (now inserted)) * 4 ≤ length (now rows) ⌝ }
+    ensures { λ r. ⌜ ListMeets (length (now («out_knots» .entry))) (length (now («out_points» .entry))) (length (now («out_weights» .entry))) (insertAll degree rational (length (now (points .entry)) / 3) (now (knots .entry)) (now (points .entry)) (givenOf rational (now (weights .entry))) (now (inserted .entry))) (now («out_knots» .exit)) (now («out_points» .exit)) (now («out_weights» .exit)) r ⌝ }
+{
+    let n = points.len() / 3;
+    let c = given_count(rational, n);
+    copy_run(knots, out_knots);
+    copy_run(points, out_points);
+    copy_run(&weights[..c], out_weights);
+    insert_all(
+        degree,
+        n,
+        rational,
+        inserted,
+        out_knots,
+        out_points,
+        out_weights,
+        rows,
+    )
+}
+
+// The knots are inserted one by one, and the curve that is formed stands in the three outputs, +0.0 behind it. After a refusal, also one halfway through the list, they are +0.0. Scratch is left +0.0.
+pub fn insert_knots(
+    degree: usize,
+    knots: &[f64],
+    points: &[f64],
+    rational: bool,
+    weights: &[f64],
+    inserted: &[f64],
+    out_knots: &mut [f64],
+    out_points: &mut [f64],
+    out_weights: &mut [f64],
+    scratch: &mut [f64],
+) -> EditAnswer
+    ensures { λ r. ⌜ InsertMeets degree (now (knots .entry)) (now (points .entry)) rational (now (weights .entry)) (now (inserted .entry)) (length (now («out_knots» .entry))) (length (now («out_points» .entry))) (length (now («out_weights» .entry))) (length (now (scratch .entry))) (now («out_knots» .exit)) (now («out_points» .exit)) (now («out_weights» .exit)) (now (scratch .exit)) r ⌝ }
+{
+    let a = out_knots.len();
+    let b = out_points.len();
+    let c = out_weights.len();
+    let d = scratch.len();
+    clear_outputs(out_knots, out_points, out_weights);
+    let early = insert_start(
+        degree,
+        knots,
+        points,
+        rational,
+        weights,
+        inserted,
+        a,
+        b,
+        c,
+        d,
+    );
+    if early.number != 0 {
+        clear(scratch);
+        return EditAnswer::Refused(early);
+    }
+    let refusal = insert_into(
+        degree,
+        knots,
+        points,
+        rational,
+        weights,
+        inserted,
+        out_knots,
+        out_points,
+        out_weights,
+        scratch,
+    );
+    if refusal.number != 0 {
+        clear_all(out_knots, out_points, out_weights, scratch);
+        return EditAnswer::Refused(refusal);
+    }
+    clear(scratch);
+    let count = points.len() / 3 + inserted.len();
+    EditAnswer::Formed { degree, count }
+}

@@ -1,0 +1,10 @@
+// Knots inserted into a curve, in lent runs.
+pub mod answer;
+mod control;
+mod counts;
+pub mod insert;
+mod list;
+mod one;
+mod rows;
+mod runs;
+mod start;
