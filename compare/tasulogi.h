@@ -217,6 +217,18 @@ uint32_t tasulogi_iso_curve(
     size_t weights_n,
     bool constant_u, double t, double *out_points, size_t out_points_n, double *out_weights, size_t out_weights_n);
 
+/* Edits: the curve that is formed goes to the front of the three output runs, +0.0 behind it, and scratch is left
+ * +0.0. After a refusal all four are +0.0. */
+
+/* Knots inserted one after the other, into runs for count + inserted_n points, with scratch of
+ * 10 (count + inserted_n) + 2 (degree + 1) numbers. Refusals: 30 for a run that is too long, those of the curve, 17,
+ * 30 for a lent run, then per knot 13, 14, 19, 20, and 8 of the curve that is formed. */
+uint32_t tasulogi_insert_knots(
+    size_t degree, const double *knots, size_t knots_n, const double *points, size_t points_n, bool rational,
+    const double *weights, size_t weights_n, const double *inserted, size_t inserted_n,
+    double *out_knots, size_t out_knots_n, double *out_points, size_t out_points_n, double *out_weights,
+    size_t out_weights_n, double *scratch, size_t scratch_n);
+
 #ifdef __cplusplus
 }
 #endif

@@ -165,6 +165,20 @@ static void made(void)
     expect(tasulogi_iso_curve(1, 1, ends, 4, ends, 4, 2, 2, points, 12, false, none, 0, true, 1.5, p, 6, w, 2) == 22, "outside");
 }
 
+/* Document 01: inserting 1 into A gives x = 0 2 3 4 6, knots 0 0 0 1 1 2 2 2. */
+static void edits(void)
+{
+    static const double knots[] = { 0, 0, 0, 1, 2, 2, 2 }, points[] = { 0, 0, 0, 2, 0, 0, 4, 0, 0, 6, 0, 0 };
+    static const double one[] = { 1 }, two[] = { 2 }, none[1];
+    double k[8], p[15], w[1], scratch[56];
+    expect(tasulogi_insert_knots(2, knots, 7, points, 12, false, none, 0, one, 1, k, 8, p, 15, w, 0, scratch, 56) == TASULOGI_DONE, "1 into A");
+    expect(same(k[3], 1.0) && same(k[4], 1.0) && same(k[5], 2.0), "its knots");
+    expect(same(p[0], 0.0) && same(p[3], 2.0) && same(p[6], 3.0) && same(p[9], 4.0) && same(p[12], 6.0), "its points");
+    expect(same(scratch[0], 0.0) && same(scratch[55], 0.0), "scratch");
+    expect(tasulogi_insert_knots(2, knots, 7, points, 12, false, none, 0, two, 1, k, 8, p, 15, w, 0, scratch, 56) == 13 && same(k[7], 0.0), "an end");
+    expect(tasulogi_insert_knots(2, knots, 7, points, 12, false, none, 0, one, 1, k, 8, p, 15, w, 0, scratch, 55) == 30, "no scratch");
+}
+
 int main(void)
 {
     doubles();
@@ -175,6 +189,7 @@ int main(void)
     boxes();
     evaluations();
     made();
+    edits();
     printf("C: %d passed, %d failed\n", passed, failed);
     return failed != 0;
 }

@@ -30,18 +30,22 @@ unsafe extern "C" {
     );
 }
 
-/// Functions that take a table in the parts named, then numbers, then lent runs; callers hand over table and runs whole.
+/// Functions that take a table in the parts named, then numbers, runs that are read, and lent runs; callers hand over
+/// table and runs whole.
 macro_rules! exported {
-    ($table:tt $(fn $name:ident $takes:tt $(lends $($out:ident),+)?;)*) => {
-        $(exported! { @one $table $name $takes $($($out)+)? })*
+    ($table:tt $(fn $name:ident $takes:tt $(reads $read:ident)? $(lends $($out:ident),+)?;)*) => {
+        $(exported! { @one $table $name $takes ($($read)?) $($($out)+)? })*
     };
-    (@one ($($t:ident: $table:ty => $($part:expr, $kind:ty;)*)?) $name:ident ($($x:ident: $number:ty),*) $($out:ident)*) => {
+    (@one ($($t:ident: $table:ty => $($part:expr, $kind:ty;)*)?) $name:ident ($($x:ident: $number:ty),*) ($($read:ident)?)
+        $($out:ident)*) => {
         #[inline]
-        pub fn $name($($t: $table,)? $($x: $number,)* $($out: &mut [f64],)*) -> u32 {
+        pub fn $name($($t: $table,)? $($x: $number,)* $($read: &[f64],)? $($out: &mut [f64],)*) -> u32 {
             unsafe extern "C" {
-                fn $name($($(_: $kind,)*)? $($x: $number,)* $($out: *mut f64, _: usize,)*) -> u32;
+                fn $name(
+                    $($(_: $kind,)*)? $($x: $number,)* $($read: *const f64, _: usize,)? $($out: *mut f64, _: usize,)*
+                ) -> u32;
             }
-            unsafe { $name($($($part,)*)? $($x,)* $($out.as_mut_ptr(), $out.len(),)*) }
+            unsafe { $name($($($part,)*)? $($x,)* $($read.as_ptr(), $read.len(),)? $($out.as_mut_ptr(), $out.len(),)*) }
         }
     };
 }
@@ -75,6 +79,7 @@ exported! {
     fn tasulogi_eval_at(t: f64) lends out;
     fn tasulogi_eval2(t: f64) lends out;
     fn tasulogi_reversed() lends knots, points, weights;
+    fn tasulogi_insert_knots() reads inserted lends knots, points, weights, scratch;
 }
 
 exported! {

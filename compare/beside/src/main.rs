@@ -73,9 +73,10 @@ fn main() -> ExitCode {
 
 /// Writes stdin and stdout of the program crate replay_NAME.
 fn write_list(m: &Module, crates: &Path) -> ExitCode {
+    let Some(list) = m.list else { return ExitCode::SUCCESS };
     let folder = crates.join(format!("replay_{}", m.name));
     let (mut stdin, mut stdout) = (Vec::new(), Vec::new());
-    let done = (m.list)(&mut stdin, &mut stdout)
+    let done = list(&mut stdin, &mut stdout)
         .and_then(|()| std::fs::write(folder.join("stdin"), &stdin))
         .and_then(|()| std::fs::write(folder.join("stdout"), &stdout));
     match done {

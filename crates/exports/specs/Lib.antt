@@ -3,3 +3,4 @@ pub mod Intervals
 pub mod Tables
 pub mod Boxes
 pub mod Points
+pub mod Edits

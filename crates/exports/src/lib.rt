@@ -1,6 +1,7 @@
 // The C face of the libraries: numbers and lent runs in, a number and filled runs out.
 pub mod answer;
 pub mod boxes;
+pub mod edits;
 pub mod floats;
 pub mod intervals;
 pub mod made;

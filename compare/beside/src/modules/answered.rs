@@ -3,6 +3,19 @@ use super::Desk;
 use crate::lent::Match;
 use crate::rng::Rng;
 use crate::tables::{class_agrees, hex};
+use oracle::{BCurve, Point3};
+
+pub fn point(p: Point3) -> [u64; 3] {
+    [p.x, p.y, p.z].map(f64::to_bits)
+}
+
+pub fn words(run: &[f64]) -> Vec<u64> {
+    run.iter().map(|x| x.to_bits()).collect()
+}
+
+pub fn coordinates(c: &BCurve) -> Vec<u64> {
+    c.points().iter().flat_map(|p| point(*p)).collect()
+}
 
 pub enum Wanted {
     /// What each lent run has to start with.

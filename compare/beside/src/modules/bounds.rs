@@ -35,7 +35,7 @@ pub const MODULE: Module = Module {
     features: &FEATURES,
     default_cases: 2_200_000,
     case,
-    list: list::write,
+    list: Some(list::write),
     bench: bench::table,
 };
 

@@ -29,7 +29,7 @@ pub const MODULE: Module = Module {
     features: &FEATURES,
     default_cases: 2_000_000,
     case,
-    list: list::write,
+    list: Some(list::write),
     bench: bench::table,
 };
 

@@ -21,7 +21,7 @@ pub const MODULE: Module = Module {
     features: &[],
     default_cases: 10_000_000,
     case,
-    list: list::write,
+    list: Some(list::write),
     bench: bench::table,
 };
 

@@ -6,6 +6,7 @@ use std::io::{Result, Write};
 
 mod answered;
 mod bounds;
+mod edits;
 mod evaluate;
 mod interval;
 mod knots;
@@ -22,9 +23,12 @@ pub struct Place {
 /// What a thread makes and compares its cases with.
 pub struct Desk {
     pub r: Rng,
-    pub lent: [Lent; 3],
+    pub lent: [Lent; 4],
     pub tally: Tally,
 }
+
+/// Writes a list and what its reader prints.
+pub type List = fn(&mut dyn Write, &mut dyn Write) -> Result<()>;
 
 pub struct Module {
     pub name: &'static str,
@@ -36,10 +40,10 @@ pub struct Module {
     pub default_cases: u64,
     /// Makes a case and compares it; its text where it differs.
     pub case: fn(Place, &mut Desk) -> Option<String>,
-    /// Writes the list that `crates/replay_NAME` reads, and the lines that it then has to print.
-    pub list: fn(&mut dyn Write, &mut dyn Write) -> Result<()>,
+    /// Writes the list that `crates/replay_NAME` reads, where there is one, and the lines that it then has to print.
+    pub list: Option<List>,
     /// Prints times against the Rust, the best of so many rounds.
     pub bench: fn(u32),
 }
 
-pub const ALL: [Module; 4] = [interval::MODULE, knots::MODULE, evaluate::MODULE, bounds::MODULE];
+pub const ALL: [Module; 5] = [interval::MODULE, knots::MODULE, evaluate::MODULE, bounds::MODULE, edits::MODULE];

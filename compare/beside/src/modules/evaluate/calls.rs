@@ -1,10 +1,10 @@
 //! The calls: what the Rust answers, and the exported functions.
 use super::{CARE, SURFACE_CARE};
 use crate::face::*;
-use crate::modules::answered::Wanted;
+use crate::modules::answered::{Wanted, coordinates, point, words};
 use crate::rng::Rng;
 use crate::tables::{Curve, Surface, make, packed};
-use oracle::{BCurve, Point3, Vec3, refusal};
+use oracle::{Vec3, refusal};
 
 #[derive(Clone, Copy, PartialEq, Eq)]
 pub enum Order {
@@ -25,24 +25,12 @@ pub struct SurfaceCase {
     pub v: f64,
 }
 
-fn point(p: Point3) -> [u64; 3] {
-    [p.x, p.y, p.z].map(f64::to_bits)
-}
-
 fn vector(v: Vec3) -> [u64; 3] {
     [v.x, v.y, v.z].map(f64::to_bits)
 }
 
 fn run(parts: &[[u64; 3]]) -> Wanted {
     Wanted::Runs(vec![parts.concat()])
-}
-
-fn words(run: &[f64]) -> Vec<u64> {
-    run.iter().map(|x| x.to_bits()).collect()
-}
-
-fn coordinates(c: &BCurve) -> Vec<u64> {
-    c.points().iter().flat_map(|p| point(*p)).collect()
 }
 
 impl CurveCase {

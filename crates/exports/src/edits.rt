@@ -1,0 +1,50 @@
+// Edits of a curve. The output runs hold the curve that is formed, or +0.0; scratch is left +0.0.
+use crate::tables::packed;
+use insertion::answer::EditAnswer;
+use insertion::insert::insert_knots;
+ghost use Prim.Native.Nat.{_+_};
+ghost use mathlib.Core.Path.{_≡_};
+ghost use lib.ListN.{length};
+ghost use Rattle.knots.specs.Curve.{countOf};
+ghost use Rattle.insertion.specs.Whole.{answerOf, insertOutcome, InsertMeets};
+ghost use Rattle.exports.specs.Edits.{editNumber};
+
+fn edit_number(a: EditAnswer) -> u32
+    ensures { λ n. ⌜ n ≡ editNumber a ⌝ }
+{
+    match a {
+        EditAnswer::Formed { degree, count } => 0,
+        EditAnswer::Refused(r) => packed(r),
+    }
+}
+
+// Knots inserted into a curve, one after the other.
+#[no_mangle]
+pub extern "C" fn tasulogi_insert_knots(
+    degree: usize,
+    knots: &[f64],
+    points: &[f64],
+    rational: bool,
+    weights: &[f64],
+    inserted: &[f64],
+    out_knots: &mut [f64],
+    out_points: &mut [f64],
+    out_weights: &mut [f64],
+    scratch: &mut [f64],
+) -> u32
+    ensures { λ n. ⌜ n ≡ editNumber (answerOf degree (countOf (now (points .entry)) + length (now (inserted .entry))) (insertOutcome degree (now (knots .entry)) (now (points .entry)) rational (now (weights .entry)) (now (inserted .entry)) (length (now («out_knots» .entry))) (length (now («out_points» .entry))) (length (now («out_weights» .entry))) (length (now (scratch .entry))))) ⌝ }
+    ensures { λ n. ⌜ InsertMeets degree (now (knots .entry)) (now (points .entry)) rational (now (weights .entry)) (now (inserted .entry)) (length (now («out_knots» .entry))) (length (now («out_points» .entry))) (length (now («out_weights» .entry))) (length (now (scratch .entry))) (now («out_knots» .exit)) (now («out_points» .exit)) (now («out_weights» .exit)) (now (scratch .exit)) (answerOf degree (countOf (now (points .entry)) + length (now (inserted .entry))) (insertOutcome degree (now (knots .entry)) (now (points .entry)) rational (now (weights .entry)) (now (inserted .entry)) (length (now («out_knots» .entry))) (length (now («out_points» .entry))) (length (now («out_weights» .entry))) (length (now (scratch .entry))))) ⌝ }
+{
+    edit_number(insert_knots(
+        degree,
+        knots,
+        points,
+        rational,
+        weights,
+        inserted,
+        out_knots,
+        out_points,
+        out_weights,
+        scratch,
+    ))
+}
