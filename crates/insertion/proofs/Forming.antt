@@ -23,16 +23,17 @@ use Rattle.knots.proofs.Below.{and-true, and-left, and-right, all-at, all-in}
 use Rattle.knots.proofs.Refusals.{passed, stop, skip}
 use Rattle.basis.specs.Basis.{tabulate}
 use Rattle.basis.proofs.Whole.{length-tabulate, at-tabulate}
-use Rattle.evaluate.specs.Controls.{pointOf}
+use Rattle.evaluate.specs.Controls.{pointOf, finiteVector}
 use Rattle.evaluate.specs.declared.vector.Vector.{Vector}
 use Rattle.evaluate.proofs.IsoCurves.{Within, span-found}
 use Rattle.insertion.specs.Control.{isLifted, isBlended, shareOf, blendOf, lowerOf}
 use Rattle.insertion.specs.Counts.{multiplicityOf}
-use Rattle.insertion.specs.Rows.{rowOf, liftAll, blendAt, axis, lowerAt, weightIn, given, LiftDone, LowerDone}
-use Rattle.insertion.specs.Insert.{knotAt, moreKnots, inside, spotRefusal, lifted, blended, morePoints, moreWeights, formRefusal, Formed, pointRefusal, KnotPut, insertedKnots, insertedPoints, insertedWeights, insertRefusal, Inserted}
+use Rattle.insertion.specs.Rows.{rowOf, liftAll, blendAt, axis, lowerAt, weightIn, given, lowerRefusal, LiftDone, LowerDone}
+use Rattle.insertion.specs.Insert.{knotAt, moreKnots, inside, spotRefusal, lifted, blended, morePoints, moreWeights, formRefusal, Formed, insertedKnots, insertedPoints, insertedWeights, insertRefusal, Inserted}
 use Rattle.insertion.specs.declared.control.Control.{Control}
 use Rattle.insertion.proofs.Grown.{grown-valid, controls-left}
-use Rattle.insertion.proofs.Storing.{tabulate-cong, put-front, front-taken}
+use Rattle.insertion.proofs.RowLoops.{lower-is}
+use Rattle.insertion.proofs.Storing.{tabulate-cong, put-front}
 
 -- ---- how many weights
 pub given-room : (g : Bool) (m l : ℕ) → given g m ≤ l → g ≡ true → m ≤ l
@@ -69,42 +70,66 @@ module _ (p k s : ℕ) (t : Float) (ks : List Float) (f h : ℕ → Control) (n 
           simp (X, Y) (ap₂ (λ (a c : Control). blendOf a c (shareOf t (at ks i) (at ks (i + p)))) (e (i - 1) (omega arith)) (e i (omega arith)))
       go false X false Y = let b = leb-false i (k - p) X in simp (X, Y) (e (i - 1) (omega arith))
 
-lower-cong : (o : Vector) (g : Bool) (f h : ℕ → Control) (m : ℕ) (p₀ w₀ p₁ w₁ : List Float) (r : Bool) → ((i : ℕ) → i < m → f i ≡ h i)
+lower-cong : (o : Vector) (g : Bool) (f h : ℕ → Control) (m : ℕ) (p₀ w₀ p₁ w₁ : List Float) (r : Refusal) → ((i : ℕ) → i < m → f i ≡ h i)
     → LowerDone o g f m p₀ w₀ p₁ w₁ r → LowerDone o g h m p₀ w₀ p₁ w₁ r
-unfolding lowerAt
+unfolding lowerAt lowerRefusal
 lower-cong o g f h m p₀ w₀ p₁ w₁ r e D = record {
-  answer = D .answer ∙ all-cong (λ i. isBlended (f i)) (λ i. isBlended (h i)) m (λ i l. ap isBlended (e i l));
+  answer = D .answer ∙ ap₂ (λ (x y : Bool). cond (not x) (refuse edit-bad) (cond (not y) (refuse point-not-finite) accepted))
+      (all-cong (λ i. isBlended (f i)) (λ i. isBlended (h i)) m (λ i l. ap isBlended (e i l)))
+      (all-cong (λ i. finiteVector (lowerOf o (f i))) (λ i. finiteVector (lowerOf o (h i))) m (λ i l. ap (λ (q : Control). finiteVector (lowerOf o q)) (e i l)));
   points = λ z. D .points z ∙ ap (λ (l : List Float). l ++ drop (m * 3) p₀)
       (tabulate-cong (m * 3) (lowerAt o f) (lowerAt o h) (λ j l. ap (λ (q : Control). axis (j % 3) (lowerOf o q)) (e (j / 3) (omega arith))));
   weights = λ z. D .weights z ∙ ap (λ (l : List Float). l ++ drop (given g m) w₀)
       (tabulate-cong (given g m) (weightIn f) (weightIn h) (λ j l. ap (λ (q : Control). q .w) (e j (omega (arith, given-below g m)))));
 }
 
--- ---- one of three refusals
-module _ (a b : Bool) (x y z r : Refusal) where
-  first-of : a ≡ false → r ≡ x → r ≡ cond (not a) x (cond (not b) y z)
-  first-of A e = simp A e
+-- ---- one refusal after the other
+first-of : (a b : Bool) (x y z r : Refusal) → a ≡ false → r ≡ x → r ≡ cond (not a) x (cond (not b) y z)
+first-of a b x y z r A e = simp A e
 
-  second-of : a ≡ true → b ≡ false → r ≡ y → r ≡ cond (not a) x (cond (not b) y z)
-  second-of A B e = simp (A, B) e
+joined : (a b c : Bool) (x y u z r : Refusal) → a ≡ true → (b ≡ true → cond (not c) u accepted ≡ z) → r ≡ cond (not b) y (cond (not c) u accepted) → r ≡ cond (not a) x (cond (not b) y z)
+joined true true c x y u z r A h e = e ∙ h refl
+joined true false c x y u z r A h e = e
+joined false b c x y u z r A h e = let q : _≡_ {A = ℕ} 0 1 = cc in absurd (omega arith)
 
-  third-of : a ≡ true → b ≡ true → r ≡ z → r ≡ cond (not a) x (cond (not b) y z)
-  third-of A B e = simp (A, B) e
+-- ---- points are finite where their coordinates are
+agree : (a b : Bool) → (a ≡ true → b ≡ true) → (b ≡ true → a ≡ true) → a ≡ b
+agree true b f h = sym (f refl)
+agree false true f h = h refl
+agree false false f h = refl
 
--- ---- the knot is put and the points are checked
-pub knot-put : (p n k : ℕ) (t : Float) (k₀ k₁ p₁ : List Float) (r : Refusal)
-    → k₁ ≡ tabulate (n + p + 1 + 1) (knotAt k t k₀) ++ drop (n + p + 1 + 1) k₀ → r ≡ pointRefusal (take ((n + 1) * 3) p₁) → KnotPut p n k t k₀ k₁ p₁ r
-knot-put p n k t k₀ k₁ p₁ r E R =
-    let e : n + p + 1 + 1 ≡ n + 1 + p + 1 = omega arith in
-    record { knots = subst (λ (i : ℕ). k₁ ≡ tabulate i (knotAt k t k₀) ++ drop i k₀) e E; refusal = R }
+axis-finite : (v : Vector) (r : ℕ) → finiteVector v ≡ true → finite (axis r v) ≡ true
+unfolding finiteVector
+axis-finite v zero h = and-left (finite (v .x)) _ h
+axis-finite v (suc zero) h = and-left (finite (v .y)) _ (and-right (finite (v .x)) _ h)
+axis-finite v (suc (suc r)) h = and-right (finite (v .y)) _ (and-right (finite (v .x)) _ h)
 
-pub points-bad : (ps : List Float) (r : Refusal) → allFinite ps ≡ false → r ≡ refuse point-not-finite → r ≡ pointRefusal ps
-unfolding pointRefusal
-points-bad ps r h e = simp h e
+points-finite : (o : Vector) (h : ℕ → Control) (m : ℕ) → allFinite (tabulate (m * 3) (lowerAt o h)) ≡ allBelow (λ i. finiteVector (lowerOf o (h i))) m
+unfolding allFinite finiteVector lowerAt
+points-finite o h m = agree _ _ (λ e. all-in (λ i. finiteVector (lowerOf o (h i))) m (λ i l. rows e i l)) (λ e. all-in places (length run) (λ j l. coordinates e j l))
+  where
+    run : List Float
+    run = tabulate (m * 3) (lowerAt o h)
 
-pub points-good : (ps : List Float) (r : Refusal) → allFinite ps ≡ true → r ≡ accepted → r ≡ pointRefusal ps
-unfolding pointRefusal
-points-good ps r h e = simp h e
+    long : length run ≡ m * 3
+    long = length-tabulate (m * 3) (lowerAt o h)
+
+    places : ℕ → Bool
+    places j = finite (at run j)
+
+    one : allBelow places (length run) ≡ true → (i : ℕ) → i < m → (r : ℕ) → r < 3 → (j : ℕ) → j ≡ i * 3 + r → finite (axis r (lowerOf o (h i))) ≡ true
+    one e i l r b j J =
+        let a : j < m * 3 = omega arith in
+        ap finite (lower-is o h i r j (omega arith) (omega arith) ∙ sym (at-tabulate (m * 3) (lowerAt o h) j a)) ∙ all-at places (length run) e j (omega (arith, long))
+
+    rows : allBelow places (length run) ≡ true → (i : ℕ) → i < m → finiteVector (lowerOf o (h i)) ≡ true
+    rows e i l =
+        and-true _ _ (one e i l 0 (omega arith) (i * 3 + 0) refl) (and-true _ _ (one e i l 1 (omega arith) (i * 3 + 1) refl) (one e i l 2 (omega arith) (i * 3 + 2) refl))
+
+    coordinates : allBelow (λ i. finiteVector (lowerOf o (h i))) m ≡ true → (j : ℕ) → j < length run → places j ≡ true
+    coordinates e j l =
+        let a : j < m * 3 = omega (arith, long) in
+        ap finite (at-tabulate (m * 3) (lowerAt o h) j a) ∙ axis-finite (lowerOf o (h (j / 3))) (j % 3) (all-at (λ i. finiteVector (lowerOf o (h i))) m e (j / 3) (omega arith))
 
 -- ---- what 20 lets pass has a weight: 9 and 10 are never given
 weight-is : (q : Control) → isBlended q ≡ true → isWeight (q .w) ≡ true
@@ -116,8 +141,8 @@ weight-is q h =
     let c = and-right (finite (q .z)) (not (le (q .w) zero+)) b in
     and-true (finite (q .w)) _ f (le-fails (q .w) zero+ f refl (not-true _ c))
 
-points-left : (n : ℕ) (ps : List Float) (g : Bool) (h : ℕ → Control) → allBelow (λ i. isBlended (h i)) n ≡ true → pointRefusal ps ≡ controlRefusal n ps g (tabulate (given g n) (weightIn h))
-unfolding pointRefusal controlRefusal allWeights
+points-left : (n : ℕ) (ps : List Float) (g : Bool) (h : ℕ → Control) → allBelow (λ i. isBlended (h i)) n ≡ true → cond (not (allFinite ps)) (refuse point-not-finite) accepted ≡ controlRefusal n ps g (tabulate (given g n) (weightIn h))
+unfolding controlRefusal allWeights
 points-left n ps true h B =
     let l = length-tabulate n (weightIn h) in
     let w : allBelow (λ k. isWeight (at (tabulate n (weightIn h)) k)) (length (tabulate n (weightIn h))) ≡ true =
@@ -162,39 +187,39 @@ module _ (p n k s : ℕ) (t : Float) (k₀ p₀ : List Float) (g : Bool) (w₀ :
         no : r .number ≡ 0 → ⊥
         no z = let q : _≡_ {A = ℕ} 19 0 = sym (ap (λ (x : Refusal). x .number) e) ∙ z in omega arith
 
-    module _ (T : a ≡ true) (S : s ≤ p) (P : p ≤ k) (K : k < n) (p₁ w₁ : List Float) (b : Bool) (B : LowerDone o g (blendAt p k s t KS (rowOf r₁)) (n + 1) p₀ w₀ p₁ w₁ b) where
-      lower-done : LowerDone (pointOf PS 0) g (blended p n k s t KS PS g WS) (n + 1) p₀ w₀ p₁ w₁ b
-      lower-done = lower-cong (pointOf PS 0) g (blendAt p k s t KS (rowOf r₁)) (blended p n k s t KS PS g WS) (n + 1) p₀ w₀ p₁ w₁ b
-          (blend-cong p k s t KS (rowOf r₁) (lifted p n k s t KS PS g WS) n S P K (lift-done .rows T)) (subst (λ (x : Vector). LowerDone x g (blendAt p k s t KS (rowOf r₁)) (n + 1) p₀ w₀ p₁ w₁ b) O B)
+    module _ (T : a ≡ true) (S : s ≤ p) (P : p ≤ k) (K : k < n) (v : ValidKnots p (n + 1) (moreKnots k t KS)) (p₁ w₁ : List Float) (r : Refusal)
+        (B : LowerDone o g (blendAt p k s t KS (rowOf r₁)) (n + 1) p₀ w₀ p₁ w₁ r) where
+      lower-done : LowerDone (pointOf PS 0) g (blended p n k s t KS PS g WS) (n + 1) p₀ w₀ p₁ w₁ r
+      lower-done = lower-cong (pointOf PS 0) g (blendAt p k s t KS (rowOf r₁)) (blended p n k s t KS PS g WS) (n + 1) p₀ w₀ p₁ w₁ r
+          (blend-cong p k s t KS (rowOf r₁) (lifted p n k s t KS PS g WS) n S P K (lift-done .rows T)) (subst (λ (x : Vector). LowerDone x g (blendAt p k s t KS (rowOf r₁)) (n + 1) p₀ w₀ p₁ w₁ r) O B)
 
-      pub form-20 : b ≡ false → (r : Refusal) → r ≡ refuse edit-bad → (k₁ : List Float) → Formed p n k s t KS PS g WS k₀ p₀ w₀ k₁ p₁ w₁ r
-      unfolding formRefusal
-      form-20 F r e k₁ = record {
-        refusal = second-of all-lifted all-blended (refuse control-bad) (refuse edit-bad) checked r (sym (lift-done .answer) ∙ T) (sym (lower-done .answer) ∙ F) e;
-        knots = λ z. absurd (no z);
-        points = λ z. absurd (no z);
-        weights = λ z. absurd (no z);
-      }
-        where
-          no : r .number ≡ 0 → ⊥
-          no z = let q : _≡_ {A = ℕ} 20 0 = sym (ap (λ (x : Refusal). x .number) e) ∙ z in omega arith
+      abbrev all-fine : Bool
+      all-fine = allBelow (λ i. finiteVector (lowerOf (pointOf PS 0) (blended p n k s t KS PS g WS i))) (n + 1)
 
-      pub form-end : b ≡ true → n + p + 1 ≤ length k₀ → ValidKnots p (n + 1) (moreKnots k t KS) → (r : Refusal) (k₁ : List Float) → KnotPut p n k t k₀ k₁ p₁ r → Formed p n k s t KS PS g WS k₀ p₀ w₀ k₁ p₁ w₁ r
-      unfolding formRefusal morePoints moreWeights
-      form-end F l v r k₁ U =
+      left : all-blended ≡ true → cond (not all-fine) (refuse point-not-finite) accepted ≡ checked
+      unfolding morePoints moreWeights
+      left h =
+          ap (λ (x : Bool). cond (not x) (refuse point-not-finite) accepted) (sym (points-finite (pointOf PS 0) (blended p n k s t KS PS g WS) (n + 1)))
+          ∙ (points-left (n + 1) (morePoints p n k s t KS PS g WS) g (blended p n k s t KS PS g WS) h
+          ∙ controls-left p (n + 1) (moreKnots k t KS) (morePoints p n k s t KS PS g WS) g (moreWeights p n k s t KS PS g WS) v)
+
+      refusal-is : r ≡ formRefusal p n k s t KS PS g WS
+      unfolding formRefusal lowerRefusal
+      refusal-is = joined all-lifted all-blended all-fine (refuse control-bad) (refuse edit-bad) (refuse point-not-finite) checked r (sym (lift-done .answer) ∙ T) left (lower-done .answer)
+
+      pub form-late : (r .number ≡ 0 → ⊥) → (k₁ : List Float) → Formed p n k s t KS PS g WS k₀ p₀ w₀ k₁ p₁ w₁ r
+      form-late h k₁ = record { refusal = refusal-is; knots = λ z. absurd (h z); points = λ z. absurd (h z); weights = λ z. absurd (h z) }
+
+      pub form-end : n + p + 1 ≤ length k₀ → (k₁ : List Float) → k₁ ≡ tabulate (n + p + 1 + 1) (knotAt k t k₀) ++ drop (n + p + 1 + 1) k₀ → Formed p n k s t KS PS g WS k₀ p₀ w₀ k₁ p₁ w₁ r
+      unfolding morePoints moreWeights
+      form-end l k₁ E =
           let e : n + p + 1 + 1 ≡ n + 1 + p + 1 = omega arith in
-          let m : tabulate (n + 1 + p + 1) (knotAt k t k₀) ≡ moreKnots k t KS = subst (λ (i : ℕ). tabulate i (knotAt k t k₀) ≡ moreKnots k t KS) e (put-front k t k₀ (n + p + 1) (omega arith) l) in
-          let x : k₁ ≡ moreKnots k t KS ++ drop (n + 1 + p + 1) k₀ = U .knots ∙ ap (λ (i : List Float). i ++ drop (n + 1 + p + 1) k₀) m in
-          let y = lower-done .points F in
-          let z = lower-done .weights F in
-          let py = front-taken ((n + 1) * 3) _ _ p₁ (length-tabulate ((n + 1) * 3) _) y in
+          let m = put-front k t k₀ (n + p + 1) (omega arith) l in
           record {
-            refusal = third-of all-lifted all-blended (refuse control-bad) (refuse edit-bad) checked r (sym (lift-done .answer) ∙ T) (sym (lower-done .answer) ∙ F)
-                (U .refusal ∙ (ap pointRefusal py ∙ (points-left (n + 1) (morePoints p n k s t KS PS g WS) g (blended p n k s t KS PS g WS) (sym (lower-done .answer) ∙ F)
-                ∙ controls-left p (n + 1) (moreKnots k t KS) (morePoints p n k s t KS PS g WS) g (moreWeights p n k s t KS PS g WS) v)));
-            knots = λ h. x;
-            points = λ h. y;
-            weights = λ h. z;
+            refusal = refusal-is;
+            knots = λ h. E ∙ ap₂ (λ (x : List Float) (i : ℕ). x ++ drop i k₀) m e;
+            points = lower-done .points;
+            weights = lower-done .weights;
           }
 
 -- ---- the whole

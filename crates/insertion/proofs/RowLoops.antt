@@ -1,10 +1,11 @@
 -- Loops over the controls of a curve: what is there after so many turns.
 -- Assumes nothing.
 use Prim.Native.Nat.{ℕ, _+_, _-_, _*_, _/_, _%_, _≤_, _<_}
-use mathlib.Core.Bool.{Bool, true, false, cond}
+use mathlib.Core.Bool.{Bool, true, false, cond, _&&_}
 use mathlib.Core.Path.{_≡_, refl, sym, _∙_, ap, ap₂, subst}
 use mathlib.Core.List.{List, _++_}
 use native.Mathlib.Omega.{arith}
+use native.Mathlib.Numerals.{add-one}
 use borrow.Author.Count.{below-more}
 use borrow.Author.Tests.{le-leb, lt-leb}
 use lib.ListN.{length, set, drop, length-set}
@@ -12,13 +13,15 @@ use lib.Seq.{getD-set-same, getD-set-other}
 use lib.Ieee.{Float, nan}
 use Rattle.doubles.specs.Run.{at}
 use Rattle.knots.specs.Below.{allBelow}
-use Rattle.knots.proofs.Below.{all-none, all-more, all-stops, all-end}
+use Rattle.knots.specs.Refusal.{refuse, accepted, edit-bad, point-not-finite}
+use Rattle.knots.specs.declared.refusal.Refusal.{Refusal}
+use Rattle.knots.proofs.Below.{all-none, all-more, all-fails, all-stops, all-end}
 use Rattle.basis.specs.Basis.{tabulate}
-use Rattle.evaluate.specs.Controls.{pointOf, weightOf}
+use Rattle.evaluate.specs.Controls.{pointOf, weightOf, finiteVector}
 use Rattle.evaluate.specs.declared.vector.Vector.{Vector}
 use Rattle.evaluate.proofs.Overlays.{store-none, store-more}
 use Rattle.insertion.specs.Control.{liftOf, isLifted, isBlended, shareOf, blendOf, lowerOf}
-use Rattle.insertion.specs.Rows.{rowOf, liftAt, blendAt, axis, lowerAt, weightIn, given, LiftDone, LowerDone}
+use Rattle.insertion.specs.Rows.{rowOf, liftAt, blendAt, axis, lowerAt, weightIn, given, lowerRefusal, LiftDone, LowerDone}
 use Rattle.insertion.specs.declared.control.Control.{Control}
 
 -- ---- four stores in a row
@@ -122,17 +125,22 @@ module _ (h : ℕ → Control) (n : ℕ) (r₀ : List Float) where
   }
 
 -- ---- and back: i points and weights are there
-pub record InLower (o : Vector) (g : Bool) (h : ℕ → Control) (m : ℕ) (p₀ w₀ p₁ w₁ : List Float) (i : ℕ) : Type 0 where
+pub record InLower (o : Vector) (g : Bool) (h : ℕ → Control) (m : ℕ) (p₀ w₀ p₁ w₁ : List Float) (a : Bool) (i : ℕ) : Type 0 where
   pub upto : i ≤ m
   pub good : allBelow (λ j. isBlended (h j)) i ≡ true
+  pub fine : a ≡ allBelow (λ j. finiteVector (lowerOf o (h j))) i
   pub long-points : length p₁ ≡ length p₀
   pub long-weights : length w₁ ≡ length w₀
   pub points : p₁ ≡ tabulate (i * 3) (lowerAt o h) ++ drop (i * 3) p₀
   pub weights : w₁ ≡ tabulate (given g i) (weightIn h) ++ drop (given g i) w₀
 
-lower-is : (o : Vector) (h : ℕ → Control) (k r i : ℕ) → i / 3 ≡ k → i % 3 ≡ r → axis r (lowerOf o (h k)) ≡ lowerAt o h i
+pub lower-is : (o : Vector) (h : ℕ → Control) (k r i : ℕ) → i / 3 ≡ k → i % 3 ≡ r → axis r (lowerOf o (h k)) ≡ lowerAt o h i
 unfolding lowerAt
 lower-is o h k r i K R = ap₂ (λ (x y : ℕ). axis y (lowerOf o (h x))) (sym K) (sym R)
+
+all-next : (f : ℕ → Bool) (i : ℕ) (a b : Bool) → a ≡ allBelow f i → b ≡ f i → (a && b) ≡ allBelow f (i + 1)
+unfolding allBelow
+all-next f i a b A B = rw add-one (ap₂ (λ (x y : Bool). x && y) A B)
 
 weights-none : (g : Bool) (f : ℕ → Float) (d : List Float) → d ≡ tabulate (given g 0) f ++ drop (given g 0) d
 weights-none true f d = store-none f d
@@ -148,28 +156,33 @@ weights-long true i xs x = length-set xs i x
 weights-long false i xs x = refl
 
 module _ (o : Vector) (g : Bool) (h : ℕ → Control) (m : ℕ) (p₀ w₀ : List Float) where
-  pub lower-start : InLower o g h m p₀ w₀ p₀ w₀ 0
+  pub lower-start : InLower o g h m p₀ w₀ p₀ w₀ true 0
   lower-start = record {
     upto = omega arith;
     good = all-none (λ j. isBlended (h j));
+    fine = sym (all-none (λ j. finiteVector (lowerOf o (h j))));
     long-points = refl;
     long-weights = refl;
     points = store-none (lowerAt o h) p₀;
     weights = weights-none g (weightIn h) w₀;
   }
 
-  module _ (p₁ w₁ : List Float) (i : ℕ) (I : InLower o g h m p₀ w₀ p₁ w₁ i) (b : i < m) (q : Control) (Q : q ≡ h i) where
-    pub lower-stop : isBlended q ≡ false → LowerDone o g h m p₀ w₀ p₁ w₁ false
-    lower-stop e = record {
-      answer = all-stops (λ j. isBlended (h j)) m i b (ap isBlended (sym Q) ∙ e);
-      points = λ z. let y : _≡_ {A = ℕ} 0 1 = cc in absurd (omega arith);
-      weights = λ z. let y : _≡_ {A = ℕ} 0 1 = cc in absurd (omega arith);
+  module _ (p₁ w₁ : List Float) (a : Bool) (i : ℕ) (I : InLower o g h m p₀ w₀ p₁ w₁ a i) (b : i < m) (q : Control) (Q : q ≡ h i) where
+    pub lower-stop : isBlended q ≡ false → (r : Refusal) → r ≡ refuse edit-bad → LowerDone o g h m p₀ w₀ p₁ w₁ r
+    unfolding lowerRefusal
+    lower-stop e r R = record {
+      answer = simp (all-fails (λ j. isBlended (h j)) m i b (ap isBlended (sym Q) ∙ e)) R;
+      points = λ z. absurd (no z);
+      weights = λ z. absurd (no z);
     }
+      where
+        no : r .number ≡ 0 → ⊥
+        no z = let y : _≡_ {A = ℕ} 20 0 = sym (ap (λ (x : Refusal). x .number) R) ∙ z in omega arith
 
     pub lower-more : m * 3 ≤ length p₀ → (g ≡ true → m ≤ length w₀) → isBlended q ≡ true → (v : Vector) → v ≡ lowerOf o q
-        → (p₂ w₂ : List Float) → p₂ ≡ set (set (set p₁ (i * 3) (v .x)) (i * 3 + 1) (v .y)) (i * 3 + 2) (v .z) → w₂ ≡ cond g (set w₁ i (q .w)) w₁
-        → InLower o g h m p₀ w₀ p₂ w₂ (i + 1)
-    lower-more P W e v Y p₂ w₂ E F =
+        → (f c : Bool) → f ≡ finiteVector v → c ≡ (a && f) → (p₂ w₂ : List Float) → p₂ ≡ set (set (set p₁ (i * 3) (v .x)) (i * 3 + 1) (v .y)) (i * 3 + 2) (v .z) → w₂ ≡ cond g (set w₁ i (q .w)) w₁
+        → InLower o g h m p₀ w₀ p₂ w₂ c (i + 1)
+    lower-more P W e v Y u c U X p₂ w₂ E F =
         let f = lowerAt o h in
         let A : v ≡ lowerOf o (h i) = Y ∙ ap (lowerOf o) Q in
         let one = store-more (i * 3) f p₀ p₁ (v .x) (omega arith) (I .points) (ap (axis 0) A ∙ lower-is o h i 0 (i * 3) (omega arith) (omega arith)) in
@@ -180,6 +193,7 @@ module _ (o : Vector) (g : Bool) (h : ℕ → Control) (m : ℕ) (p₀ w₀ : Li
         record {
           upto = omega arith;
           good = all-more (λ j. isBlended (h j)) i (I .good) (ap isBlended (sym Q) ∙ e);
+          fine = X ∙ all-next (λ j. finiteVector (lowerOf o (h j))) i a u (I .fine) (U ∙ ap finiteVector A);
           long-points = ap length E ∙ simp length-set (I .long-points);
           long-weights = ap length F ∙ (weights-long g i w₁ (q .w) ∙ I .long-weights);
           points = E ∙ (ap (λ (k : ℕ). set (set (set p₁ (i * 3) (v .x)) (i * 3 + 1) (v .y)) k (v .z)) n2
@@ -190,12 +204,34 @@ module _ (o : Vector) (g : Bool) (h : ℕ → Control) (m : ℕ) (p₀ w₀ : Li
         room : m ≤ length w₀ → i < length w₀
         room l = omega arith
 
-  pub lower-end : (p₁ w₁ : List Float) (i : ℕ) → InLower o g h m p₀ w₀ p₁ w₁ i → m ≤ i → LowerDone o g h m p₀ w₀ p₁ w₁ true
-  lower-end p₁ w₁ i I b = let U = I .upto in let e : i ≡ m = omega arith in record {
-    answer = all-end (λ j. isBlended (h j)) m i e (I .good);
-    points = λ z. subst (λ (k : ℕ). p₁ ≡ tabulate (k * 3) (lowerAt o h) ++ drop (k * 3) p₀) e (I .points);
-    weights = λ z. subst (λ (k : ℕ). w₁ ≡ tabulate (given g k) (weightIn h) ++ drop (given g k) w₀) e (I .weights);
-  }
+  module _ (p₁ w₁ : List Float) (a : Bool) (i : ℕ) (I : InLower o g h m p₀ w₀ p₁ w₁ a i) (b : m ≤ i) where
+    done : i ≡ m
+    done = let U = I .upto in omega arith
+
+    blended : allBelow (λ j. isBlended (h j)) m ≡ true
+    blended = sym (all-end (λ j. isBlended (h j)) m i done (I .good))
+
+    whole : a ≡ allBelow (λ j. finiteVector (lowerOf o (h j))) m
+    whole = I .fine ∙ ap (allBelow (λ j. finiteVector (lowerOf o (h j)))) done
+
+    pub lower-bad : a ≡ false → (r : Refusal) → r ≡ refuse point-not-finite → LowerDone o g h m p₀ w₀ p₁ w₁ r
+    unfolding lowerRefusal
+    lower-bad e r R = record {
+      answer = simp (blended, sym whole ∙ e) R;
+      points = λ z. absurd (no z);
+      weights = λ z. absurd (no z);
+    }
+      where
+        no : r .number ≡ 0 → ⊥
+        no z = let y : _≡_ {A = ℕ} 8 0 = sym (ap (λ (x : Refusal). x .number) R) ∙ z in omega arith
+
+    pub lower-end : a ≡ true → (r : Refusal) → r ≡ accepted → LowerDone o g h m p₀ w₀ p₁ w₁ r
+    unfolding lowerRefusal
+    lower-end e r R = record {
+      answer = simp (blended, sym whole ∙ e) R;
+      points = λ z. subst (λ (k : ℕ). p₁ ≡ tabulate (k * 3) (lowerAt o h) ++ drop (k * 3) p₀) done (I .points);
+      weights = λ z. subst (λ (k : ℕ). w₁ ≡ tabulate (given g k) (weightIn h) ++ drop (given g k) w₀) done (I .weights);
+    }
 
 -- ---- one control of each
 module _ (p k s : ℕ) (t : Float) (ks : List Float) (h : ℕ → Control) (i : ℕ) where

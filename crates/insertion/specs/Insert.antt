@@ -4,14 +4,13 @@ use Prim.Native.Nat.{ℕ, _+_, _-_, _*_}
 use mathlib.Core.Bool.{Bool, not, cond, _&&_}
 use mathlib.Core.Path.{_≡_}
 use mathlib.Core.List.{List, _++_}
-use lib.ListN.{length, take, drop}
+use lib.ListN.{length, drop}
 use lib.Dec.{leb, ltb, eqb}
 use lib.Ieee.{Float, le}
 use lib.Ieee.Scale.{finite}
 use Rattle.doubles.specs.Run.{at}
 use Rattle.knots.specs.Below.{allBelow}
-use Rattle.knots.specs.Refusal.{refuse, accepted, orElse, knot-outside, knot-full, control-bad, edit-bad, point-not-finite}
-use Rattle.knots.specs.Knots.{allFinite}
+use Rattle.knots.specs.Refusal.{refuse, accepted, orElse, knot-outside, knot-full, control-bad, edit-bad}
 use Rattle.knots.specs.Curve.{formedRefusal}
 use Rattle.knots.specs.Span.{spanOf}
 use Rattle.knots.specs.declared.refusal.Refusal.{Refusal}
@@ -65,15 +64,6 @@ module _ (p n k s : ℕ) (t : Float) (ks ps : List Float) (g : Bool) (ws : List 
     pub knots : r .number ≡ 0 → k₁ ≡ moreKnots k t ks ++ drop (n + 1 + p + 1) k₀
     pub points : r .number ≡ 0 → p₁ ≡ morePoints ++ drop ((n + 1) * 3) p₀
     pub weights : r .number ≡ 0 → w₁ ≡ moreWeights ++ drop (given g (n + 1)) w₀
-
--- 8 of points alone
-unfoldable pub pointRefusal : List Float → Refusal
-pointRefusal ps = cond (not (allFinite ps)) (refuse point-not-finite) accepted
-
--- the last step of it: the knot is put into a run, and r is the refusal of the points at the front of another
-pub record KnotPut (p n k : ℕ) (t : Float) (k₀ k₁ p₁ : List Float) (r : Refusal) : Type 0 where
-  pub knots : k₁ ≡ tabulate (n + 1 + p + 1) (knotAt k t k₀) ++ drop (n + 1 + p + 1) k₀
-  pub refusal : r ≡ pointRefusal (take ((n + 1) * 3) p₁)
 
 -- the whole
 module _ (p n : ℕ) (ks ps : List Float) (g : Bool) (ws : List Float) (t : Float) where

@@ -6,7 +6,6 @@ use crate::rows::lower_rows;
 use crate::rows::point_at;
 use crate::runs::put_knot;
 use interval::float::is_finite;
-use knots::knots::all_finite;
 use knots::refusal::Refusal;
 use knots::refusal::refuse;
 use knots::span::span_of;
@@ -15,7 +14,7 @@ ghost use Prim.Native.Nat.{_+_, _*_, _<_, _≤_};
 ghost use lib.ListN.{length, take};
 ghost use Rattle.knots.specs.Knots.{ValidKnots};
 ghost use Rattle.insertion.specs.Rows.{given};
-ghost use Rattle.insertion.specs.Insert.{moreKnots, inside, spotRefusal, KnotPut, Formed, Inserted};
+ghost use Rattle.insertion.specs.Insert.{moreKnots, inside, spotRefusal, Formed, Inserted};
 
 // Finite, and strictly inside the domain.
 fn is_inside(lo: f64, hi: f64, t: f64) -> bool
@@ -50,22 +49,7 @@ pub fn given_count(rational: bool, n: usize) -> usize
     if rational { n } else { 0 }
 }
 
-// The knot is put, and the n + 1 points are checked by 8. Nothing else of 1 to 10 can be: valid knots with a knot more are valid, and what 20 lets pass has a weight.
-fn form(spot: Spot, n: usize, knots: &mut [f64], points: &[f64]) -> Refusal
-    requires { ⌜ (spot .k < n) × (n + spot .p + 1 < length (now knots)) ⌝ }
-    requires { ⌜ (n + 1) * 3 ≤ length (now points) ⌝ }
-    ensures { λ r. ⌜ KnotPut (spot .p) n (spot .k) (spot .t) (now (knots .entry)) (now (knots .exit)) (now (points .entry)) r ⌝ }
-{
-    let m = n + spot.p + 1;
-    put_knot(knots, spot.k, m, spot.t);
-    let b = (n + 1) * 3;
-    if !all_finite(&points[..b]) {
-        return refuse(8);
-    }
-    refuse(0)
-}
-
-// The knot is inserted where it goes: 19, 20, and 1 to 10 of the curve that is formed.
+// The knot is inserted where it goes: 19, 20, and 8 of the curve that is formed. Nothing else of 1 to 10 can be: valid knots with a knot more are valid, and what 20 lets pass has a weight.
 fn insert_at(
     spot: Spot,
     n: usize,
@@ -93,10 +77,12 @@ fn insert_at(
         return refuse(19);
     }
     let ks = &knots[..m];
-    if !lower_rows(spot, n, o, ks, rational, rows, points, weights) {
-        return refuse(20);
+    let late = lower_rows(spot, n, o, ks, rational, rows, points, weights);
+    if late.number != 0 {
+        return late;
     }
-    form(spot, n, knots, points)
+    put_knot(knots, spot.k, m, spot.t);
+    late
 }
 
 // The knot t is inserted: 13, 14, 19, 20, and 1 to 10 of the curve that is formed. What the runs hold after a refusal is not said.

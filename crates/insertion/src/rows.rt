@@ -8,8 +8,11 @@ use crate::control::lower_of;
 use crate::control::share_of;
 use crate::counts::largest;
 use evaluate::vector::Vector;
+use evaluate::vector::finite_vector;
+use knots::refusal::Refusal;
+use knots::refusal::refuse;
 ghost use mathlib.Core.Path.{_≡_};
-ghost use mathlib.Core.Bool.{true, cond};
+ghost use mathlib.Core.Bool.{true, cond, _&&_};
 ghost use Prim.Native.Nat.{_+_, _*_, _<_, _≤_};
 ghost use lib.ListN.{length, set};
 ghost use Rattle.evaluate.specs.Controls.{pointOf};
@@ -158,7 +161,14 @@ fn blend_at(spot: Spot, knots: &[f64], rows: &[f64], i: usize) -> Control
     before
 }
 
-// The points and the weights of the n + 1 controls with a knot more, up to the first that refusal 20 is for; false where there is one.
+// Both are true.
+fn both(a: bool, b: bool) -> bool
+    ensures { λ r. ⌜ r ≡ a && b ⌝ }
+{
+    if a { b } else { false }
+}
+
+// The points and the weights of the n + 1 controls with a knot more: 20 at the first control that it is for, else 8 where a coordinate is not finite.
 pub fn lower_rows(
     spot: Spot,
     n: usize,
@@ -168,7 +178,7 @@ pub fn lower_rows(
     rows: &[f64],
     points: &mut [f64],
     weights: &mut [f64],
-) -> bool
+) -> Refusal
     requires { ⌜ (spot .s ≤ spot .p) × (spot .p ≤ spot .k) ⌝ }
     requires { ⌜ (spot .k < n) × (n + spot .p < length (now knots)) ⌝ }
     requires { ⌜ n * 4 ≤ length (now rows) ⌝ }
@@ -176,15 +186,21 @@ pub fn lower_rows(
     requires { ⌜ (rational ≡ true → n + 1 ≤ length (now weights)) ⌝ }
     ensures { λ r. ⌜ LowerDone o rational (blendAt (spot .p) (spot .k) (spot .s) (spot .t) (now (knots .entry)) (rowOf (now (rows .entry)))) (n + 1) (now (points .entry)) (now (weights .entry)) (now (points .exit)) (now (weights .exit)) r ⌝ }
 {
+    let mut fine = true;
     let mut i = 0usize;
     while i <= n {
         let q = blend_at(spot, knots, rows, i);
         if !is_blended(q) {
-            return false;
+            return refuse(20);
         }
-        put_point(points, i, lower_of(o, q));
+        let v = lower_of(o, q);
+        fine = both(fine, finite_vector(v));
+        put_point(points, i, v);
         put_weight(weights, rational, i, q.w);
         i += 1;
     }
-    true
+    if !fine {
+        return refuse(8);
+    }
+    refuse(0)
 }
