@@ -75,7 +75,11 @@ mix-0 : (a b : ℚ) → mix q0 a b ≡ a
 mix-0 a b = q-ring (a ∷ b ∷ []) (search qring depth 20) tt
 
 module _ (U : ℕ → ℚ) (x : ℚ) (k p : ℕ) (c : ℕ → ℚ) where
-  ins-suc : (j : ℕ) → inserted U x k p c (suc j) ≡ mix (share U x k p (suc j)) (c j) (c (suc j))
+  pub ins-zero : inserted U x k p c 0 ≡ c 0
+  unfolding inserted
+  ins-zero = refl
+
+  pub ins-suc : (j : ℕ) → inserted U x k p c (suc j) ≡ mix (share U x k p (suc j)) (c j) (c (suc j))
   unfolding inserted
   ins-suc j = refl
 

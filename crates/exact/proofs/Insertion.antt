@@ -4,16 +4,18 @@ use mathlib.Core.Path.{_≡_, refl, sym, _∙_, ap, ap₂, subst}
 use mathlib.Core.Logic.{_≢_, _⊎_, inl, inr, ⊎-elim}
 use mathlib.Core.List.{List, [], _∷_}
 use Prim.Native.Nat.{ℕ, zero, suc, _+_, _-_, _≤_, _<_}
+use native.Mathlib.Nat.{suc-add}
 use native.Mathlib.Omega.{arith}
 use Rattle.exact.specs.Rational.{ℚ, _+q_, _-q_, _*q_, _/q_, inv, q0, q1, _≤q_, _<q_}
 use Rattle.exact.specs.Spline.{basis, Knots, whole, exact}
-use Rattle.exact.specs.Boehm.{refined, held, share, mix, inserted, insertedPoint}
+use Rattle.exact.specs.Boehm.{SpanOf, refined, held, share, mix, inserted, insertedPoint}
 use Rattle.exact.proofs.Laws.{mul-inv}
-use Rattle.exact.proofs.Field.{qring, q-ring, q-combine}
+use Rattle.exact.proofs.Field.{qring, q-ring, q-combine, le-or-lt, le-by, le-sub, ≤-refl, ≤-eq, ≤-antisym, ≤-trans, <-≤-trans, lt→le, q0<q1, pos-ne, div-zero, div-nonneg, div-le-1}
 use Rattle.exact.proofs.Sum.{Σ-cong}
+use Rattle.exact.proofs.DeBoor.{mix-low}
 use Rattle.exact.proofs.Curve.{whole-curve}
 use Rattle.exact.proofs.Refined.{split, Refined, refined-is, Holds, held-is, old-knots}
-use Rattle.exact.proofs.Boehm.{boehm}
+use Rattle.exact.proofs.Boehm.{share-low, share-mid, ins-zero, ins-suc, ins-high, boehm}
 
 pub whole-cong : (U : ℕ → ℚ) (t : ℚ) (s p count : ℕ) {c d : ℕ → ℚ} → ((i : ℕ) → i < count → c i ≡ d i) → whole U t s p count c ≡ whole U t s p count d
 unfolding whole
@@ -30,29 +32,84 @@ held-below k s count h g = let H = held-is k s in ⊎-elim
     (λ (a : s ≤ k). let e : held k s ≡ s = H .left a in omega arith)
     (λ (a : k < s). let e : suc (held k s) ≡ s = H .right a in omega arith) (split s k)
 
+sub-mono : {x y : ℚ} (u : ℚ) → x ≤q y → x -q u ≤q y -q u
+sub-mono {x} {y} u h = le-by (le-sub h) (q-ring (u ∷ x ∷ y ∷ []) (search qring depth 20) tt)
+
+-- 0 over 0 is 0, so the divisor need not be positive
+unit-quotient : {a d : ℚ} → q0 ≤q a → a ≤q d → (q0 ≤q a /q d) × (a /q d ≤q q1)
+unit-quotient {a} {d} h g = go (le-or-lt d q0)
+  where
+    go : (d ≤q q0) ⊎ (q0 <q d) → (q0 ≤q a /q d) × (a /q d ≤q q1)
+    go (inl z) =
+        let e : a /q d ≡ q0 = ap (λ y. a /q y) (≤-antisym z (≤-trans h g)) ∙ div-zero a in
+        (≤-eq (sym e), subst (λ y. y ≤q q1) (sym e) (lt→le q0<q1))
+    go (inr z) = (div-nonneg h z, div-le-1 g z)
+
+mix-pos : (r a b : ℚ) → q0 ≤q r → r ≤q q1 → q0 <q a → q0 <q b → q0 <q mix r a b
+mix-pos r a b l u h k = go (le-or-lt a b)
+  where
+    go : (a ≤q b) ⊎ (b <q a) → q0 <q mix r a b
+    go (inl z) = <-≤-trans h (mix-low a r a b l u (≤-refl a) z)
+    go (inr z) = <-≤-trans k (mix-low b r a b l u (lt→le z) (≤-refl b))
+
 put-back : (w X : ℚ) → w ≢ q0 → w *q (X /q w) ≡ X
 put-back w X h = q-combine X (mul-inv w h) (q-ring (w ∷ X ∷ inv w ∷ []) (search qring depth 20) tt)
 
-module _ (U : ℕ → ℚ) (x : ℚ) (k : ℕ) {p count s : ℕ} (from : p ≤ k) (below : k < count) (K : Knots (refined U x k) (suc (count + suc p)) s) (first : p ≤ s) (last : s ≤ count) where
-  pub held-knots : Knots U (count + suc p) (held k s)
-  held-knots = let h : held k s < count = held-below k s count below last in old-knots (refined-is U x k) K (held-is k s) (omega arith)
+module _ (U : ℕ → ℚ) (x : ℚ) (k : ℕ) {p count s : ℕ} (from : p ≤ k) (place : k < count) (S : SpanOf (refined U x k) p (suc count) s) where
+  in-order : Knots (refined U x k) (suc (count + suc p)) s
+  in-order = subst (λ n. Knots (refined U x k) n s) (suc-add count (suc p)) (S .knots)
+
+  pub held-span : SpanOf U p count (held k s)
+  held-span =
+      let f : p ≤ s = S .first in
+      let l : s < suc count = S .last in
+      let h : held k s < count = held-below k s count place (omega arith) in
+      record { first = held-from p k s from f; last = h; knots = old-knots (refined-is U x k) in-order (held-is k s) (omega arith) }
 
   -- Boehm: on every nonempty span of the refined knots the sum is what it was
   pub insertion-whole : (t : ℚ) (c : ℕ → ℚ) → whole (refined U x k) t s p (suc count) (inserted U x k p c) ≡ whole U t (held k s) p count c
   insertion-whole t c =
-      let f : p ≤ held k s = held-from p k s from first in
-      let h : held k s < count = held-below k s count below last in
+      let f : p ≤ s = S .first in
+      let l : s < suc count = S .last in
+      let f₀ : p ≤ held k s = held-span .first in
+      let l₀ : held k s < count = held-span .last in
       let e : s - p + p ≡ s = omega arith in
       let e₀ : held k s - p + p ≡ held k s = omega arith in
-      whole-curve K p (s - p) (suc count) e (omega arith) (omega arith) t (inserted U x k p c)
-      ∙ boehm (refined-is U x k) K (held-is k s) (omega arith) t p (s - p) (held k s - p) c e e₀ (omega arith) (omega arith) from
-      ∙ sym (whole-curve held-knots p (held k s - p) count e₀ h (omega arith) t c)
+      whole-curve in-order p (s - p) (suc count) e l (omega arith) t (inserted U x k p c)
+      ∙ boehm (refined-is U x k) in-order (held-is k s) (omega arith) t p (s - p) (held k s - p) c e e₀ (omega arith) (omega arith) from
+      ∙ sym (whole-curve (held-span .knots) p (held k s - p) count e₀ l₀ (omega arith) t c)
+
+  -- ---- with weights
 
   -- the exact point is what it was, where no new weight is 0
-  pub insertion-exact : (t : ℚ) (w P : ℕ → ℚ) → ((i : ℕ) → i ≤ count → inserted U x k p w i ≢ q0)
+  pub insertion-exact : (t : ℚ) (w P : ℕ → ℚ) → ((i : ℕ) → i < suc count → inserted U x k p w i ≢ q0)
       → exact (refined U x k) t s p (suc count) (inserted U x k p w) (insertedPoint U x k p w P) ≡ exact U t (held k s) p count w P
   unfolding exact insertedPoint
   insertion-exact t w P n = ap₂ _/q_
-      (whole-cong (refined U x k) t s p (suc count) (λ i l. put-back (inserted U x k p w i) (inserted U x k p (λ j. w j *q P j) i) (n i (omega arith)))
+      (whole-cong (refined U x k) t s p (suc count) (λ i l. put-back (inserted U x k p w i) (inserted U x k p (λ j. w j *q P j) i) (n i l))
       ∙ insertion-whole t (λ j. w j *q P j))
       (insertion-whole t w)
+
+  unit-share : (i : ℕ) → i ≤ k → (q0 ≤q share U x k p i) × (share U x k p i ≤q q1)
+  unit-share i h =
+      let R = refined-is U x k in
+      let M = in-order .mono in
+      ⊎-elim
+      (λ (a : i + p ≤ k). let e = share-low U x k p i a in (subst (λ y. q0 ≤q y) (sym e) (lt→le q0<q1), ≤-eq e))
+      (λ (a : k < i + p).
+      let l : U i ≤q x = subst (λ y. y ≤q x) (R .before i h) (subst (λ y. refined U x k i ≤q y) (R .new) (M i (suc k) (omega arith) (omega arith))) in
+      let r : x ≤q U (i + p) = subst (λ y. x ≤q y) (R .after (i + p) a) (subst (λ y. y ≤q refined U x k (suc (i + p))) (R .new) (M (suc k) (suc (i + p)) (omega arith) (omega arith))) in
+      subst (λ y. (q0 ≤q y) × (y ≤q q1)) (sym (share-mid U x k p i a h)) (unit-quotient (le-sub l) (sub-mono (U i) r)))
+      (split (i + p) k)
+
+  -- positive weights stay positive
+  pub inserted-pos : (w : ℕ → ℚ) → ((i : ℕ) → i < count → q0 <q w i) → (i : ℕ) → i < suc count → q0 <q inserted U x k p w i
+  inserted-pos w h zero l = subst (λ y. q0 <q y) (sym (ins-zero U x k p w)) (h 0 (omega arith))
+  inserted-pos w h (suc j) l = ⊎-elim
+      (λ (a : suc j ≤ k). let r = unit-share (suc j) a in
+      subst (λ y. q0 <q y) (sym (ins-suc U x k p w j)) (mix-pos (share U x k p (suc j)) (w j) (w (suc j)) (r .0) (r .1) (h j (omega arith)) (h (suc j) (omega arith))))
+      (λ (a : k < suc j). subst (λ y. q0 <q y) (sym (ins-high U x k p w j a)) (h j (omega arith))) (split (suc j) k)
+
+  pub insertion-point : (t : ℚ) (w P : ℕ → ℚ) → ((i : ℕ) → i < count → q0 <q w i)
+      → exact (refined U x k) t s p (suc count) (inserted U x k p w) (insertedPoint U x k p w P) ≡ exact U t (held k s) p count w P
+  insertion-point t w P h = insertion-exact t w P (λ i l. pos-ne (inserted-pos w h i l))

@@ -7,6 +7,7 @@ pub mod Curve
 pub mod Refined
 pub mod Boehm
 pub mod Insertion
+pub mod Insertions
 pub mod Deriv
 pub mod Jets
 pub mod Surface
