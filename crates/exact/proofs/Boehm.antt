@@ -1,118 +1,71 @@
 -- Boehm's theorem over the fractions: one knot more, with the controls blended by the shares of the new knot, and the curve is the same on every span. Assumes nothing.
 -- U is the knots, W the knots with x after place k; c and d are the controls, as functions of their index.
 use mathlib.Core.Path.{_≡_, refl, sym, _∙_, ap, ap₂, subst}
-use mathlib.Core.Bool.{Bool, true, false, cond, not}
-use mathlib.Core.Logic.{_≢_, _⊎_, inl, inr, ⊎-elim}
+use mathlib.Core.Logic.{_⊎_, inl, inr, ⊎-elim}
 use mathlib.Core.List.{List, [], _∷_}
-use Prim.Native.Nat.{ℕ, zero, suc, _+_, _-_, _≤_, _<_}
-use native.Mathlib.Nat.{add-suc, suc-add, add-zero, eq-or-lt-of-le}
+use Prim.Native.Nat.{ℕ, zero, suc, _+_, _≤_, _<_}
+use native.Mathlib.Nat.{add-suc, suc-add, eq-or-lt-of-le}
 use native.Mathlib.Omega.{arith}
-use lib.Dec.{T, leb, leb→le, le→leb, nleb→lt}
-use Rattle.exact.specs.Rational.{ℚ, _+q_, _-q_, _*q_, _/q_, negq, inv, q0, q1, _≤q_, _<q_}
+use Rattle.exact.specs.Rational.{ℚ, _+q_, _-q_, _*q_, inv, q0, q1, _≤q_, _<q_}
 use Rattle.exact.specs.Spline.{rise, Knots}
-use Rattle.exact.specs.Boehm.{share, mix, inserted}
+use Rattle.exact.specs.Boehm.{mix, inserted}
 use Rattle.exact.proofs.Laws.{mul-inv}
 use Rattle.exact.proofs.Field.{qring, q-ring, q-combine, q-combine₂, pos-ne, div-is, ≤-<-trans, <-≤-trans, lt-sub}
 use Rattle.exact.proofs.DeBoor.{level, level-is, deboor, curve, deboor-is, wide}
-use Rattle.exact.proofs.Source.{cond-yes, cond-no}
 use Rattle.exact.proofs.Refined.{split, Refined, Holds, old-knots}
+use Rattle.exact.proofs.Inserted.{mix-cong, ins-low, ins-mid, ins-high}
 
-module _ (U : ℕ → ℚ) (x : ℚ) (k p i : ℕ) where
-  pub share-low : i + p ≤ k → share U x k p i ≡ q1
-  unfolding share
-  share-low h = cond-yes _ _ (leb (i + p) k) (le→leb (i + p) k h)
+-- ---- the algebra of one place: t the parameter, x the new knot, a, b, c controls
 
-  pub share-mid : k < i + p → i ≤ k → share U x k p i ≡ (x -q U i) /q (U (i + p) -q U i)
-  unfolding share
-  share-mid h g =
-      cond-no _ _ (leb (i + p) k) (λ z. let y : i + p ≤ k = leb→le (i + p) k z in omega arith)
-      ∙ cond-yes _ _ (leb i k) (le→leb i k g)
-
-  pub share-high : k < i → share U x k p i ≡ q0
-  unfolding share
-  share-high h =
-      cond-no _ _ (leb (i + p) k) (λ z. let y : i + p ≤ k = leb→le (i + p) k z in omega arith)
-      ∙ cond-no _ _ (leb i k) (λ z. let y : i ≤ k = leb→le i k z in omega arith)
-
--- one level of de Boor's recursion, at the index of its result
-unfoldable pub lev : (ℕ → ℚ) → ℚ → ℕ → (ℕ → ℚ) → ℕ → ℚ
-unfolding rise
-lev U t q c zero = c 0
-lev U t q c (suc j) = mix (rise U t q (suc j)) (c j) (c (suc j))
-
--- ---- the algebra of one place: A, B, C, D are knots, e and f the inverses of their differences
-
--- both before the new knot
-first-place : (t x u w a b g h : ℚ) → (x -q u) *q g ≡ q1
-    → (q1 -q (t -q u) *q g) *q a +q ((t -q u) *q g) *q ((q1 -q (x -q u) *q h) *q a +q (x -q u) *q h *q b)
-    ≡ (q1 -q (t -q u) *q h) *q a +q (t -q u) *q h *q b
-first-place t x u w a b g h e =
+-- the new knot is the right end, u the left; g and h are the inverses of the new width and the old
+first-place : (t x u a b g h : ℚ) → (x -q u) *q g ≡ q1 → mix ((t -q u) *q g) a (mix ((x -q u) *q h) a b) ≡ mix ((t -q u) *q h) a b
+first-place t x u a b g h e =
     q-combine ((t -q u) *q h *q (b -q a)) e (q-ring (t ∷ x ∷ u ∷ a ∷ b ∷ g ∷ h ∷ []) (search qring depth 20) tt)
 
--- the new knot at the left end: v is the knot before it, y the right end
+-- the new knot is the left end, y the right; v is the knot before it; g and h are the inverses of y - x and y - v
 last-place : (t x v y a b g h : ℚ) → (y -q x) *q g ≡ q1 → (y -q v) *q h ≡ q1
-    → (q1 -q (t -q x) *q g) *q ((q1 -q (x -q v) *q h) *q a +q (x -q v) *q h *q b) +q (t -q x) *q g *q b
-    ≡ (q1 -q (t -q v) *q h) *q a +q (t -q v) *q h *q b
+    → mix ((t -q x) *q g) (mix ((x -q v) *q h) a b) b ≡ mix ((t -q v) *q h) a b
 last-place t x v y a b g h e f =
     q-combine₂ ((b -q a) *q (q1 -q (y -q v) *q h +q (t -q x) *q h)) ((b -q a) *q ((y -q t) *q g -q q1)) e f
     (q-ring (t ∷ x ∷ v ∷ y ∷ a ∷ b ∷ g ∷ h ∷ []) (search qring depth 20) tt)
 
--- between: u is knot i, v knot i - 1, y knot i + p - 1, z knot i + p; g, h, l the inverses of y - u, y - v, z - u
-middle-place : (t x u v y z a b c g h l : ℚ) → (y -q u) *q g ≡ q1 → (y -q v) *q h ≡ q1
-    → (q1 -q (t -q u) *q g) *q ((q1 -q (x -q v) *q h) *q a +q (x -q v) *q h *q b) +q (t -q u) *q g *q ((q1 -q (x -q u) *q l) *q b +q (x -q u) *q l *q c)
-    ≡ (q1 -q (x -q u) *q g) *q ((q1 -q (t -q v) *q h) *q a +q (t -q v) *q h *q b) +q (x -q u) *q g *q ((q1 -q (t -q u) *q l) *q b +q (t -q u) *q l *q c)
-middle-place t x u v y z a b c g h l e f =
+-- the new knot is between: u is the left end, y the right, v the knot before u; g and h are the inverses of y - u and y - v, l any number
+middle-place : (t x u v y a b c g h l : ℚ) → (y -q u) *q g ≡ q1 → (y -q v) *q h ≡ q1
+    → mix ((t -q u) *q g) (mix ((x -q v) *q h) a b) (mix ((x -q u) *q l) b c) ≡ mix ((x -q u) *q g) (mix ((t -q v) *q h) a b) (mix ((t -q u) *q l) b c)
+middle-place t x u v y a b c g h l e f =
     q-combine₂ ((a -q b) *q (x -q t) *q h) ((b -q a) *q (x -q t) *q g) e f
     (q-ring (t ∷ x ∷ u ∷ v ∷ y ∷ a ∷ b ∷ c ∷ g ∷ h ∷ l ∷ []) (search qring depth 20) tt)
 
-mix-cong : {r r′ a a′ b b′ : ℚ} → r ≡ r′ → a ≡ a′ → b ≡ b′ → mix r a b ≡ mix r′ a′ b′
-mix-cong e f g = rw (e, f, g)
+-- ---- the levels
 
-mix-1 : (a b : ℚ) → mix q1 a b ≡ b
-mix-1 a b = q-ring (a ∷ b ∷ []) (search qring depth 20) tt
+-- one level of de Boor's recursion, at the index of its result
+unfoldable pub leveled : (ℕ → ℚ) → ℚ → ℕ → (ℕ → ℚ) → ℕ → ℚ
+unfolding rise
+leveled U t q c zero = c 0
+leveled U t q c (suc j) = mix (rise U t q (suc j)) (c j) (c (suc j))
 
-mix-0 : (a b : ℚ) → mix q0 a b ≡ a
-mix-0 a b = q-ring (a ∷ b ∷ []) (search qring depth 20) tt
+leveled-at : (U : ℕ → ℚ) (t : ℚ) (q : ℕ) (c : ℕ → ℚ) (j : ℕ) → leveled U t q c (suc j) ≡ mix (rise U t q (suc j)) (c j) (c (suc j))
+unfolding leveled
+leveled-at U t q c j = refl
 
-module _ (U : ℕ → ℚ) (x : ℚ) (k p : ℕ) (c : ℕ → ℚ) where
-  pub ins-zero : inserted U x k p c 0 ≡ c 0
-  unfolding inserted
-  ins-zero = refl
+positive-is : (m : ℕ) → 0 < m → (l : ℕ) × (m ≡ suc l)
+positive-is zero h = absurd (omega arith)
+positive-is (suc l) h = (l, refl)
 
-  pub ins-suc : (j : ℕ) → inserted U x k p c (suc j) ≡ mix (share U x k p (suc j)) (c j) (c (suc j))
-  unfolding inserted
-  ins-suc j = refl
-
-  pub ins-low : (i : ℕ) → i + p ≤ k → inserted U x k p c i ≡ c i
-  unfolding inserted
-  ins-low zero h = refl
-  ins-low (suc j) h = mix-cong (share-low U x k p (suc j) h) refl refl ∙ mix-1 (c j) (c (suc j))
-
-  pub ins-mid : (j : ℕ) → k < suc j + p → suc j ≤ k → inserted U x k p c (suc j) ≡ mix ((x -q U (suc j)) *q inv (U (suc j + p) -q U (suc j))) (c j) (c (suc j))
-  ins-mid j h g = ins-suc j ∙ mix-cong (share-mid U x k p (suc j) h g ∙ div-is _ _) refl refl
-
-  pub ins-high : (j : ℕ) → k < suc j → inserted U x k p c (suc j) ≡ c j
-  ins-high j h = ins-suc j ∙ (mix-cong (share-high U x k p (suc j) h) refl refl ∙ mix-0 (c j) (c (suc j)))
-
-lev-at : (U : ℕ → ℚ) (t : ℚ) (q : ℕ) (c : ℕ → ℚ) (j : ℕ) → lev U t q c (suc j) ≡ mix (rise U t q (suc j)) (c j) (c (suc j))
-unfolding lev
-lev-at U t q c j = refl
-
-past : (m : ℕ) → 0 < m → (l : ℕ) × (m ≡ suc l)
-past zero h = absurd (omega arith)
-past (suc l) h = (l, refl)
-
-lev-suc : (U : ℕ → ℚ) (t : ℚ) (q : ℕ) (c : ℕ → ℚ) (j : ℕ) → lev U t q c (suc j) ≡ mix ((t -q U (suc j)) *q inv (U (suc j + suc q) -q U (suc j))) (c j) (c (suc j))
-unfolding lev rise
-lev-suc U t q c j = mix-cong (div-is _ _) refl refl
+leveled-suc : (U : ℕ → ℚ) (t : ℚ) (q : ℕ) (c : ℕ → ℚ) (j : ℕ) → leveled U t q c (suc j) ≡ mix ((t -q U (suc j)) *q inv (U (suc j + suc q) -q U (suc j))) (c j) (c (suc j))
+unfolding leveled rise
+leveled-suc U t q c j = mix-cong (div-is _ _) refl refl
 
 module _ {U W : ℕ → ℚ} {k : ℕ} {x : ℚ} (R : Refined U W k x) {n s : ℕ} (K : Knots W n s) (t : ℚ) where
   -- one level after the insertion is the insertion after one level
   module _ (q j : ℕ) (c : ℕ → ℚ) (in₁ : suc j ≤ s) (in₂ : s < suc j + suc q) (in₃ : suc j + suc q < n) where
+    abbrev Commutes : Type 0
+    Commutes = leveled W t q (inserted U x k (suc q) c) (suc j) ≡ inserted U x k q (leveled U t q c) (suc j)
+
     -- the level of the refined knots, at the two knots that it has
     at-knots : (A B : ℚ) → W (suc j) ≡ A → W (suc j + suc q) ≡ B → (a b : ℚ) → inserted U x k (suc q) c j ≡ a → inserted U x k (suc q) c (suc j) ≡ b
-        → lev W t q (inserted U x k (suc q) c) (suc j) ≡ mix ((t -q A) *q inv (B -q A)) a b
-    at-knots A B e f a b g h = lev-suc W t q (inserted U x k (suc q) c) j ∙ mix-cong (ap₂ (λ u v. (t -q u) *q inv (v -q u)) e f) g h
+        → leveled W t q (inserted U x k (suc q) c) (suc j) ≡ mix ((t -q A) *q inv (B -q A)) a b
+    at-knots A B e f a b g h = leveled-suc W t q (inserted U x k (suc q) c) j ∙ mix-cong (ap₂ (λ u v. (t -q u) *q inv (v -q u)) e f) g h
 
     width : q0 <q W (suc j + suc q) -q W (suc j)
     width = wide K q (suc j) in₁ in₂ in₃
@@ -120,31 +73,31 @@ module _ {U W : ℕ → ℚ} {k : ℕ} {x : ℚ} (R : Refined U W k x) {n s : �
     width-at : (A B : ℚ) → W (suc j) ≡ A → W (suc j + suc q) ≡ B → (B -q A) *q inv (B -q A) ≡ q1
     width-at A B e f = mul-inv (B -q A) (pos-ne (subst (λ z. q0 <q z) (ap₂ (λ u v. v -q u) e f) width))
 
-    far-left : suc j + suc q ≤ k → lev W t q (inserted U x k (suc q) c) (suc j) ≡ inserted U x k q (lev U t q c) (suc j)
+    far-left : suc j + suc q ≤ k → Commutes
     far-left h =
         at-knots (U (suc j)) (U (suc j + suc q)) (R .before _ (omega arith)) (R .before _ h) (c j) (c (suc j)) (ins-low U x k (suc q) c j (omega arith)) (ins-low U x k (suc q) c (suc j) h)
-        ∙ sym (ins-low U x k q (lev U t q c) (suc j) (omega arith) ∙ lev-suc U t q c j)
+        ∙ sym (ins-low U x k q (leveled U t q c) (suc j) (omega arith) ∙ leveled-suc U t q c j)
 
-    left-end : suc j + suc q ≡ suc k → lev W t q (inserted U x k (suc q) c) (suc j) ≡ inserted U x k q (lev U t q c) (suc j)
+    left-end : suc j + suc q ≡ suc k → Commutes
     left-end h =
         let e : W (suc j) ≡ U (suc j) = R .before _ (omega arith) in
         let f : W (suc j + suc q) ≡ x = ap W h ∙ R .new in
         at-knots (U (suc j)) x e f (c j) _ (ins-low U x k (suc q) c j (omega arith)) (ins-mid U x k (suc q) c j (omega arith) (omega arith))
-        ∙ first-place t x (U (suc j)) q0 (c j) (c (suc j)) (inv (x -q U (suc j))) (inv (U (suc j + suc q) -q U (suc j))) (width-at (U (suc j)) x e f)
-        ∙ sym (ins-low U x k q (lev U t q c) (suc j) (omega arith) ∙ lev-suc U t q c j)
+        ∙ first-place t x (U (suc j)) (c j) (c (suc j)) (inv (x -q U (suc j))) (inv (U (suc j + suc q) -q U (suc j))) (width-at (U (suc j)) x e f)
+        ∙ sym (ins-low U x k q (leveled U t q c) (suc j) (omega arith) ∙ leveled-suc U t q c j)
 
-    far-right : (l : ℕ) → j ≡ suc l → k < j → lev W t q (inserted U x k (suc q) c) (suc j) ≡ inserted U x k q (lev U t q c) (suc j)
+    far-right : (l : ℕ) → j ≡ suc l → k < j → Commutes
     far-right l z h =
         at-knots (U j) (U (j + suc q)) (R .after j h) (ap W (suc-add j (suc q)) ∙ R .after (j + suc q) (omega arith)) (c l) (c j)
         (ap (inserted U x k (suc q) c) z ∙ ins-high U x k (suc q) c l (omega arith)) (ins-high U x k (suc q) c j (omega arith))
-        ∙ sym (ins-high U x k q (lev U t q c) j (omega arith) ∙ rw (z) (lev-suc U t q c l))
+        ∙ sym (ins-high U x k q (leveled U t q c) j (omega arith) ∙ rw (z) (leveled-suc U t q c l))
 
     wider : j ≤ k → k < j + suc q → (U (j + suc q) -q U j) *q inv (U (j + suc q) -q U j) ≡ q1
     wider h g = mul-inv _ (pos-ne (lt-sub (subst (λ y. U j <q y) (ap W (suc-add j (suc q)) ∙ R .after (j + suc q) g)
         (subst (λ y. y <q W (suc j + suc q)) (R .before j h)
         (≤-<-trans (K .mono j s (omega arith) (omega arith)) (<-≤-trans (K .gap) (K .mono (suc s) (suc j + suc q) (omega arith) (omega arith))))))))
 
-    right-end : (l : ℕ) → j ≡ suc l → j ≡ k → lev W t q (inserted U x k (suc q) c) (suc j) ≡ inserted U x k q (lev U t q c) (suc j)
+    right-end : (l : ℕ) → j ≡ suc l → j ≡ k → Commutes
     right-end l z h =
         let e : W (suc j) ≡ x = ap (λ m. W (suc m)) h ∙ R .new in
         let f : W (suc j + suc q) ≡ U (j + suc q) = ap W (suc-add j (suc q)) ∙ R .after (j + suc q) (omega arith) in
@@ -152,10 +105,10 @@ module _ {U W : ℕ → ℚ} {k : ℕ} {x : ℚ} (R : Refined U W k x) {n s : �
         (ap (inserted U x k (suc q) c) z ∙ ins-mid U x k (suc q) c l (omega arith) (omega arith)) (ins-high U x k (suc q) c j (omega arith))
         ∙ ap (λ m. mix ((t -q x) *q inv (U (j + suc q) -q x)) (mix ((x -q U m) *q inv (U (m + suc q) -q U m)) (c l) (c m)) (c j)) (sym z)
         ∙ last-place t x (U j) (U (j + suc q)) (c l) (c j) (inv (U (j + suc q) -q x)) (inv (U (j + suc q) -q U j)) (width-at x (U (j + suc q)) e f) (wider (omega arith) (omega arith))
-        ∙ sym (ins-high U x k q (lev U t q c) j (omega arith) ∙ (ap (lev U t q c) z ∙ lev-suc U t q c l)
+        ∙ sym (ins-high U x k q (leveled U t q c) j (omega arith) ∙ (ap (leveled U t q c) z ∙ leveled-suc U t q c l)
         ∙ ap (λ m. mix ((t -q U m) *q inv (U (m + suc q) -q U m)) (c l) (c m)) (sym z))
 
-    middle : (l : ℕ) → j ≡ suc l → suc k < suc j + suc q → suc j ≤ k → lev W t q (inserted U x k (suc q) c) (suc j) ≡ inserted U x k q (lev U t q c) (suc j)
+    middle : (l : ℕ) → j ≡ suc l → suc k < suc j + suc q → suc j ≤ k → Commutes
     middle l z h g =
         let e : W (suc j) ≡ U (suc j) = R .before _ (omega arith) in
         let f : W (suc j + suc q) ≡ U (j + suc q) = ap W (suc-add j (suc q)) ∙ R .after (j + suc q) (omega arith) in
@@ -163,19 +116,19 @@ module _ {U W : ℕ → ℚ} {k : ℕ} {x : ℚ} (R : Refined U W k x) {n s : �
         at-knots (U (suc j)) (U (j + suc q)) e f _ _
         (ap (inserted U x k (suc q) c) z ∙ ins-mid U x k (suc q) c l (omega arith) (omega arith)) (ins-mid U x k (suc q) c j (omega arith) (omega arith))
         ∙ ap (λ m. mix ((t -q U (suc j)) *q inv (U (j + suc q) -q U (suc j))) (mix ((x -q U m) *q inv (U (m + suc q) -q U m)) (c l) (c m)) (mix ((x -q U (suc j)) *q inv (U (suc j + suc q) -q U (suc j))) (c j) (c (suc j)))) (sym z)
-        ∙ middle-place t x (U (suc j)) (U j) (U (j + suc q)) (U (suc j + suc q)) (c l) (c j) (c (suc j)) (inv (U (j + suc q) -q U (suc j))) (inv (U (j + suc q) -q U j)) (inv (U (suc j + suc q) -q U (suc j)))
+        ∙ middle-place t x (U (suc j)) (U j) (U (j + suc q)) (c l) (c j) (c (suc j)) (inv (U (j + suc q) -q U (suc j))) (inv (U (j + suc q) -q U j)) (inv (U (suc j + suc q) -q U (suc j)))
         (width-at (U (suc j)) (U (j + suc q)) e f) (wider (omega arith) (omega arith))
-        ∙ sym (ins-mid U x k q (lev U t q c) j (omega arith) (omega arith)
+        ∙ sym (ins-mid U x k q (leveled U t q c) j (omega arith) (omega arith)
         ∙ mix-cong (ap (λ m. (x -q U (suc j)) *q inv (U m -q U (suc j))) y)
-        (ap (lev U t q c) z ∙ lev-suc U t q c l ∙ ap (λ m. mix ((t -q U m) *q inv (U (m + suc q) -q U m)) (c l) (c m)) (sym z))
-        (lev-suc U t q c j))
+        (ap (leveled U t q c) z ∙ leveled-suc U t q c l ∙ ap (λ m. mix ((t -q U m) *q inv (U (m + suc q) -q U m)) (c l) (c m)) (sym z))
+        (leveled-suc U t q c j))
 
-    inner : suc k < suc j + suc q → suc q ≤ k → (suc j ≤ k) ⊎ (k < suc j) → lev W t q (inserted U x k (suc q) c) (suc j) ≡ inserted U x k q (lev U t q c) (suc j)
-    inner h b (inl g) = let o = past j (omega arith) in middle (o .0) (o .1) h g
-    inner h b (inr g) = let o = past j (omega arith) in
+    inner : suc k < suc j + suc q → suc q ≤ k → (suc j ≤ k) ⊎ (k < suc j) → Commutes
+    inner h b (inl g) = let o = positive-is j (omega arith) in middle (o .0) (o .1) h g
+    inner h b (inr g) = let o = positive-is j (omega arith) in
         ⊎-elim (λ (e : k ≡ j). right-end (o .0) (o .1) (sym e)) (λ (e : k < j). far-right (o .0) (o .1) e) (eq-or-lt-of-le {n = k} {m = j} (omega arith))
 
-    pub commute : suc q ≤ k → lev W t q (inserted U x k (suc q) c) (suc j) ≡ inserted U x k q (lev U t q c) (suc j)
+    pub commute : suc q ≤ k → Commutes
     commute b = ⊎-elim (λ (h : suc j + suc q ≤ k). far-left h)
         (λ (h : k < suc j + suc q). ⊎-elim (λ (e : suc k ≡ suc j + suc q). left-end (sym e)) (λ (e : suc k < suc j + suc q). inner e b (split (suc j) k))
         (eq-or-lt-of-le {n = suc k} {m = suc j + suc q} h)) (split (suc j + suc q) k)
@@ -198,15 +151,15 @@ module _ {U W : ℕ → ℚ} {k : ℕ} {x : ℚ} (R : Refined U W k x) {n s s₀
           let z : b + 0 ≡ suc (b₀ + 0) = omega arith in
           ap (inserted U x k 0 C) z ∙ ins-high U x k 0 C (b₀ + 0) (omega arith)
   boehm-deboor (suc q) b b₀ c d C e e₀ f g D E =
-      boehm-deboor q (suc b) (suc b₀) (level U t q b₀ c) (level W t q b d) (lev U t q C) (omega arith) (omega arith) (omega arith) (omega arith)
+      boehm-deboor q (suc b) (suc b₀) (level U t q b₀ c) (level W t q b d) (leveled U t q C) (omega arith) (omega arith) (omega arith) (omega arith)
       (λ m l. level-is W t q b d m
       ∙ mix-cong refl (D m (omega arith)) (D (suc m) (omega arith) ∙ ap (inserted U x k (suc q) C) (add-suc b m))
-      ∙ sym (lev-at W t q (inserted U x k (suc q) C) (b + m))
+      ∙ sym (leveled-at W t q (inserted U x k (suc q) C) (b + m))
       ∙ commute R K t q (b + m) C (omega arith) (omega arith) (omega arith) g
-      ∙ ap (inserted U x k q (lev U t q C)) (sym (suc-add b m)))
+      ∙ ap (inserted U x k q (leveled U t q C)) (sym (suc-add b m)))
       (λ m l. level-is U t q b₀ c m
       ∙ mix-cong refl (E m (omega arith)) (E (suc m) (omega arith) ∙ ap C (add-suc b₀ m))
-      ∙ sym (lev-at U t q C (b₀ + m)) ∙ ap (lev U t q C) (sym (suc-add b₀ m)))
+      ∙ sym (leveled-at U t q C (b₀ + m)) ∙ ap (leveled U t q C) (sym (suc-add b₀ m)))
 
 module _ {U W : ℕ → ℚ} {k : ℕ} {x : ℚ} (R : Refined U W k x) {n s s₀ : ℕ} (K : Knots W (suc n) s) (S : Holds k s s₀) (in-range : suc s₀ < n) where
   -- Boehm: on every nonempty span of the refined knots the curve's sum is what it was
@@ -216,7 +169,3 @@ module _ {U W : ℕ → ℚ} {k : ℕ} {x : ℚ} (R : Refined U W k x) {n s s₀
       sym (deboor-is K t p b (λ m. inserted U x k p C (b + m)) e f)
       ∙ boehm-deboor R K S t p b b₀ (λ m. C (b₀ + m)) (λ m. inserted U x k p C (b + m)) C e e₀ f g (λ m l. refl) (λ m l. refl)
       ∙ deboor-is (old-knots R K S in-range) t p b₀ (λ m. C (b₀ + m)) e₀ f₀
-
--- past the places whose knot is x the share is 0: what the source copies there is what the theorem blends
-pub share-multiple : (U : ℕ → ℚ) (x : ℚ) (k p i : ℕ) → k < i + p → i ≤ k → U i ≡ x → share U x k p i ≡ q0
-share-multiple U x k p i h g e = share-mid U x k p i h g ∙ (div-is _ _ ∙ rw e (q-ring (x ∷ inv (U (i + p) -q x) ∷ []) (search qring depth 20) tt))

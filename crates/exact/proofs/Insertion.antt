@@ -15,7 +15,8 @@ use Rattle.exact.proofs.Sum.{Σ-cong}
 use Rattle.exact.proofs.DeBoor.{mix-low}
 use Rattle.exact.proofs.Curve.{whole-curve}
 use Rattle.exact.proofs.Refined.{split, Refined, refined-is, Holds, held-is, old-knots}
-use Rattle.exact.proofs.Boehm.{share-low, share-mid, ins-zero, ins-suc, ins-high, boehm}
+use Rattle.exact.proofs.Inserted.{inserted-pos}
+use Rattle.exact.proofs.Boehm.{boehm}
 
 pub whole-cong : (U : ℕ → ℚ) (t : ℚ) (s p count : ℕ) {c d : ℕ → ℚ} → ((i : ℕ) → i < count → c i ≡ d i) → whole U t s p count c ≡ whole U t s p count d
 unfolding whole
@@ -31,26 +32,6 @@ pub held-below : (k s count : ℕ) → k < count → s ≤ count → held k s < 
 held-below k s count h g = let H = held-is k s in ⊎-elim
     (λ (a : s ≤ k). let e : held k s ≡ s = H .left a in omega arith)
     (λ (a : k < s). let e : suc (held k s) ≡ s = H .right a in omega arith) (split s k)
-
-sub-mono : {x y : ℚ} (u : ℚ) → x ≤q y → x -q u ≤q y -q u
-sub-mono {x} {y} u h = le-by (le-sub h) (q-ring (u ∷ x ∷ y ∷ []) (search qring depth 20) tt)
-
--- 0 over 0 is 0, so the divisor need not be positive
-unit-quotient : {a d : ℚ} → q0 ≤q a → a ≤q d → (q0 ≤q a /q d) × (a /q d ≤q q1)
-unit-quotient {a} {d} h g = go (le-or-lt d q0)
-  where
-    go : (d ≤q q0) ⊎ (q0 <q d) → (q0 ≤q a /q d) × (a /q d ≤q q1)
-    go (inl z) =
-        let e : a /q d ≡ q0 = ap (λ y. a /q y) (≤-antisym z (≤-trans h g)) ∙ div-zero a in
-        (≤-eq (sym e), subst (λ y. y ≤q q1) (sym e) (lt→le q0<q1))
-    go (inr z) = (div-nonneg h z, div-le-1 g z)
-
-mix-pos : (r a b : ℚ) → q0 ≤q r → r ≤q q1 → q0 <q a → q0 <q b → q0 <q mix r a b
-mix-pos r a b l u h k = go (le-or-lt a b)
-  where
-    go : (a ≤q b) ⊎ (b <q a) → q0 <q mix r a b
-    go (inl z) = <-≤-trans h (mix-low a r a b l u (≤-refl a) z)
-    go (inr z) = <-≤-trans k (mix-low b r a b l u (lt→le z) (≤-refl b))
 
 put-back : (w X : ℚ) → w ≢ q0 → w *q (X /q w) ≡ X
 put-back w X h = q-combine X (mul-inv w h) (q-ring (w ∷ X ∷ inv w ∷ []) (search qring depth 20) tt)
@@ -90,26 +71,11 @@ module _ (U : ℕ → ℚ) (x : ℚ) (k : ℕ) {p count s : ℕ} (from : p ≤ k
       ∙ insertion-whole t (λ j. w j *q P j))
       (insertion-whole t w)
 
-  unit-share : (i : ℕ) → i ≤ k → (q0 ≤q share U x k p i) × (share U x k p i ≤q q1)
-  unit-share i h =
-      let R = refined-is U x k in
-      let M = in-order .mono in
-      ⊎-elim
-      (λ (a : i + p ≤ k). let e = share-low U x k p i a in (subst (λ y. q0 ≤q y) (sym e) (lt→le q0<q1), ≤-eq e))
-      (λ (a : k < i + p).
-      let l : U i ≤q x = subst (λ y. y ≤q x) (R .before i h) (subst (λ y. refined U x k i ≤q y) (R .new) (M i (suc k) (omega arith) (omega arith))) in
-      let r : x ≤q U (i + p) = subst (λ y. x ≤q y) (R .after (i + p) a) (subst (λ y. y ≤q refined U x k (suc (i + p))) (R .new) (M (suc k) (suc (i + p)) (omega arith) (omega arith))) in
-      subst (λ y. (q0 ≤q y) × (y ≤q q1)) (sym (share-mid U x k p i a h)) (unit-quotient (le-sub l) (sub-mono (U i) r)))
-      (split (i + p) k)
-
   -- positive weights stay positive
-  pub inserted-pos : (w : ℕ → ℚ) → ((i : ℕ) → i < count → q0 <q w i) → (i : ℕ) → i < suc count → q0 <q inserted U x k p w i
-  inserted-pos w h zero l = subst (λ y. q0 <q y) (sym (ins-zero U x k p w)) (h 0 (omega arith))
-  inserted-pos w h (suc j) l = ⊎-elim
-      (λ (a : suc j ≤ k). let r = unit-share (suc j) a in
-      subst (λ y. q0 <q y) (sym (ins-suc U x k p w j)) (mix-pos (share U x k p (suc j)) (w j) (w (suc j)) (r .0) (r .1) (h j (omega arith)) (h (suc j) (omega arith))))
-      (λ (a : k < suc j). subst (λ y. q0 <q y) (sym (ins-high U x k p w j a)) (h j (omega arith))) (split (suc j) k)
+  pub weights-pos : (w : ℕ → ℚ) → ((i : ℕ) → i < count → q0 <q w i) → (i : ℕ) → i < suc count → q0 <q inserted U x k p w i
+  weights-pos w h i l = inserted-pos (refined-is U x k) (in-order .mono) p (omega arith) w count place h i l
 
+  -- and so the point is what it was
   pub insertion-point : (t : ℚ) (w P : ℕ → ℚ) → ((i : ℕ) → i < count → q0 <q w i)
       → exact (refined U x k) t s p (suc count) (inserted U x k p w) (insertedPoint U x k p w P) ≡ exact U t (held k s) p count w P
-  insertion-point t w P h = insertion-exact t w P (λ i l. pos-ne (inserted-pos w h i l))
+  insertion-point t w P h = insertion-exact t w P (λ i l. pos-ne (weights-pos w h i l))

@@ -8,7 +8,7 @@ use lib.ListN.{length}
 use Rattle.exact.specs.Rational.{ℚ, q0, _<q_}
 use Rattle.exact.specs.Spline.{whole, exact}
 use Rattle.exact.specs.Boehm.{SpanOf, Insert, Fits, refined, held, inserted, insertedPoint, refinedAll, heldAll, insertedAll, insertedPointAll}
-use Rattle.exact.proofs.Insertion.{held-span, insertion-whole, insertion-point, inserted-pos}
+use Rattle.exact.proofs.Insertion.{held-span, insertion-whole, insertion-point, weights-pos}
 
 -- the old span is a nonempty span of the old curve
 pub heldAll-span : (l : List Insert) (U : ℕ → ℚ) (count : ℕ) {p after s : ℕ} → length l + count ≡ after → Fits p count l → SpanOf (refinedAll U l) p after s
@@ -37,5 +37,5 @@ insertions-point (a ∷ l) U count {p} e f S t w P h =
     let V′ = refined U (a .knot) (a .place) in
     let S′ = heldAll-span l V′ (suc count) (omega arith) (f .2) S in
     insertions-point l V′ (suc count) (omega arith) (f .2) S t (inserted U (a .knot) (a .place) p w) (insertedPoint U (a .knot) (a .place) p w P)
-    (inserted-pos U (a .knot) (a .place) (f .0) (f .1) S′ w h)
+    (weights-pos U (a .knot) (a .place) (f .0) (f .1) S′ w h)
     ∙ insertion-point U (a .knot) (a .place) (f .0) (f .1) S′ t w P h
