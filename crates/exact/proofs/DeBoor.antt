@@ -127,7 +127,7 @@ module _ {U : ℕ → ℚ} {n s : ℕ} (K : Knots U n s) (t : ℚ) where
 
 -- ---- the convex hull
 
-mix-low : (a r x y : ℚ) → q0 ≤q r → r ≤q q1 → a ≤q x → a ≤q y → a ≤q (q1 -q r) *q x +q r *q y
+pub mix-low : (a r x y : ℚ) → q0 ≤q r → r ≤q q1 → a ≤q x → a ≤q y → a ≤q (q1 -q r) *q x +q r *q y
 mix-low a r x y h k u v = le-by (add-nonneg (mul-nonneg (le-sub k) (le-sub u)) (mul-nonneg h (le-sub v)))
     (q-ring (a ∷ r ∷ x ∷ y ∷ []) (search qring depth 20) tt)
 

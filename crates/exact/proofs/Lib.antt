@@ -4,6 +4,11 @@ pub mod Sum
 pub mod DeBoor
 pub mod Source
 pub mod Curve
+pub mod Refined
+pub mod Inserted
+pub mod Boehm
+pub mod Insertion
+pub mod Insertions
 pub mod Deriv
 pub mod Jets
 pub mod Surface

@@ -1,4 +1,5 @@
 pub mod Rational
 pub mod Spline
 pub mod Surface
+pub mod Boehm
 pub mod Scheme

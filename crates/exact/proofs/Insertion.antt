@@ -1,0 +1,81 @@
+-- One knot inserted: the sum over all the points, and the exact point of a rational curve, are what they were. Assumes nothing.
+-- U is the knots, x the new knot after place k; p the degree; count the number of points; s a span of the refined knots.
+use mathlib.Core.Path.{_≡_, refl, sym, _∙_, ap, ap₂, subst}
+use mathlib.Core.Logic.{_≢_, _⊎_, inl, inr, ⊎-elim}
+use mathlib.Core.List.{List, [], _∷_}
+use Prim.Native.Nat.{ℕ, zero, suc, _+_, _-_, _≤_, _<_}
+use native.Mathlib.Nat.{suc-add}
+use native.Mathlib.Omega.{arith}
+use Rattle.exact.specs.Rational.{ℚ, _+q_, _-q_, _*q_, _/q_, inv, q0, q1, _≤q_, _<q_}
+use Rattle.exact.specs.Spline.{basis, Knots, whole, exact}
+use Rattle.exact.specs.Boehm.{SpanOf, refined, held, share, mix, inserted, insertedPoint}
+use Rattle.exact.proofs.Laws.{mul-inv}
+use Rattle.exact.proofs.Field.{qring, q-ring, q-combine, le-or-lt, le-by, le-sub, ≤-refl, ≤-eq, ≤-antisym, ≤-trans, <-≤-trans, lt→le, q0<q1, pos-ne, div-zero, div-nonneg, div-le-1}
+use Rattle.exact.proofs.Sum.{Σ-cong}
+use Rattle.exact.proofs.DeBoor.{mix-low}
+use Rattle.exact.proofs.Curve.{whole-curve}
+use Rattle.exact.proofs.Refined.{split, Refined, refined-is, Holds, held-is, old-knots}
+use Rattle.exact.proofs.Inserted.{inserted-pos}
+use Rattle.exact.proofs.Boehm.{boehm}
+
+pub whole-cong : (U : ℕ → ℚ) (t : ℚ) (s p count : ℕ) {c d : ℕ → ℚ} → ((i : ℕ) → i < count → c i ≡ d i) → whole U t s p count c ≡ whole U t s p count d
+unfolding whole
+whole-cong U t s p count h = Σ-cong count (λ i l. ap (λ y. basis U t s p i *q y) (h i l))
+
+-- the span that holds one of the points' spans is one of the points' spans
+pub held-from : (p k s : ℕ) → p ≤ k → p ≤ s → p ≤ held k s
+held-from p k s h g = let H = held-is k s in ⊎-elim
+    (λ (a : s ≤ k). let e : held k s ≡ s = H .left a in omega arith)
+    (λ (a : k < s). let e : suc (held k s) ≡ s = H .right a in omega arith) (split s k)
+
+pub held-below : (k s count : ℕ) → k < count → s ≤ count → held k s < count
+held-below k s count h g = let H = held-is k s in ⊎-elim
+    (λ (a : s ≤ k). let e : held k s ≡ s = H .left a in omega arith)
+    (λ (a : k < s). let e : suc (held k s) ≡ s = H .right a in omega arith) (split s k)
+
+put-back : (w X : ℚ) → w ≢ q0 → w *q (X /q w) ≡ X
+put-back w X h = q-combine X (mul-inv w h) (q-ring (w ∷ X ∷ inv w ∷ []) (search qring depth 20) tt)
+
+module _ (U : ℕ → ℚ) (x : ℚ) (k : ℕ) {p count s : ℕ} (from : p ≤ k) (place : k < count) (S : SpanOf (refined U x k) p (suc count) s) where
+  in-order : Knots (refined U x k) (suc (count + suc p)) s
+  in-order = subst (λ n. Knots (refined U x k) n s) (suc-add count (suc p)) (S .knots)
+
+  pub held-span : SpanOf U p count (held k s)
+  held-span =
+      let f : p ≤ s = S .first in
+      let l : s < suc count = S .last in
+      let h : held k s < count = held-below k s count place (omega arith) in
+      record { first = held-from p k s from f; last = h; knots = old-knots (refined-is U x k) in-order (held-is k s) (omega arith) }
+
+  -- Boehm: on every nonempty span of the refined knots the sum is what it was
+  pub insertion-whole : (t : ℚ) (c : ℕ → ℚ) → whole (refined U x k) t s p (suc count) (inserted U x k p c) ≡ whole U t (held k s) p count c
+  insertion-whole t c =
+      let f : p ≤ s = S .first in
+      let l : s < suc count = S .last in
+      let f₀ : p ≤ held k s = held-span .first in
+      let l₀ : held k s < count = held-span .last in
+      let e : s - p + p ≡ s = omega arith in
+      let e₀ : held k s - p + p ≡ held k s = omega arith in
+      whole-curve in-order p (s - p) (suc count) e l (omega arith) t (inserted U x k p c)
+      ∙ boehm (refined-is U x k) in-order (held-is k s) (omega arith) t p (s - p) (held k s - p) c e e₀ (omega arith) (omega arith) from
+      ∙ sym (whole-curve (held-span .knots) p (held k s - p) count e₀ l₀ (omega arith) t c)
+
+  -- ---- with weights
+
+  -- the exact point is what it was, where no new weight is 0
+  pub insertion-exact : (t : ℚ) (w P : ℕ → ℚ) → ((i : ℕ) → i < suc count → inserted U x k p w i ≢ q0)
+      → exact (refined U x k) t s p (suc count) (inserted U x k p w) (insertedPoint U x k p w P) ≡ exact U t (held k s) p count w P
+  unfolding exact insertedPoint
+  insertion-exact t w P n = ap₂ _/q_
+      (whole-cong (refined U x k) t s p (suc count) (λ i l. put-back (inserted U x k p w i) (inserted U x k p (λ j. w j *q P j) i) (n i l))
+      ∙ insertion-whole t (λ j. w j *q P j))
+      (insertion-whole t w)
+
+  -- positive weights stay positive
+  pub weights-pos : (w : ℕ → ℚ) → ((i : ℕ) → i < count → q0 <q w i) → (i : ℕ) → i < suc count → q0 <q inserted U x k p w i
+  weights-pos w h i l = inserted-pos (refined-is U x k) (in-order .mono) p (omega arith) w count place h i l
+
+  -- and so the point is what it was
+  pub insertion-point : (t : ℚ) (w P : ℕ → ℚ) → ((i : ℕ) → i < count → q0 <q w i)
+      → exact (refined U x k) t s p (suc count) (inserted U x k p w) (insertedPoint U x k p w P) ≡ exact U t (held k s) p count w P
+  insertion-point t w P h = insertion-exact t w P (λ i l. pos-ne (weights-pos w h i l))

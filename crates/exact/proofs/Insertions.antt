@@ -1,0 +1,41 @@
+-- Several knots inserted, one after the other: the sum and the exact point are what they were. Assumes nothing.
+-- l is the insertions; s a span after all of them, and heldAll l s the span of the old knots that holds it.
+use mathlib.Core.Path.{_≡_, refl, sym, _∙_, ap, ap₂, subst}
+use mathlib.Core.List.{List, [], _∷_}
+use Prim.Native.Nat.{ℕ, zero, suc, _+_, _-_, _≤_, _<_}
+use native.Mathlib.Omega.{arith}
+use lib.ListN.{length}
+use Rattle.exact.specs.Rational.{ℚ, q0, _<q_}
+use Rattle.exact.specs.Spline.{whole, exact}
+use Rattle.exact.specs.Boehm.{SpanOf, Insert, Fits, refined, held, inserted, insertedPoint, refinedAll, heldAll, insertedAll, insertedPointAll}
+use Rattle.exact.proofs.Insertion.{held-span, insertion-whole, insertion-point, weights-pos}
+
+-- the old span is a nonempty span of the old curve
+pub heldAll-span : (l : List Insert) (U : ℕ → ℚ) (count : ℕ) {p after s : ℕ} → length l + count ≡ after → Fits p count l → SpanOf (refinedAll U l) p after s
+    → SpanOf U p count (heldAll l s)
+unfolding refinedAll heldAll
+heldAll-span [] U count {p} {after} {s} e f S = let g : after ≡ count = omega arith in subst (λ n. SpanOf U p n s) g S
+heldAll-span (a ∷ l) U count e f S = held-span U (a .knot) (a .place) (f .0) (f .1) (heldAll-span l (refined U (a .knot) (a .place)) (suc count) (omega arith) (f .2) S)
+
+-- the sum over all the points is what it was
+pub insertions-whole : (l : List Insert) (U : ℕ → ℚ) (count : ℕ) {p after s : ℕ} → length l + count ≡ after → Fits p count l → SpanOf (refinedAll U l) p after s
+    → (t : ℚ) (c : ℕ → ℚ) → whole (refinedAll U l) t s p after (insertedAll U p l c) ≡ whole U t (heldAll l s) p count c
+unfolding refinedAll heldAll insertedAll
+insertions-whole [] U count {p} {after} {s} e f S t c = let g : after ≡ count = omega arith in ap (λ n. whole U t s p n c) g
+insertions-whole (a ∷ l) U count {p} e f S t c =
+    let V′ = refined U (a .knot) (a .place) in
+    insertions-whole l V′ (suc count) (omega arith) (f .2) S t (inserted U (a .knot) (a .place) p c)
+    ∙ insertion-whole U (a .knot) (a .place) (f .0) (f .1) (heldAll-span l V′ (suc count) (omega arith) (f .2) S) t c
+
+-- the exact point of a curve with positive weights is what it was
+pub insertions-point : (l : List Insert) (U : ℕ → ℚ) (count : ℕ) {p after s : ℕ} → length l + count ≡ after → Fits p count l → SpanOf (refinedAll U l) p after s
+    → (t : ℚ) (w P : ℕ → ℚ) → ((i : ℕ) → i < count → q0 <q w i)
+    → exact (refinedAll U l) t s p after (insertedAll U p l w) (insertedPointAll U p l w P) ≡ exact U t (heldAll l s) p count w P
+unfolding refinedAll heldAll insertedAll insertedPointAll
+insertions-point [] U count {p} {after} {s} e f S t w P h = let g : after ≡ count = omega arith in ap (λ n. exact U t s p n w P) g
+insertions-point (a ∷ l) U count {p} e f S t w P h =
+    let V′ = refined U (a .knot) (a .place) in
+    let S′ = heldAll-span l V′ (suc count) (omega arith) (f .2) S in
+    insertions-point l V′ (suc count) (omega arith) (f .2) S t (inserted U (a .knot) (a .place) p w) (insertedPoint U (a .knot) (a .place) p w P)
+    (weights-pos U (a .knot) (a .place) (f .0) (f .1) S′ w h)
+    ∙ insertion-point U (a .knot) (a .place) (f .0) (f .1) S′ t w P h
