@@ -2,11 +2,11 @@
 -- U is the knots, W the knots with x after place k; c and d are the controls, as functions of their index.
 use mathlib.Core.Path.{_≡_, refl, sym, _∙_, ap, ap₂, subst}
 use mathlib.Core.Logic.{_⊎_, inl, inr, ⊎-elim}
-use mathlib.Core.List.{List, [], _∷_}
+use mathlib.Core.List.{[], _∷_}
 use Prim.Native.Nat.{ℕ, zero, suc, _+_, _≤_, _<_}
 use native.Mathlib.Nat.{add-suc, suc-add, eq-or-lt-of-le}
 use native.Mathlib.Omega.{arith}
-use Rattle.exact.specs.Rational.{ℚ, _+q_, _-q_, _*q_, inv, q0, q1, _≤q_, _<q_}
+use Rattle.exact.specs.Rational.{ℚ, _+q_, _-q_, _*q_, inv, q0, q1, _<q_}
 use Rattle.exact.specs.Spline.{rise, Knots}
 use Rattle.exact.specs.Boehm.{mix, inserted}
 use Rattle.exact.proofs.Laws.{mul-inv}

@@ -2,11 +2,11 @@
 -- U is the knots, x the new knot after place k; p the degree; c the controls.
 use mathlib.Core.Path.{_≡_, refl, sym, _∙_, ap, subst}
 use mathlib.Core.Logic.{_⊎_, inl, inr, ⊎-elim}
-use mathlib.Core.List.{List, [], _∷_}
+use mathlib.Core.List.{[], _∷_}
 use Prim.Native.Nat.{ℕ, zero, suc, _+_, _≤_, _<_}
 use native.Mathlib.Omega.{arith}
 use lib.Dec.{leb, leb→le, le→leb}
-use Rattle.exact.specs.Rational.{ℚ, _+q_, _-q_, _*q_, _/q_, inv, q0, q1, _≤q_, _<q_}
+use Rattle.exact.specs.Rational.{ℚ, _-q_, _*q_, _/q_, inv, q0, q1, _≤q_, _<q_}
 use Rattle.exact.specs.Boehm.{share, mix, inserted}
 use Rattle.exact.proofs.Field.{qring, q-ring, div-is, le-or-lt, le-by, le-sub, ≤-refl, ≤-eq, ≤-antisym, ≤-trans, <-≤-trans, lt→le, q0<q1, div-zero, div-nonneg, div-le-1}
 use Rattle.exact.proofs.DeBoor.{mix-low}
@@ -90,9 +90,9 @@ mix-pos r a b l u h k = go (le-or-lt a b)
     go (inr z) = <-≤-trans k (mix-low b r a b l u (lt→le z) (≤-refl b))
 
 module _ {U W : ℕ → ℚ} {k : ℕ} {x : ℚ} (R : Refined U W k x) {n : ℕ} (m : (i j : ℕ) → i ≤ j → j < n → W i ≤q W j) (p : ℕ) (fits : suc (k + p) < n) where
+  -- the new knot lies between the knots of a share, so the share lies in [0, 1]
   unit-share : (i : ℕ) → i ≤ k → (q0 ≤q share U x k p i) × (share U x k p i ≤q q1)
-  unit-share i h =
-      ⊎-elim
+  unit-share i h = ⊎-elim
       (λ (a : i + p ≤ k). let e = share-low U x k p i a in (subst (λ y. q0 ≤q y) (sym e) (lt→le q0<q1), ≤-eq e))
       (λ (a : k < i + p).
       let l : U i ≤q x = subst (λ y. y ≤q x) (R .before i h) (subst (λ y. W i ≤q y) (R .new) (m i (suc k) (omega arith) (omega arith))) in

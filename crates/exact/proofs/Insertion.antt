@@ -1,20 +1,19 @@
 -- One knot inserted: the sum over all the points, and the exact point of a rational curve, are what they were. Assumes nothing.
 -- U is the knots, x the new knot after place k; p the degree; count the number of points; s a span of the refined knots.
-use mathlib.Core.Path.{_≡_, refl, sym, _∙_, ap, ap₂, subst}
-use mathlib.Core.Logic.{_≢_, _⊎_, inl, inr, ⊎-elim}
-use mathlib.Core.List.{List, [], _∷_}
-use Prim.Native.Nat.{ℕ, zero, suc, _+_, _-_, _≤_, _<_}
+use mathlib.Core.Path.{_≡_, sym, _∙_, ap, ap₂, subst}
+use mathlib.Core.Logic.{_≢_, ⊎-elim}
+use mathlib.Core.List.{[], _∷_}
+use Prim.Native.Nat.{ℕ, suc, _+_, _-_, _≤_, _<_}
 use native.Mathlib.Nat.{suc-add}
 use native.Mathlib.Omega.{arith}
-use Rattle.exact.specs.Rational.{ℚ, _+q_, _-q_, _*q_, _/q_, inv, q0, q1, _≤q_, _<q_}
+use Rattle.exact.specs.Rational.{ℚ, _*q_, _/q_, inv, q0, _≤q_, _<q_}
 use Rattle.exact.specs.Spline.{basis, Knots, whole, exact}
-use Rattle.exact.specs.Boehm.{SpanOf, refined, held, share, mix, inserted, insertedPoint}
+use Rattle.exact.specs.Boehm.{SpanOf, InSpan, InEnd, refined, held, inserted, insertedPoint}
 use Rattle.exact.proofs.Laws.{mul-inv}
-use Rattle.exact.proofs.Field.{qring, q-ring, q-combine, le-or-lt, le-by, le-sub, ≤-refl, ≤-eq, ≤-antisym, ≤-trans, <-≤-trans, lt→le, q0<q1, pos-ne, div-zero, div-nonneg, div-le-1}
+use Rattle.exact.proofs.Field.{qring, q-ring, q-combine, ≤-trans, ≤-<-trans, <-≤-trans, pos-ne}
 use Rattle.exact.proofs.Sum.{Σ-cong}
-use Rattle.exact.proofs.DeBoor.{mix-low}
 use Rattle.exact.proofs.Curve.{whole-curve}
-use Rattle.exact.proofs.Refined.{split, Refined, refined-is, Holds, held-is, old-knots}
+use Rattle.exact.proofs.Refined.{split, refined-is, Holds, held-is, old-knots, held-low, held-high, new-order, one-span, one-end, refined-span}
 use Rattle.exact.proofs.Inserted.{inserted-pos}
 use Rattle.exact.proofs.Boehm.{boehm}
 
@@ -79,3 +78,59 @@ module _ (U : ℕ → ℚ) (x : ℚ) (k : ℕ) {p count s : ℕ} (from : p ≤ k
   pub insertion-point : (t : ℚ) (w P : ℕ → ℚ) → ((i : ℕ) → i < count → q0 <q w i)
       → exact (refined U x k) t s p (suc count) (inserted U x k p w) (insertedPoint U x k p w P) ≡ exact U t (held k s) p count w P
   insertion-point t w P h = insertion-exact t w P (λ i l. pos-ne (weights-pos w h i l))
+
+  -- ---- at one parameter
+
+  pub held-in : {t : ℚ} → InSpan (refined U x k) s t → InSpan U (held k s) t
+  held-in I = let h : held k s < count = held-span .last in record {
+    from = ≤-trans (held-low (refined-is U x k) in-order (held-is k s) (omega arith)) (I .from);
+    to = <-≤-trans (I .to) (held-high (refined-is U x k) in-order (held-is k s) (omega arith));
+  }
+
+  pub held-end : {t : ℚ} → InEnd (refined U x k) s t → InEnd U (held k s) t
+  held-end I = let h : held k s < count = held-span .last in record {
+    from = ≤-<-trans (held-low (refined-is U x k) in-order (held-is k s) (omega arith)) (I .from);
+    to = ≤-trans (I .to) (held-high (refined-is U x k) in-order (held-is k s) (omega arith));
+  }
+
+  module _ {s₀ : ℕ} (S₀ : SpanOf U p count s₀) {t : ℚ} (w P : ℕ → ℚ) (pos : (i : ℕ) → i < count → q0 <q w i) where
+    -- the exact point at t, each curve on its own span of t
+    pub insertion-same : InSpan U s₀ t → InSpan (refined U x k) s t
+        → exact (refined U x k) t s p (suc count) (inserted U x k p w) (insertedPoint U x k p w P) ≡ exact U t s₀ p count w P
+    insertion-same I J =
+        let h : held k s < count = held-span .last in
+        let l : s₀ < count = S₀ .last in
+        insertion-point t w P pos ∙ ap (λ m. exact U t m p count w P) (one-span (S₀ .knots .mono) (omega arith) (omega arith) (held-in J) I)
+
+    pub insertion-same-end : InEnd U s₀ t → InEnd (refined U x k) s t
+        → exact (refined U x k) t s p (suc count) (inserted U x k p w) (insertedPoint U x k p w P) ≡ exact U t s₀ p count w P
+    insertion-same-end I J =
+        let h : held k s < count = held-span .last in
+        let l : s₀ < count = S₀ .last in
+        insertion-point t w P pos ∙ ap (λ m. exact U t m p count w P) (one-end (S₀ .knots .mono) (omega arith) (omega arith) (held-end J) I)
+
+-- a parameter of a span of the old curve is in a span of the new one
+pub refined-in : (U : ℕ → ℚ) (x : ℚ) (k : ℕ) {p count s₀ : ℕ} → p ≤ k → k < count → U k ≤q x → x ≤q U (suc k) → SpanOf U p count s₀ → {t : ℚ} → InSpan U s₀ t
+    → (s : ℕ) × SpanOf (refined U x k) p (suc count) s × InSpan (refined U x k) s t
+refined-in U x k {p} {count} {s₀} from place low high S I =
+    let R = refined-is U x k in
+    let o = refined-span R I in
+    let H : Holds k (o .0) s₀ = o .1 in
+    let J : InSpan (refined U x k) (o .0) _ = o .2 in
+    let f : p ≤ s₀ = S .first in
+    let l : s₀ < count = S .last in
+    let r : (p ≤ o .0) × (o .0 < suc count) = ⊎-elim
+    (λ (h : o .0 ≤ k). let e : s₀ ≡ o .0 = H .left h in (omega arith, omega arith))
+    (λ (h : k < o .0). let e : suc s₀ ≡ o .0 = H .right h in (omega arith, omega arith)) (split (o .0) k) in (
+      o .0,
+      record {
+        first = r .0;
+        last = r .1;
+        knots = record {
+          mono = subst (λ n. (i j : ℕ) → i ≤ j → j < n → refined U x k i ≤q refined U x k j) (sym (suc-add count (suc p)))
+              (new-order R (count + suc p) (omega arith) (S .knots .mono) low high);
+          gap = ≤-<-trans (J .from) (J .to);
+        };
+      },
+      J,
+    )

@@ -3,14 +3,14 @@
 use mathlib.Core.Path.{_≡_, refl, sym, _∙_, ap, subst}
 use mathlib.Core.Bool.{Bool, true, false, cond, not}
 use mathlib.Core.Logic.{_⊎_, inl, inr, ⊎-elim}
-use Prim.Native.Nat.{ℕ, zero, suc, _+_, _-_, _≤_, _<_}
+use Prim.Native.Nat.{ℕ, zero, suc, _-_, _≤_, _<_}
 use native.Mathlib.Nat.{eq-or-lt-of-le}
 use native.Mathlib.Omega.{arith}
 use lib.Dec.{T, leb, leb→le, le→leb, nleb→lt, eqb, eqb→eq, eqb-refl}
 use Rattle.exact.specs.Rational.{ℚ, _≤q_, _<q_}
 use Rattle.exact.specs.Spline.{Knots}
-use Rattle.exact.specs.Boehm.{refined, held}
-use Rattle.exact.proofs.Field.{≤-eq, ≤-<-trans, <-≤-trans}
+use Rattle.exact.specs.Boehm.{refined, held, InSpan, InEnd}
+use Rattle.exact.proofs.Field.{≤-eq, ≤-trans, ≤-<-trans, <-≤-trans, not-both, le-or-lt}
 use Rattle.exact.proofs.DeBoor.{mono-of-steps}
 use Rattle.exact.proofs.Source.{cond-yes, cond-no}
 
@@ -113,3 +113,55 @@ new-order {U} {W} {k} {x} R n place m low high = mono-of-steps W (suc n) step
 
     step : (i : ℕ) → suc i < suc n → W i ≤q W (suc i)
     step i l = ⊎-elim (λ (h : i ≤ k). upto i h l) (λ (h : k < i). past i h l) (split i k)
+
+-- ---- the span of a parameter
+
+equal : {a b : ℕ} → (a < b → ⊥) → (b < a → ⊥) → a ≡ b
+equal {a} {b} f g = ⊎-elim
+    (λ (h : a ≤ b). ⊎-elim (λ (e : a ≡ b). e) (λ (e : a < b). absurd (f e)) (eq-or-lt-of-le {n = a} {m = b} h))
+    (λ (h : b < a). absurd (g h)) (split a b)
+
+-- one span of knots in order holds t
+module _ {U : ℕ → ℚ} {n : ℕ} (m : (i j : ℕ) → i ≤ j → j < n → U i ≤q U j) {a b : ℕ} (in₁ : a < n) (in₂ : b < n) {t : ℚ} where
+  pub one-span : InSpan U a t → InSpan U b t → a ≡ b
+  one-span A B = equal
+      (λ h. not-both (A .to) (≤-trans (m (suc a) b h in₂) (B .from)))
+      (λ h. not-both (B .to) (≤-trans (m (suc b) a h in₁) (A .from)))
+
+  pub one-end : InEnd U a t → InEnd U b t → a ≡ b
+  one-end A B = equal
+      (λ h. not-both (B .from) (≤-trans (A .to) (m (suc a) b h in₂)))
+      (λ h. not-both (A .from) (≤-trans (B .to) (m (suc b) a h in₁)))
+
+-- each parameter of an old span is in a refined span that it holds
+pub refined-span : {U W : ℕ → ℚ} {k : ℕ} {x : ℚ} (R : Refined U W k x) {s₀ : ℕ} {t : ℚ} → InSpan U s₀ t → (s : ℕ) × Holds k s s₀ × InSpan W s t
+refined-span {U} {W} {k} {x} R {s₀} {t} I = ⊎-elim
+    (λ (h : s₀ ≤ k). ⊎-elim at before (eq-or-lt-of-le {n = s₀} {m = k} h)) after (split s₀ k)
+  where
+    before : s₀ < k → (s : ℕ) × Holds k s s₀ × InSpan W s t
+    before h = (
+      s₀,
+      record { left = λ g. refl; right = λ g. absurd (omega arith) },
+      record { from = subst (λ y. y ≤q t) (sym (R .before s₀ (omega arith))) (I .from); to = subst (λ y. t <q y) (sym (R .before (suc s₀) h)) (I .to) },
+    )
+
+    after : k < s₀ → (s : ℕ) × Holds k s s₀ × InSpan W s t
+    after h = (
+      suc s₀,
+      record { left = λ g. absurd (omega arith); right = λ g. refl },
+      record { from = subst (λ y. y ≤q t) (sym (R .after s₀ h)) (I .from); to = subst (λ y. t <q y) (sym (R .after (suc s₀) (omega arith))) (I .to) },
+    )
+
+    at : s₀ ≡ k → (s : ℕ) × Holds k s s₀ × InSpan W s t
+    at e = ⊎-elim
+        (λ (h : x ≤q t). (
+          suc s₀,
+          record { left = λ g. absurd (omega arith); right = λ g. refl },
+          record { from = subst (λ y. y ≤q t) (sym (ap (λ m. W (suc m)) e ∙ R .new)) h; to = subst (λ y. t <q y) (sym (R .after (suc s₀) (omega arith))) (I .to) },
+        ))
+        (λ (h : t <q x). (
+          s₀,
+          record { left = λ g. refl; right = λ g. absurd (omega arith) },
+          record { from = subst (λ y. y ≤q t) (sym (R .before s₀ (omega arith))) (I .from); to = subst (λ y. t <q y) (sym (ap (λ m. W (suc m)) e ∙ R .new)) h },
+        ))
+        (le-or-lt x t)

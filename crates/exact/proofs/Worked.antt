@@ -7,6 +7,7 @@ use lib.IntN.{ℤ, pos, negsuc}
 use lib.ListN.{getD}
 use Rattle.exact.specs.Rational.{ℚ, frac, q1, _≤q_}
 use Rattle.exact.specs.Spline.{basis, Knots, exact, dbasis, dexact}
+use Rattle.exact.specs.Boehm.{refined, inserted, insertedPoint}
 use Rattle.exact.proofs.Field.{same, by-same, dec-le, dec-lt}
 use Rattle.exact.proofs.DeBoor.{curve, deboor, mono-of-steps, deboor-is}
 use Rattle.exact.proofs.Source.{work, alpha}
@@ -86,3 +87,22 @@ knots-A = record { mono = mono-of-steps A 7 step-A; gap = dec-lt tt }
 
 instance-A : deboor A half 2 0 x ≡ curve A half 2 2 0 x
 instance-A = deboor-is knots-A half 2 0 x refl (omega arith)
+
+-- ---- the knot 1/2 inserted after place 2: x = 0 1 5/2 4 6 on the knots 0 0 0 1/2 1 2 2 2
+
+inserted-A-1 : inserted A half 2 2 x 1 ≡ q1
+unfolding same inserted A half x
+inserted-A-1 = by-same tt
+
+inserted-A-2 : inserted A half 2 2 x 2 ≡ frac (pos 5) 1
+unfolding same inserted A half x
+inserted-A-2 = by-same tt
+
+inserted-A-3 : inserted A half 2 2 x 3 ≡ q 4
+unfolding same inserted A half x
+inserted-A-3 = by-same tt
+
+-- the point at 1/2, on the span that the new knot begins
+refined-A : exact (refined A half 2) half 3 2 5 (inserted A half 2 2 (λ i. q1)) (insertedPoint A half 2 2 (λ i. q1) x) ≡ frac (pos 7) 3
+unfolding same exact refined insertedPoint A half x
+refined-A = by-same tt

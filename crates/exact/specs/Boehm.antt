@@ -4,7 +4,7 @@ use mathlib.Core.Bool.{cond}
 use mathlib.Core.List.{List, [], _∷_}
 use Prim.Native.Nat.{ℕ, zero, suc, _+_, _-_, _≤_, _<_}
 use lib.Dec.{leb, eqb}
-use Rattle.exact.specs.Rational.{ℚ, _+q_, _-q_, _*q_, _/q_, q0, q1}
+use Rattle.exact.specs.Rational.{ℚ, _+q_, _-q_, _*q_, _/q_, q0, q1, _≤q_, _<q_}
 use Rattle.exact.specs.Spline.{Knots}
 
 -- s is a nonempty span of a curve with count points
@@ -12,6 +12,16 @@ pub record SpanOf (U : ℕ → ℚ) (p count s : ℕ) : Type 0 where
   pub first : p ≤ s
   pub last : s < count
   pub knots : Knots U (count + suc p) s
+
+-- t is in span s, which has its left end and not its right
+pub record InSpan (U : ℕ → ℚ) (s : ℕ) (t : ℚ) : Type 0 where
+  pub from : U s ≤q t
+  pub to : t <q U (suc s)
+
+-- the other way round, for the end of the curve
+pub record InEnd (U : ℕ → ℚ) (s : ℕ) (t : ℚ) : Type 0 where
+  pub from : U s <q t
+  pub to : t ≤q U (suc s)
 
 -- the knots with x after place k
 unfoldable pub refined : (ℕ → ℚ) → ℚ → ℕ → ℕ → ℚ
