@@ -17,7 +17,8 @@ const CALLS: [(&str, &[u32]); 1] = [("insert_knots", &[0, 1, 2, 3, 4, 5, 6, 7, 8
 pub const MODULE: Module = Module {
     name: "edits",
     calls: || CALLS.map(|c| Call { name: c.0, numbers: c.1, idle: &[] }).into(),
-    features: &FEATURES,
+    // The last is of surfaces alone.
+    features: FEATURES.split_at(FEATURES.len() - 1).0,
     default_cases: 500_000,
     case,
     list: None,
