@@ -19,9 +19,10 @@ use Rattle.evaluate.proofs.Steps.{room-open}
 use Rattle.evaluate.proofs.Overlays.{take-padded}
 use Rattle.insertion.specs.Counts.{allEqual}
 use Rattle.insertion.specs.Rows.{given}
-use Rattle.insertion.specs.Fold.{insertAll, ListMeets}
+use Rattle.insertion.specs.Fold.{insertAll}
 use Rattle.insertion.specs.Start.{clampedEnds, roomFor, insertStart}
 use Rattle.insertion.specs.Whole.{givenOf}
+use Rattle.insertion.specs.Passes.{ListMeets}
 
 -- ---- the whole of a run, and of what is left of it
 take-all : (xs : List Float) → take (length xs) xs ≡ xs

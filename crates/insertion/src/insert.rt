@@ -12,8 +12,9 @@ ghost use lib.ListN.{length};
 ghost use Rattle.knots.specs.Clear.{zeros};
 ghost use Rattle.knots.specs.Curve.{ValidCurve};
 ghost use Rattle.insertion.specs.Rows.{given};
-ghost use Rattle.insertion.specs.Fold.{insertAll, ListMeets};
+ghost use Rattle.insertion.specs.Fold.{insertAll};
 ghost use Rattle.insertion.specs.Whole.{givenOf, InsertMeets};
+ghost use Rattle.insertion.specs.Passes.{ListMeets};
 
 // Every lent run at once: what a refusal leaves.
 fn clear_all(knots: &mut [f64], points: &mut [f64], weights: &mut [f64], rows: &mut [f64])
