@@ -25,8 +25,9 @@ use Rattle.evaluate.proofs.Overlays.{drop-zeros}
 use Rattle.insertion.specs.Control.{isLifted, isBlended}
 use Rattle.insertion.specs.Counts.{multiplicityOf}
 use Rattle.insertion.specs.Rows.{given}
-use Rattle.insertion.specs.Insert.{moreKnots, spotRefusal, lifted, blended, morePoints, moreWeights, formRefusal, insertedKnots, insertedPoints, insertedWeights, insertRefusal, Inserted}
-use Rattle.insertion.specs.Fold.{Outcome, gives, refuses, insertAll, ListMeets}
+use Rattle.insertion.specs.Insert.{moreKnots, spotRefusal, lifted, blended, morePoints, moreWeights, formRefusal, insertedKnots, insertedPoints, insertedWeights, insertRefusal}
+use Rattle.insertion.specs.Fold.{Outcome, gives, refuses, insertAll}
+use Rattle.insertion.specs.Passes.{Inserted, ListMeets}
 use Rattle.insertion.proofs.Storing.{front-taken}
 use Rattle.insertion.proofs.Forming.{given-less}
 

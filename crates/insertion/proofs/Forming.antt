@@ -28,8 +28,9 @@ use Rattle.evaluate.specs.declared.vector.Vector.{Vector}
 use Rattle.evaluate.proofs.IsoCurves.{Within, span-found}
 use Rattle.insertion.specs.Control.{isLifted, isBlended, shareOf, blendOf, lowerOf}
 use Rattle.insertion.specs.Counts.{multiplicityOf}
-use Rattle.insertion.specs.Rows.{rowOf, liftAll, blendAt, axis, lowerAt, weightIn, given, lowerRefusal, LiftDone, LowerDone}
-use Rattle.insertion.specs.Insert.{knotAt, moreKnots, inside, spotRefusal, lifted, blended, morePoints, moreWeights, formRefusal, Formed, insertedKnots, insertedPoints, insertedWeights, insertRefusal, Inserted}
+use Rattle.insertion.specs.Rows.{liftAll, blendAt, axis, lowerAt, weightIn, given}
+use Rattle.insertion.specs.Insert.{knotAt, moreKnots, inside, spotRefusal, lifted, blended, morePoints, moreWeights, formRefusal, insertedKnots, insertedPoints, insertedWeights, insertRefusal}
+use Rattle.insertion.specs.Passes.{rowOf, lowerRefusal, LiftDone, LowerDone, Formed, Inserted}
 use Rattle.insertion.specs.declared.control.Control.{Control}
 use Rattle.insertion.proofs.Grown.{grown-valid, controls-left}
 use Rattle.insertion.proofs.RowLoops.{lower-is}

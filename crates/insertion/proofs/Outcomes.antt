@@ -10,9 +10,10 @@ use Rattle.knots.specs.Clear.{zeros}
 use Rattle.knots.specs.Curve.{countOf}
 use Rattle.knots.specs.declared.refusal.Refusal.{Refusal}
 use Rattle.knots.proofs.Refusals.{stop, skip}
-use Rattle.insertion.specs.Fold.{Outcome, gives, refuses, insertAll, ListMeets}
+use Rattle.insertion.specs.Fold.{Outcome, gives, refuses, insertAll}
 use Rattle.insertion.specs.Start.{insertStart}
 use Rattle.insertion.specs.Whole.{givenOf, answerOf, knotsIn, pointsIn, weightsIn, insertOutcome, InsertMeets}
+use Rattle.insertion.specs.Passes.{ListMeets}
 use Rattle.insertion.specs.declared.answer.EditAnswer.{EditAnswer}
 use Rattle.insertion.specs.declared.answer.EditAnswer.the-variants.{Formed, Refused}
 

@@ -21,7 +21,8 @@ use Rattle.evaluate.specs.Controls.{pointOf, weightOf, finiteVector}
 use Rattle.evaluate.specs.declared.vector.Vector.{Vector}
 use Rattle.evaluate.proofs.Overlays.{store-none, store-more}
 use Rattle.insertion.specs.Control.{liftOf, isLifted, isBlended, shareOf, blendOf, lowerOf}
-use Rattle.insertion.specs.Rows.{rowOf, liftAt, blendAt, axis, lowerAt, weightIn, given, lowerRefusal, LiftDone, LowerDone}
+use Rattle.insertion.specs.Rows.{liftAt, blendAt, axis, lowerAt, weightIn, given}
+use Rattle.insertion.specs.Passes.{rowOf, lowerRefusal, LiftDone, LowerDone}
 use Rattle.insertion.specs.declared.control.Control.{Control}
 
 -- ---- four stores in a row

@@ -2,13 +2,12 @@
 -- Assumes nothing.
 use Prim.Native.Nat.{ℕ, _+_, _-_, _*_, _/_, _≤_}
 use mathlib.Core.Bool.{Bool, true, false, not}
-use mathlib.Core.Path.{_≡_, refl, sym, _∙_, ap, subst}
-use mathlib.Core.List.{List, [], _∷_, _++_}
+use mathlib.Core.Path.{_≡_, refl, sym, _∙_, ap, ap₂, subst}
+use mathlib.Core.List.{List, [], _∷_}
 use native.Mathlib.Omega.{arith}
 use lib.ListN.{length, take, drop, length-take, length-drop}
 use lib.Ieee.{Float}
 use Rattle.doubles.specs.Run.{at}
-use Rattle.knots.specs.Clear.{zeros}
 use Rattle.knots.specs.Refusal.{refuse, too-long, ends-unclamped}
 use Rattle.knots.specs.Curve.{longest, overLong, countOf, curveRefusal, ValidCurve}
 use Rattle.knots.specs.declared.refusal.Refusal.{Refusal}
@@ -17,13 +16,13 @@ use Rattle.knots.proofs.Curves.{within, valid-curve}
 use Rattle.evaluate.specs.Shape.{roomRefusal}
 use Rattle.evaluate.specs.Lent.{padded}
 use Rattle.evaluate.proofs.Steps.{room-open}
-use Rattle.evaluate.proofs.Overlays.{drop-zeros}
+use Rattle.evaluate.proofs.Overlays.{take-padded}
 use Rattle.insertion.specs.Counts.{allEqual}
 use Rattle.insertion.specs.Rows.{given}
-use Rattle.insertion.specs.Fold.{insertAll, ListMeets}
+use Rattle.insertion.specs.Fold.{insertAll}
 use Rattle.insertion.specs.Start.{clampedEnds, roomFor, insertStart}
 use Rattle.insertion.specs.Whole.{givenOf}
-use Rattle.insertion.proofs.Storing.{front-taken}
+use Rattle.insertion.specs.Passes.{ListMeets}
 
 -- ---- the whole of a run, and of what is left of it
 take-all : (xs : List Float) → take (length xs) xs ≡ xs
@@ -72,14 +71,11 @@ module _ (p : ℕ) (ks ps : List Float) (g : Bool) (ws ts : List Float) (a b c d
         scratch-room = room-open d (10 * N + 2 * (p + 1)) (w .1);
       }
 
--- ---- a run in a cleared run
-pub loaded : (m : ℕ) (xs x₀ x₁ : List Float) → x₀ ≡ zeros (length x₀) → x₁ ≡ xs ++ drop (length xs) x₀ → length x₁ ≡ length x₀ → length xs ≡ m → (take m x₁ ≡ xs) × (x₁ ≡ padded (length x₁) (take m x₁))
-unfolding padded
-loaded m xs x₀ x₁ Z E L M =
-    let f = front-taken m xs (drop (length xs) x₀) x₁ M E in
-    let e : x₁ ≡ xs ++ zeros (length x₁ - length xs) =
-    E ∙ ap (λ (t : List Float). xs ++ t) (ap (drop (length xs)) Z ∙ (drop-zeros (length xs) (length x₀) ∙ ap (λ (i : ℕ). zeros (i - length xs)) (sym L))) in
-    (f, e ∙ ap (λ (t : List Float). t ++ zeros (length x₁ - length t)) (sym f))
+-- ---- a run that was copied
+pub loaded : (m : ℕ) (xs x₁ : List Float) (l : ℕ) → x₁ ≡ padded l xs → length x₁ ≡ l → length xs ≡ m → (take m x₁ ≡ xs) × (x₁ ≡ padded (length x₁) (take m x₁))
+loaded m xs x₁ l E L M =
+    let f = take-padded m l xs x₁ M E in
+    (f, E ∙ ap₂ padded (sym L) (sym f))
 
 pub given-is : (g : Bool) (n c : ℕ) (ws : List Float) → (g ≡ true → length ws ≡ n) → c ≡ given g n → (take c ws ≡ givenOf g ws) × (length (take c ws) ≡ given g n)
 given-is true n c ws h C =

@@ -2,9 +2,8 @@
 -- Assumes nothing.
 use Prim.Native.Nat.{ℕ, _+_, _-_, _*_}
 use mathlib.Core.Bool.{Bool, not, cond, _&&_}
-use mathlib.Core.Path.{_≡_}
-use mathlib.Core.List.{List, _++_}
-use lib.ListN.{length, drop}
+use mathlib.Core.List.{List}
+use lib.ListN.{length}
 use lib.Dec.{leb, ltb, eqb}
 use lib.Ieee.{Float, le}
 use lib.Ieee.Scale.{finite}
@@ -58,13 +57,6 @@ module _ (p n k s : ℕ) (t : Float) (ks ps : List Float) (g : Bool) (ws : List 
       (cond (not (allBelow (λ i. isBlended (blended i)) (n + 1))) (refuse edit-bad)
       (formedRefusal p (n + 1) (moreKnots k t ks) morePoints g moreWeights))
 
-  -- r is that refusal. Where it is none, the curve that is formed stands at the front of three runs
-  pub record Formed (k₀ p₀ w₀ k₁ p₁ w₁ : List Float) (r : Refusal) : Type 0 where
-    pub refusal : r ≡ formRefusal
-    pub knots : r .number ≡ 0 → k₁ ≡ moreKnots k t ks ++ drop (n + 1 + p + 1) k₀
-    pub points : r .number ≡ 0 → p₁ ≡ morePoints ++ drop ((n + 1) * 3) p₀
-    pub weights : r .number ≡ 0 → w₁ ≡ moreWeights ++ drop (given g (n + 1)) w₀
-
 -- the whole
 module _ (p n : ℕ) (ks ps : List Float) (g : Bool) (ws : List Float) (t : Float) where
   unfoldable pub insertedKnots : List Float
@@ -80,9 +72,3 @@ module _ (p n : ℕ) (ks ps : List Float) (g : Bool) (ws : List Float) (t : Floa
   insertRefusal =
       orElse (spotRefusal (at ks p) (at ks n) t p (multiplicityOf ks t))
       (formRefusal p n (spanOf p n ks t) (multiplicityOf ks t) t ks ps g ws)
-
-  pub record Inserted (k₀ p₀ w₀ k₁ p₁ w₁ : List Float) (r : Refusal) : Type 0 where
-    pub refusal : r ≡ insertRefusal
-    pub knots : r .number ≡ 0 → k₁ ≡ insertedKnots ++ drop (n + 1 + p + 1) k₀
-    pub points : r .number ≡ 0 → p₁ ≡ insertedPoints ++ drop ((n + 1) * 3) p₀
-    pub weights : r .number ≡ 0 → w₁ ≡ insertedWeights ++ drop (given g (n + 1)) w₀

@@ -5,3 +5,4 @@ pub mod Insert
 pub mod Fold
 pub mod Start
 pub mod Whole
+pub mod Passes

@@ -12,27 +12,21 @@ ghost use lib.ListN.{length};
 ghost use Rattle.knots.specs.Clear.{zeros};
 ghost use Rattle.knots.specs.Curve.{ValidCurve};
 ghost use Rattle.insertion.specs.Rows.{given};
-ghost use Rattle.insertion.specs.Fold.{insertAll, ListMeets};
+ghost use Rattle.insertion.specs.Fold.{insertAll};
 ghost use Rattle.insertion.specs.Whole.{givenOf, InsertMeets};
+ghost use Rattle.insertion.specs.Passes.{ListMeets};
 
-// Three runs at once.
-fn clear_outputs(knots: &mut [f64], points: &mut [f64], weights: &mut [f64])
-    ensures { λ _. ⌜ (now (knots .exit) ≡ zeros (length (now (knots .entry)))) × (now (points .exit) ≡ zeros (length (now (points .entry)))) × (now (weights .exit) ≡ zeros (length (now (weights .entry)))) ⌝ }
+// Every lent run at once: what a refusal leaves.
+fn clear_all(knots: &mut [f64], points: &mut [f64], weights: &mut [f64], rows: &mut [f64])
+    ensures { λ _. ⌜ (now (knots .exit) ≡ zeros (length (now (knots .entry)))) × (now (points .exit) ≡ zeros (length (now (points .entry)))) × (now (weights .exit) ≡ zeros (length (now (weights .entry)))) × (now (rows .exit) ≡ zeros (length (now (rows .entry)))) ⌝ }
 {
     clear(knots);
     clear(points);
     clear(weights);
-}
-
-// The same, and the run that was worked in.
-fn clear_all(knots: &mut [f64], points: &mut [f64], weights: &mut [f64], rows: &mut [f64])
-    ensures { λ _. ⌜ (now (knots .exit) ≡ zeros (length (now (knots .entry)))) × (now (points .exit) ≡ zeros (length (now (points .entry)))) × (now (weights .exit) ≡ zeros (length (now (weights .entry)))) × (now (rows .exit) ≡ zeros (length (now (rows .entry)))) ⌝ }
-{
-    clear_outputs(knots, points, weights);
     clear(rows);
 }
 
-// The curve goes into cleared runs, and the knots are inserted there.
+// The curve goes into the outputs, and the knots are inserted there.
 fn insert_into(
     degree: usize,
     knots: &[f64],
@@ -46,9 +40,9 @@ fn insert_into(
     rows: &mut [f64],
 ) -> Refusal
     requires { ⌜ ValidCurve degree (now knots) (now points) rational (now weights) ⌝ }
-    requires { ⌜ (length (now points) / 3 + length (now inserted) + degree + 1 ≤ length (now «out_knots»)) × (now «out_knots» ≡ zeros (length (now «out_knots»))) ⌝ }
-    requires { ⌜ ((length (now points) / 3 + length (now inserted)) * 3 ≤ length (now «out_points»)) × (now «out_points» ≡ zeros (length (now «out_points»))) ⌝ }
-    requires { ⌜ (given rational (length (now points) / 3 + length (now inserted)) ≤ length (now «out_weights»)) × (now «out_weights» ≡ zeros (length (now «out_weights»))) ⌝ }
+    requires { ⌜ (length (now points) / 3 + length (now inserted) + degree + 1 ≤ length (now «out_knots»)) ⌝ }
+    requires { ⌜ ((length (now points) / 3 + length (now inserted)) * 3 ≤ length (now «out_points»)) ⌝ }
+    requires { ⌜ (given rational (length (now points) / 3 + length (now inserted)) ≤ length (now «out_weights»)) ⌝ }
     requires { ⌜ (length (now points) / 3 + length (now inserted)) * 4 ≤ length (now rows) ⌝ }
     ensures { λ r. ⌜ ListMeets (length (now («out_knots» .entry))) (length (now («out_points» .entry))) (length (now («out_weights» .entry))) (insertAll degree rational (length (now (points .entry)) / 3) (now (knots .entry)) (now (points .entry)) (givenOf rational (now (weights .entry))) (now (inserted .entry))) (now («out_knots» .exit)) (now («out_points» .exit)) (now («out_weights» .exit)) r ⌝ }
 {
@@ -88,7 +82,6 @@ pub fn insert_knots(
     let b = out_points.len();
     let c = out_weights.len();
     let d = scratch.len();
-    clear_outputs(out_knots, out_points, out_weights);
     let early = insert_start(
         degree,
         knots,
@@ -102,7 +95,7 @@ pub fn insert_knots(
         d,
     );
     if early.number != 0 {
-        clear(scratch);
+        clear_all(out_knots, out_points, out_weights, scratch);
         return EditAnswer::Refused(early);
     }
     let refusal = insert_into(

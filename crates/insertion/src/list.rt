@@ -8,7 +8,8 @@ ghost use lib.ListN.{length, take};
 ghost use Rattle.knots.specs.Knots.{ValidKnots};
 ghost use Rattle.evaluate.specs.Lent.{padded};
 ghost use Rattle.insertion.specs.Rows.{given};
-ghost use Rattle.insertion.specs.Fold.{insertAll, ListMeets};
+ghost use Rattle.insertion.specs.Fold.{insertAll};
+ghost use Rattle.insertion.specs.Passes.{ListMeets};
 
 // Each knot goes into the curve that the one before it formed: all weights are divided by their largest anew, and the first point is the reference anew.
 pub fn insert_all(

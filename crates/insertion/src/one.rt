@@ -14,7 +14,8 @@ ghost use Prim.Native.Nat.{_+_, _*_, _<_, _≤_};
 ghost use lib.ListN.{length, take};
 ghost use Rattle.knots.specs.Knots.{ValidKnots};
 ghost use Rattle.insertion.specs.Rows.{given};
-ghost use Rattle.insertion.specs.Insert.{moreKnots, inside, spotRefusal, Formed, Inserted};
+ghost use Rattle.insertion.specs.Insert.{moreKnots, inside, spotRefusal};
+ghost use Rattle.insertion.specs.Passes.{Formed, Inserted};
 
 // Finite, and strictly inside the domain.
 fn is_inside(lo: f64, hi: f64, t: f64) -> bool

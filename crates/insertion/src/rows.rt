@@ -16,7 +16,8 @@ ghost use mathlib.Core.Bool.{true, cond, _&&_};
 ghost use Prim.Native.Nat.{_+_, _*_, _<_, _≤_};
 ghost use lib.ListN.{length, set};
 ghost use Rattle.evaluate.specs.Controls.{pointOf};
-ghost use Rattle.insertion.specs.Rows.{rowOf, scaleOf, liftAt, liftAll, blendAt, LiftDone, LowerDone};
+ghost use Rattle.insertion.specs.Rows.{scaleOf, liftAt, liftAll, blendAt};
+ghost use Rattle.insertion.specs.Passes.{rowOf, LiftDone, LowerDone};
 
 // Where a knot goes: the degree, the knot t, the last place k whose knot is at most t, and how many knots equal t.
 pub struct Spot {

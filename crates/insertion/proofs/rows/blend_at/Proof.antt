@@ -2,10 +2,10 @@
 -- Assumes nothing.
 use denote.Ref.{now}
 use borrow.Author.Needs.{needs}
-use Rattle.insertion.specs.Rows.{rowOf}
 use Rattle.insertion.proofs.RowLoops.{blend-low, blend-mid, blend-high}
 use Rattle.insertion.proofs.rows.blend_at.Statement.{statement}
 use Rattle.insertion.proofs.rows.blend_at.Tie as tie
+use Rattle.insertion.specs.Passes.{rowOf}
 
 sub-if1 : tie.Need-sub-if1
 sub-if1 c = search needs

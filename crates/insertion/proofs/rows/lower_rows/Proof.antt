@@ -6,7 +6,8 @@ use native.Mathlib.Omega.{arith}
 use denote.Ref.{now}
 use borrow.Author.Needs.{needs}
 use borrow.Author.Tests.{not-true, not-false}
-use Rattle.insertion.specs.Rows.{rowOf, blendAt}
+use Rattle.insertion.specs.Rows.{blendAt}
+use Rattle.insertion.specs.Passes.{rowOf}
 use Rattle.insertion.proofs.RowLoops.{InLower, lower-start, lower-stop, lower-more, lower-bad, lower-end}
 use Rattle.insertion.proofs.rows.lower_rows.Statement.{statement}
 use Rattle.insertion.proofs.rows.lower_rows.Tie as tie

@@ -1,70 +1,22 @@
 -- `insertion::runs::copy_run` meets its contract.
 -- Assumes nothing.
-use mathlib.Core.Path.{_≡_, refl, _∙_, ap}
-use Prim.Native.Nat.{ℕ, _+_, _-_, _≤_}
-use mathlib.Core.List.{List, _++_}
-use native.Mathlib.Omega.{arith}
 use denote.Ref.{now}
-use lib.ListN.{length, drop, length-set}
-use lib.Ieee.{Float}
 use borrow.Author.Needs.{needs}
-use Rattle.doubles.specs.Run.{at}
-use Rattle.insertion.proofs.Storing.{tabulate-at}
-use Rattle.basis.specs.Basis.{tabulate}
-use Rattle.evaluate.proofs.Overlays.{store-none, store-more}
+use Rattle.insertion.proofs.Storing.{copied}
 use Rattle.insertion.proofs.runs.copy_run.Statement.{statement}
 use Rattle.insertion.proofs.runs.copy_run.Tie as tie
 
-abbrev Inv-loop : tie.InvT-loop
-Inv-loop xs out₀ i₀ out i = (i ≤ length xs) × (length out ≡ length out₀) × (out ≡ tabulate i (at xs) ++ drop i out₀)
+copy-front-requires : tie.Need-copy-front-requires
+copy-front-requires c κs = search needs
 
-abbrev μ-loop : tie.MeasureT-loop
-μ-loop xs out₀ i₀ out i = length xs - i
+clear-from-requires : tie.Need-clear-from-requires
+clear-from-requires c κs = search needs
 
-loop-holds : tie.Need-loop-holds Inv-loop μ-loop
-loop-holds c = (omega arith, refl, store-none (at (now (c .args .xs))) (now (c .args .out)))
+same-length : tie.Need-same-length
+same-length c = search needs
 
-mul-out : tie.Need-mul-out Inv-loop μ-loop
-mul-out c = search needs
-
-shared-slice-read-out : tie.Need-shared-slice-read-out Inv-loop μ-loop
-shared-slice-read-out c = search needs
-
-mul-out-2 : tie.Need-mul-out-2 Inv-loop μ-loop
-mul-out-2 c = search needs
-
-slice-write-out : tie.Need-slice-write-out Inv-loop μ-loop
-slice-write-out c = search needs
-
-add-i : tie.Need-add-i Inv-loop μ-loop
-add-i c = search needs
-
-loop-less : tie.Need-loop-less Inv-loop μ-loop
-loop-less c = search needs
-
-loop-again : tie.Need-loop-again Inv-loop μ-loop
-loop-again c = (omega arith, length-set (c .before .before .loop .out) (c .before .before .loop .i) _ ∙ c .before .before .loop .inv .1, store-more (c .before .before .loop .i) (at (now (c .before .before .before .args .xs))) (now (c .before .before .before .args .out)) (c .before .before .loop .out) _ (omega arith) (c .before .before .loop .inv .2) refl)
-
-same-length : tie.Need-same-length Inv-loop μ-loop
-same-length c = c .before .loop .inv .1
-
-returns : tie.Need-returns Inv-loop μ-loop
-returns c = let e : c .before .loop .i ≡ length (now (c .before .before .args .xs)) = omega arith in
-    c .before .loop .inv .2 ∙ (ap (λ (k : ℕ). tabulate k (at (now (c .before .before .args .xs))) ++ drop k (now (c .before .before .args .out))) e ∙ ap (λ (l : List Float). l ++ drop (length (now (c .before .before .args .xs))) (now (c .before .before .args .out))) (tabulate-at (now (c .before .before .args .xs))))
+returns : tie.Need-returns
+returns c = copied (now (c .before .before .before .before .before .before .before .before .before .before .args .xs)) (now (c .before .before .before .before .before .before .before .before .before .before .args .out)) _ _ (c .before .before .before .before .before .before .copy-front .ensures) (c .before .before .before .before .before .out .given) (c .before .before .clear-from .ensures)
 
 pub copy-run-spec : {M : Type 1} → statement M
-copy-run-spec =
-    tie.close
-    (tie.spec
-    Inv-loop
-    μ-loop
-    loop-holds
-    mul-out
-    shared-slice-read-out
-    mul-out-2
-    slice-write-out
-    add-i
-    loop-less
-    loop-again
-    same-length
-    returns)
+copy-run-spec = tie.close (tie.spec copy-front-requires clear-from-requires same-length returns)
