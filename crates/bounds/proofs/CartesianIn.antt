@@ -1,21 +1,20 @@
 -- The Cartesian bounds hold the quotient moved by the reference, and its derivatives. Assumes nothing.
-use mathlib.Core.Path.{_≡_, refl, sym, _∙_, ap, ap₂, subst}
-use mathlib.Core.Bool.{Bool, true, false, not, _||_, cond}
+use mathlib.Core.Path.{_≡_, sym, _∙_, subst}
+use mathlib.Core.Bool.{Bool, true, false, _||_, cond}
 use mathlib.Core.Logic.{_≢_}
-use mathlib.Core.List.{List, [], _∷_}
+use mathlib.Core.List.{[], _∷_}
 use lib.Dec.{T}
 use lib.Ieee.{Float, lt, le, isNan}
 use lib.Ieee.Scale.{finite}
 use Rattle.doubles.specs.Neighbour.{fmin, fmax}
 use Rattle.doubles.specs.Value.{Lower, Upper, val}
 use Rattle.exact.proofs.Field.{div-is}
-use Rattle.exact.specs.Rational.{ℚ, _+q_, _-q_, _*q_, _/q_, inv, q0, q1, _≤q_, _<q_}
+use Rattle.exact.specs.Rational.{ℚ, _+q_, _-q_, _*q_, _/q_, inv, _≤q_, _<q_}
 use Rattle.exact.specs.Spline.{quotient}
 use Rattle.interval.proofs.Contain.{point-inside, add-inside, sub-inside, mul-inside, reciprocal-inside}
 use Rattle.interval.specs.Inside.{Inside, Encloses as Divides}
-use Rattle.interval.specs.Ops.{pointOf, addOf, subOf, mulOf, newOf, reciprocalOf}
+use Rattle.interval.specs.Ops.{subOf, mulOf, newOf, reciprocalOf}
 use Rattle.interval.specs.declared.Interval.{Interval}
-use Rattle.interval.specs.declared.New.{New}
 use Rattle.interval.specs.declared.New.the-variants.{Made, Nothing}
 use Rattle.interval.specs.declared.Quotient.{Quotient}
 use Rattle.interval.specs.declared.Quotient.the-variants as Q

@@ -1,55 +1,48 @@
 -- THE THEOREM. Where bound_curve answers with bounds, each coordinate's interval holds the exact coordinate of the curve at every fraction of the range, and the derivative's interval the exact derivative. Assumes nothing.
-use mathlib.Core.Path.{_≡_, refl, sym, _∙_, ap, ap₂, subst}
-use mathlib.Core.Bool.{Bool, true, false, not, _&&_, _||_, cond}
-use mathlib.Core.Logic.{_≢_, _⊎_, inl, inr}
+use mathlib.Core.Path.{_≡_, refl, sym, _∙_, subst}
+use mathlib.Core.Bool.{Bool, true, false, _&&_, _||_, cond}
+use mathlib.Core.Logic.{_≢_, _⊎_}
 use mathlib.Core.List.{List, [], _∷_}
 use Prim.Native.Nat.{ℕ, zero, suc, _+_, _-_, _*_, _/_, _%_, _≤_, _<_}
 use native.Mathlib.Nat.{div-add-mod'}
 use native.Mathlib.Numerals.{add-one}
 use native.Mathlib.Omega.{arith}
-use lib.Dec.{T, ltb, leb, eqb}
+use lib.Dec.{T, eqb}
 use lib.ListN.{length}
-use lib.Ieee.{Float, nan, inf, fin, lt, le}
+use lib.Ieee.{Float, nan, inf, fin, le}
 use lib.Ieee.Scale.{finite}
-use borrow.Author.Tests.{ltb-false, eq-eqb, eqb-true, eqb-false, not-true, not-false}
-use Rattle.doubles.proofs.Enclose.{lower-le}
-use Rattle.doubles.proofs.Value.{val-one}
+use borrow.Author.Tests.{eq-eqb, eqb-true}
 use Rattle.doubles.specs.Run.{at}
 use Rattle.doubles.specs.Value.{Lower, Upper, val, zero+, one+}
 use Rattle.exact.proofs.Curve.{exact-work, divisor-low, divisor-le-1, weight-pos}
-use Rattle.exact.proofs.DeBoor.{mono-of-steps}
-use Rattle.exact.proofs.Field.{qring, q-ring, ≤-refl, ≤-trans, <-≤-trans, lt-of-le-ne, pos-ne, mul-pos, inv-nonneg, inv-ne-0, div-is}
+use Rattle.exact.proofs.Field.{qring, q-ring, ≤-refl, ≤-trans, <-≤-trans, pos-ne}
 use Rattle.exact.proofs.Jets.{dwork, dexact-work}
 use Rattle.exact.proofs.Source.{work}
 use Rattle.exact.specs.Rational.{ℚ, _+q_, _-q_, _*q_, _/q_, inv, q0, q1, _≤q_, _<q_}
 use Rattle.exact.specs.Spline.{Knots, exact, whole, dexact, quotient}
-use Rattle.interval.proofs.Contain.{point-inside, reciprocal-inside}
 use Rattle.interval.specs.Inside.{Inside, Encloses as Divides}
 use Rattle.interval.specs.Ops.{pointOf, newOf, reciprocalOf}
 use Rattle.interval.specs.declared.Interval.{Interval}
 use Rattle.interval.specs.declared.Quotient.{Quotient}
 use Rattle.interval.specs.declared.Quotient.the-variants as Q
-use Rattle.interval.specs.declared.New.{New}
 use Rattle.interval.specs.declared.New.the-variants.{Made, Nothing}
 use Rattle.bounds.specs.declared.jet.Jet.{Jet}
 use Rattle.bounds.specs.declared.net.Control.{Control}
-use Rattle.bounds.specs.declared.net.NetAnswer.{NetAnswer}
 use Rattle.bounds.specs.declared.net.NetAnswer.the-variants as N
-use Rattle.bounds.specs.declared.start.Point.{Point}
 use Rattle.bounds.specs.declared.start.Weights.{Weights}
 use Rattle.bounds.specs.declared.start.Weights.the-variants as W
 use Rattle.bounds.specs.declared.cartesian.BoundAnswer.{BoundAnswer}
 use Rattle.bounds.specs.declared.cartesian.BoundAnswer.the-variants as B
-use Rattle.bounds.specs.Net.{orElse, mixJet, mixOf, netOf, refusalLevels, lastBy, deboorOf}
+use Rattle.bounds.specs.Net.{mixJet, mixOf, netOf, refusalLevels, lastBy, deboorOf}
 use Rattle.bounds.specs.Start.{weightsOf, maxFrom, minFrom, startAt, pointAt, rowBy, rowOf}
 use Rattle.bounds.specs.Cartesian.{cartesianOf, netBy}
 use Rattle.bounds.specs.Range.{weightAt, spanOver, takenSpan, rangeRefusal}
 use Rattle.bounds.specs.Curve.{parameterOf, rangeIs, weightsAre, spanBound, boundOf, boundAt}
-use Rattle.bounds.proofs.JetIn.{JetIn, jet-eq, in-one, in-zero}
-use Rattle.bounds.proofs.NetIn.{orElse-0, none, Family, along, across, nowhere, net-in}
-use Rattle.bounds.proofs.WeightIn.{Cut, Cuts, Largest, Least, largest, least, range-in, ControlIn, FinitePoint, control-in}
-use Rattle.bounds.proofs.CartesianIn.{Three, Encloses, Boxes, over, cartesian-in, boxes-eq, three-eq}
-use Rattle.bounds.proofs.SpanIn.{SpanValid, span-valid, TakenSpan, taken-valid, taken-first, InSpan, in-span, weight-finite, weight-positive}
+use Rattle.bounds.proofs.JetIn.{JetIn, in-one, in-zero}
+use Rattle.bounds.proofs.NetIn.{none, along, nowhere, net-in}
+use Rattle.bounds.proofs.WeightIn.{Cut, Cuts, Largest, Least, largest, least, range-in, scale-in, bound-in, ControlIn, FinitePoint, point-finite, control-in}
+use Rattle.bounds.proofs.CartesianIn.{Three, Boxes, over, cartesian-in, boxes-eq, three-eq}
+use Rattle.bounds.proofs.SpanIn.{SpanValid, span-valid, taken-valid, taken-first, InSpan, in-span, weight-finite, weight-positive}
 use Rattle.bounds.specs.Answer.{boundsOf, boundedOf}
 use Rattle.bounds.specs.Holds.{weight, Holding, HoldsOn, Holds, HoldsValid}
 use Rattle.bounds.specs.declared.answer.NurbsBounds.{NurbsBounds}
@@ -59,7 +52,6 @@ use Rattle.knots.specs.declared.refusal.Refusal.{Refusal}
 use Rattle.knots.specs.Refusal as R
 use Rattle.knots.specs.Curve.{countOf, anyLong, curveRefusal, ValidCurve}
 use Rattle.knots.proofs.Curves.{valid-curve, none-long}
-use Rattle.doubles.proofs.Tests.{T-of}
 use Rattle.doubles.specs.Run.{valAt}
 use Rattle.bounds.specs.Curve.{unless}
 
@@ -172,12 +164,8 @@ module _ (p s : ℕ) (ks ps ws : List Float) (r : Bool) (lo hi : Float) (Va : Va
   σ-pos : q0 <q σ
   σ-pos = <-≤-trans a-pos (≤-trans (lows 0 (omega arith)) (highs 0 (omega arith)))
 
-  point-finite : (i : ℕ) → i < countOf ps → FinitePoint (pointAt ps i)
-  unfolding pointAt
-  point-finite i l =
-      let e = Va .triples in
-      let f : (k : ℕ) → k < length ps → T (finite (at ps k)) = λ k l. T-of (finite (at ps k)) (Va .controls .coordinates k l) in
-      record { x = f (i * 3) (omega arith); y = f (i * 3 + 1) (omega arith); z = f (i * 3 + 2) (omega arith) }
+  finite-at : (i : ℕ) → i < countOf ps → FinitePoint (pointAt ps i)
+  finite-at = point-finite ps (countOf ps) (Va .triples) (Va .controls .coordinates)
 
   -- the exact homogeneous net
   abbrev H : (ℕ → ℚ) → ℕ → ℚ
@@ -222,12 +210,6 @@ module _ (p s : ℕ) (ks ps ws : List Float) (r : Bool) (lo hi : Float) (Va : Va
   Good A = Boxes A (EX (X ps)) (EX (Y ps)) (EX (Z ps))
 
   module _ (scale : Float) (bound : Interval) (cut : Cut (minFrom (inf false) w (suc p)) (maxFrom zero+ w (suc p)) scale bound) where
-    bound-in : Inside bound wh
-    bound-in = record {
-      low = lower-le (bound .lo) (cut .low) wh-low;
-      high = subst (λ x. Upper x wh) (sym (cut .one)) (subst (λ x. wh ≤q x) (sym val-one) wh-high);
-    }
-
     -- the levels on the row, weighed by the scale's reciprocal
     module _ (q : Interval) (k : Inside q (inv σ)) where
       abbrev net : ℕ → Control
@@ -238,7 +220,7 @@ module _ (p s : ℕ) (ks ps ws : List Float) (r : Bool) (lo hi : Float) (Va : Va
       start-in m l =
           let h = fits in
           let e = base in
-          control-in (pointAt ps (s - p + m)) (pointAt ps (s - p)) (weightAt r ws (s - p + m)) q σ (point-finite (s - p + m) (omega arith)) (point-finite (s - p) (omega arith)) (heavy (s - p + m) (omega arith)) k
+          control-in (pointAt ps (s - p + m)) (pointAt ps (s - p)) (weightAt r ws (s - p + m)) q σ (finite-at (s - p + m) (omega arith)) (finite-at (s - p) (omega arith)) (heavy (s - p + m) (omega arith)) k
 
       run : (j : Jet) → JetIn j t q1 q0 → refusalLevels ks p s j 1 p ≡ 0 → (sel : Control → Jet) → ((α : Jet) (a b : Control) → sel (mixOf α a b) ≡ mixJet α (sel a) (sel b))
           → (C : ℕ → ℚ) → ((m : ℕ) → m ≤ p → JetIn (sel (net m)) (C m) q0 q0) → JetIn (sel (netOf ks p s j net p p)) (work (valAt ks) t p s C p p) (dwork (valAt ks) t p s C (λ m. q0) p p) q0
@@ -257,7 +239,7 @@ module _ (p s : ℕ) (ks ps ws : List Float) (r : Bool) (lo hi : Float) (Va : Va
           (run j h e (λ c. c .y) mix-y (H (Y ps)) (λ m l. start-in m l .y))
           (run j h e (λ c. c .z) mix-z (H (Z ps)) (λ m l. start-in m l .z))
           (run j h e (λ c. c .w) mix-w HW (λ m l. start-in m l .w))
-          bound-in (point-finite (s - p) (let h = fits in let k = base in omega arith)))
+          (bound-in cut wh wh-low wh-high) (finite-at (s - p) (let h = fits in let k = base in omega arith)))
 
     row-in : (j : Jet) → JetIn j t q1 q0 → (a : Quotient) → Divides a (inv σ) → Good (netBy (pointAt ps (s - p)) bound (rowBy ps ws r (s - p) (pointAt ps (s - p)) ks p s j a))
     unfolding deboorOf
@@ -265,15 +247,12 @@ module _ (p s : ℕ) (ks ps ws : List Float) (r : Bool) (lo hi : Float) (Va : Va
     row-in j h Q.HoldsZero k = tt
     row-in j h Q.Unbounded k = tt
 
-    scale-in : Divides (reciprocalOf (pointOf scale)) (inv σ)
-    scale-in = subst (λ (x : Float). Divides (reciprocalOf (pointOf x)) (inv σ)) (sym (cut .scaled)) (reciprocal-inside _ σ (point-inside (maxFrom zero+ w (suc p)) (most-is .held)))
-
     range-is-in : Good (rangeIs p s ks ps ws r lo hi scale bound (newOf lo hi))
     unfolding newOf rowOf
     range-is-in = go (le lo hi)
       where
         go : (x : Bool) → Good (rangeIs p s ks ps ws r lo hi scale bound (cond x (Made (record { lo = lo; hi = hi })) Nothing))
-        go true = row-in (parameterOf (record { lo = lo; hi = hi })) (param-in lo hi t (Sp .lo-finite) (Sp .hi-finite) from upto) (reciprocalOf (pointOf scale)) scale-in
+        go true = row-in (parameterOf (record { lo = lo; hi = hi })) (param-in lo hi t (Sp .lo-finite) (Sp .hi-finite) from upto) (reciprocalOf (pointOf scale)) (scale-in cut (most-is .held))
         go false = tt
 
   pub span-bound-in : Good (spanBound p s ks ps ws r lo hi)

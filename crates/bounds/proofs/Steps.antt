@@ -1,7 +1,7 @@
 -- What one turn of each loop does to its definition. Assumes nothing.
 use Prim.Native.Nat.{ℕ, zero, suc, _+_, _-_, _*_, _≤_, _<_}
 use mathlib.Core.Path.{_≡_, refl, sym, _∙_, ap, ap₂, subst}
-use mathlib.Core.Bool.{Bool, true, false, cond}
+use mathlib.Core.Bool.{Bool, true, false}
 use mathlib.Core.List.{List, [], _∷_}
 use mathlib.Core.Logic.{_⊎_, inl, inr}
 use native.Mathlib.Numerals.{add-one}
@@ -25,7 +25,7 @@ use Rattle.bounds.specs.declared.net.Control.{Control}
 use Rattle.bounds.specs.declared.net.NetAnswer.{NetAnswer}
 use Rattle.bounds.specs.declared.net.NetAnswer.the-variants as N
 use Rattle.bounds.specs.declared.start.Point.{Point}
-use Rattle.bounds.specs.Net.{shareBy, shareOf, shareAt, mixOf, mixBy, neighbours, refusedBy, orElse, levelOf, refusalFrom, netOf, refusalLevels, lastBy, deboorOf, netRefused, zeroControl, netControl, refusalUp, refuseNet, filledOf}
+use Rattle.bounds.specs.Net.{shareBy, shareOf, shareAt, mixBy, neighbours, refusedBy, orElse, levelOf, refusalFrom, netOf, refusalLevels, lastBy, deboorOf, netRefused, zeroControl, netControl, refusalUp, refuseNet, filledOf}
 use Rattle.bounds.specs.Start.{maxFrom, minFrom, startAt, rowBy, rowOf}
 use Rattle.bounds.specs.Range.{firstFrom}
 use Rattle.bounds.specs.Surface.{maxRows, minRows}

@@ -1,5 +1,5 @@
 -- THE THEOREM for surfaces. Where the answer is bounds, they hold the exact point and its two derivatives at every pair of parameters of the ranges. Assumes nothing.
-use mathlib.Core.Path.{_≡_, refl, sym, _∙_, ap, ap₂, subst}
+use mathlib.Core.Path.{_≡_, refl, sym, _∙_, subst}
 use mathlib.Core.Bool.{Bool, true, false, not, _&&_, cond}
 use mathlib.Core.Logic.{_≢_, _⊎_, inl, inr}
 use mathlib.Core.List.{List, [], _∷_}
@@ -7,30 +7,24 @@ use Prim.Native.Nat.{ℕ, zero, suc, _+_, _-_, _*_, _/_, _%_, _≤_, _<_}
 use native.Mathlib.Nat.{eq-or-lt-of-le, le-of-suc-le-suc, mul-le-mul-right, suc-mul}
 use native.Mathlib.Numerals.{add-one}
 use native.Mathlib.Omega.{arith}
-use lib.Dec.{T, ltb, leb, eqb}
+use lib.Dec.{T, ltb}
 use lib.ListN.{length}
-use lib.Ieee.{Float, inf, lt, le}
+use lib.Ieee.{Float, inf, le}
 use lib.Ieee.Scale.{finite}
-use borrow.Author.Tests.{ltb-false, eqb-true, not-true, not-false}
-use Rattle.doubles.proofs.Enclose.{lower-le}
-use Rattle.doubles.specs.Neighbour.{fmin, fmax}
 use Rattle.doubles.specs.Run.{at, valAt}
-use Rattle.doubles.specs.Value.{Lower, Upper, val, zero+, one+}
-use Rattle.exact.proofs.Field.{≤-refl, ≤-trans, <-≤-trans, lt-of-le-ne, pos-ne, mul-pos, inv-nonneg, inv-ne-0, div-is}
+use Rattle.doubles.specs.Value.{val, zero+, one+}
+use Rattle.exact.proofs.Field.{≤-refl, ≤-trans, <-≤-trans, pos-ne}
 use Rattle.exact.proofs.Jets.{dwork}
 use Rattle.exact.proofs.Source.{work}
 use Rattle.exact.proofs.Surface.{net, net-du, net-dv, exact₂-net, exact₂-du, exact₂-dv, weight₂-pos, weight₂-low, weight₂-le-1}
 use Rattle.exact.specs.Rational.{ℚ, _+q_, _-q_, _*q_, _/q_, inv, q0, q1, _≤q_, _<q_}
-use Rattle.exact.specs.Spline.{basis, Knots, dbasis, quotient}
 use Rattle.exact.specs.Surface.{whole₂, exact₂, dexact₂u, dexact₂v}
-use Rattle.interval.proofs.Contain.{point-inside, reciprocal-inside}
 use Rattle.interval.specs.Inside.{Inside, Encloses as Divides}
 use Rattle.interval.specs.Ops.{pointOf, newOf, reciprocalOf}
 use Rattle.knots.specs.Knots.{ValidKnots}
 use Rattle.interval.specs.declared.Interval.{Interval}
 use Rattle.interval.specs.declared.Quotient.{Quotient}
 use Rattle.interval.specs.declared.Quotient.the-variants as Q
-use Rattle.interval.specs.declared.New.{New}
 use Rattle.interval.specs.declared.New.the-variants.{Made, Nothing}
 use Rattle.bounds.specs.declared.jet.Jet.{Jet}
 use Rattle.bounds.specs.declared.net.Control.{Control}
@@ -41,15 +35,15 @@ use Rattle.bounds.specs.declared.start.Weights.{Weights}
 use Rattle.bounds.specs.declared.start.Weights.the-variants as W
 use Rattle.bounds.specs.declared.cartesian.BoundAnswer.{BoundAnswer}
 use Rattle.bounds.specs.declared.cartesian.BoundAnswer.the-variants as B
-use Rattle.bounds.specs.Net.{orElse, mixJet, mixOf, netOf, refusalLevels, lastBy, deboorOf, netRefused, netControl, refusalUp, refuseNet, filledOf}
+use Rattle.bounds.specs.Net.{mixJet, mixOf, netOf, refusalLevels, lastBy, deboorOf, netRefused, netControl, refusalUp, refuseNet, filledOf}
 use Rattle.bounds.specs.Start.{maxFrom, minFrom, rangeOf, pointAt, startAt, rowBy, rowOf}
 use Rattle.bounds.specs.Cartesian.{cartesianOf, netBy}
 use Rattle.bounds.specs.Range.{weightAt, spanOver, rangeRefusal}
 use Rattle.bounds.specs.Curve.{parameterOf, unless}
-use Rattle.bounds.specs.Surface.{rangesRefusal, maxRows, minRows, secondOf, firstAt, corner, rowAt, rangesAre, weightsBy, spansBound, boundedBy, surfaceOf, SpansFit}
+use Rattle.bounds.specs.Surface.{rangesRefusal, maxRows, minRows, secondOf, rowAt, rangesAre, weightsBy, spansBound, boundedBy, surfaceOf, SpansFit}
 use Rattle.bounds.proofs.JetIn.{JetIn, in-one, in-zero}
-use Rattle.bounds.proofs.NetIn.{orElse-0, none, along, across, nowhere, net-in}
-use Rattle.bounds.proofs.WeightIn.{max-from, min-from, Least, least, Cut, Cuts, range-in, ControlIn, FinitePoint, control-in, up-0}
+use Rattle.bounds.proofs.NetIn.{none, along, across, nowhere, net-in}
+use Rattle.bounds.proofs.WeightIn.{max-from, min-from, least, Cut, Cuts, range-in, scale-in, bound-in, ControlIn, FinitePoint, point-finite, control-in, up-0}
 use Rattle.bounds.proofs.CartesianIn.{Three, Boxes, over, cartesian-in, boxes-eq, three-eq}
 use Rattle.bounds.proofs.CurveIn.{mix-x, mix-y, mix-z, mix-w, low-of, high-of, X, Y, Z, param-in, Boxed, boxed, unless-in}
 use Rattle.bounds.proofs.SpanIn.{SpanValid, span-valid, InSpan, in-span, weight-finite, weight-positive}
@@ -60,8 +54,6 @@ use Rattle.knots.specs.Refusal.{degree-high}
 use Rattle.knots.specs.Surface.{surfaceRefusal, ValidSurface}
 use Rattle.knots.proofs.Refusals.{passed, orElse-none}
 use Rattle.knots.proofs.Surfaces.{valid-surface}
-use Rattle.doubles.proofs.Tests.{T-of}
-use Rattle.doubles.proofs.Value.{val-one}
 
 -- ---- the least and the largest weight of a net
 
@@ -219,12 +211,8 @@ module _ (p q us vs : ℕ) (uk vk : List Float) (nu nv : ℕ) (ps ws : List Floa
   σ-pos : q0 <q σ
   σ-pos = <-≤-trans (least-is .positive) (≤-trans (lows 0 0 (omega arith) (omega arith)) (highs 0 0 (omega arith) (omega arith)))
 
-  point-finite : (i : ℕ) → i < nu * nv → FinitePoint (pointAt ps i)
-  unfolding pointAt
-  point-finite i l =
-      let e = Va .triples in
-      let f : (k : ℕ) → k < length ps → T (finite (at ps k)) = λ k l. T-of (finite (at ps k)) (Va .controls .coordinates k l) in
-      record { x = f (i * 3) (omega arith); y = f (i * 3 + 1) (omega arith); z = f (i * 3 + 2) (omega arith) }
+  finite-at : (i : ℕ) → i < nu * nv → FinitePoint (pointAt ps i)
+  finite-at = point-finite ps (nu * nv) (Va .triples) (Va .controls .coordinates)
 
   -- the exact homogeneous net
   abbrev H : (ℕ → ℚ) → ℕ → ℕ → ℚ
@@ -283,16 +271,7 @@ module _ (p q us vs : ℕ) (uk vk : List Float) (nu nv : ℕ) (ps ws : List Floa
     start-in c d m l k h =
         subst (λ (i : ℕ). ControlIn (start c m k) ((X ps i -q X ps ((us - p) * nv + (vs - q))) *q (weight r ws i /q σ)) ((Y ps i -q Y ps ((us - p) * nv + (vs - q))) *q (weight r ws i /q σ)) ((Z ps i -q Z ps ((us - p) * nv + (vs - q))) *q (weight r ws i /q σ)) (weight r ws i /q σ)) (same-place m k)
         (control-in (pointAt ps ((us - p + m) * nv + (vs - q) + k)) (pointAt ps ((us - p) * nv + (vs - q))) (weightAt r ws ((us - p + m) * nv + (vs - q) + k)) c σ
-        (point-finite ((us - p + m) * nv + (vs - q) + k) (here′ m k l h)) (point-finite ((us - p) * nv + (vs - q)) first-here) (heavy ((us - p + m) * nv + (vs - q) + k) (here′ m k l h)) d)
-
-    scale-in : Divides (reciprocalOf (pointOf scale)) (inv σ)
-    scale-in = subst (λ (x : Float). Divides (reciprocalOf (pointOf x)) (inv σ)) (sym (cut .scaled)) (reciprocal-inside _ σ (point-inside (maxRows w (suc q) (suc p)) (most-is .held)))
-
-    bound-in : Inside bound wh
-    bound-in = record {
-      low = lower-le (bound .lo) (cut .low) wh-low;
-      high = subst (λ x. Upper x wh) (sym (cut .one)) (subst (λ x. wh ≤q x) (sym val-one) wh-high);
-    }
+        (finite-at ((us - p + m) * nv + (vs - q) + k) (here′ m k l h)) (finite-at ((us - p) * nv + (vs - q)) first-here) (heavy ((us - p + m) * nv + (vs - q) + k) (here′ m k l h)) d)
 
     -- a row along v
     module _ (sel : Control → Jet) (mixes : (α : Jet) (a b : Control) → sel (mixOf α a b) ≡ mixJet α (sel a) (sel b)) (C : ℕ → ℕ → ℚ)
@@ -312,7 +291,7 @@ module _ (p q us vs : ℕ) (uk vk : List Float) (nu nv : ℕ) (ps ws : List Floa
 
       row-in : (m : ℕ) → m ≤ p → RowIn m (row m)
       unfolding rowAt rowOf
-      row-in m h = by-scale m h (reciprocalOf (pointOf scale)) scale-in
+      row-in m h = by-scale m h (reciprocalOf (pointOf scale)) (scale-in cut (most-is .held))
 
       -- and the column of the rows along u
       column-in : refusalUp row (p + 1) 0 ≡ 0 → refusalLevels uk p us (parameterOf iu) 1 p ≡ 0
@@ -341,7 +320,7 @@ module _ (p q us vs : ℕ) (uk vk : List Float) (nu nv : ℕ) (ps ws : List Floa
         (column-in (λ c. c .y) mix-y (H (Y ps)) (λ c d m l k n. start-in c d m l k n .y) clear e)
         (column-in (λ c. c .z) mix-z (H (Z ps)) (λ c d m l k n. start-in c d m l k n .z) clear e)
         (column-in (λ c. c .w) mix-w HW (λ c d m l k n. start-in c d m l k n .w) clear e)
-        bound-in (point-finite ((us - p) * nv + (vs - q)) first-here))
+        (bound-in cut wh wh-low wh-high) (finite-at ((us - p) * nv + (vs - q)) first-here))
 
     ranges-in : Good (rangesAre p q us vs uk vk nv ps ws r ulo uhi vlo vhi scale bound (newOf vlo vhi) (newOf ulo uhi))
     unfolding newOf deboorOf filledOf

@@ -1,5 +1,5 @@
 -- The least and the largest weight, the enclosure of their quotient, and the points of the first net. Assumes nothing.
-use mathlib.Core.Path.{_≡_, refl, sym, _∙_, ap, ap₂, subst}
+use mathlib.Core.Path.{_≡_, refl, sym, _∙_, subst}
 use mathlib.Core.Bool.{Bool, true, false, not, _||_, cond}
 use mathlib.Core.Logic.{_≢_, _⊎_, inl, inr}
 use mathlib.Core.List.{List, [], _∷_}
@@ -7,32 +7,33 @@ use Prim.Native.Nat.{ℕ, zero, suc, _+_, _-_, _*_, _≤_, _<_}
 use native.Mathlib.Nat.{eq-or-lt-of-le, le-of-suc-le-suc}
 use native.Mathlib.Omega.{arith}
 use lib.Dec.{T}
+use lib.ListN.{length}
 use lib.Ieee.{Float, nan, inf, fin, lt, le, isNan}
 use lib.Ieee.Scale.{finite}
-use Rattle.doubles.proofs.Tests.{or-split}
-use Rattle.doubles.proofs.Value.{val-lt, val-le, val-zero, val-one}
+use Rattle.doubles.proofs.Tests.{T-of, or-split}
+use Rattle.doubles.proofs.Enclose.{lower-le}
+use Rattle.doubles.proofs.Value.{val-lt, val-le, val-one}
 use Rattle.doubles.specs.Neighbour.{fmin, fmax}
+use Rattle.doubles.specs.Run.{at}
 use Rattle.doubles.specs.Value.{Lower, Upper, val, zero+, one+}
-use Rattle.exact.proofs.Field.{qring, q-ring, ≤-refl, ≤-trans, <-≤-trans, lt→le, pos-ne, div-is}
-use Rattle.exact.specs.Rational.{ℚ, _+q_, _-q_, _*q_, _/q_, negq, inv, q0, q1, _≤q_, _<q_}
-use Rattle.interval.proofs.Contain.{point-inside, sub-inside, mul-inside, divide-inside}
+use Rattle.exact.proofs.Field.{≤-refl, ≤-trans, <-≤-trans, lt→le, div-is}
+use Rattle.exact.specs.Rational.{ℚ, _+q_, _-q_, _*q_, _/q_, inv, q0, q1, _≤q_, _<q_}
+use Rattle.interval.proofs.Contain.{point-inside, sub-inside, mul-inside, reciprocal-inside, divide-inside}
 use Rattle.interval.specs.Inside.{Inside, Encloses as Divides}
-use Rattle.interval.specs.Ops.{pointOf, subOf, mulOf, newOf, divideOf}
+use Rattle.interval.specs.Ops.{pointOf, mulOf, newOf, reciprocalOf, divideOf}
 use Rattle.interval.specs.declared.Interval.{Interval}
-use Rattle.interval.specs.declared.New.{New}
 use Rattle.interval.specs.declared.New.the-variants.{Made, Nothing}
 use Rattle.interval.specs.declared.Quotient.{Quotient}
 use Rattle.interval.specs.declared.Quotient.the-variants as Q
-use Rattle.bounds.specs.declared.jet.Jet.{Jet}
 use Rattle.bounds.specs.declared.net.Control.{Control}
 use Rattle.bounds.specs.declared.start.Point.{Point}
 use Rattle.bounds.specs.declared.net.NetAnswer.{NetAnswer}
 use Rattle.bounds.specs.declared.net.NetAnswer.the-variants as N
 use Rattle.bounds.specs.declared.start.Weights.{Weights}
 use Rattle.bounds.specs.declared.start.Weights.the-variants as W
-use Rattle.bounds.specs.Net.{orElse, netRefused, refusalUp}
+use Rattle.bounds.specs.Net.{netRefused, refusalUp}
 use Rattle.bounds.proofs.NetIn.{orElse-0}
-use Rattle.bounds.specs.Start.{maxFrom, minFrom, areBy, rangeBy, rangeOf, movedOf, controlOf}
+use Rattle.bounds.specs.Start.{maxFrom, minFrom, areBy, rangeBy, rangeOf, movedOf, pointAt, controlOf}
 use Rattle.bounds.proofs.JetIn.{JetIn, jet-const}
 
 not-left : (x y : Bool) → T (not (x || y)) → T (not x)
@@ -177,6 +178,14 @@ range-in least most f g n = go (divideOf (pointOf least) (pointOf most)) (divide
     go Q.HoldsZero d = tt
     go Q.Unbounded d = tt
 
+-- the reciprocal of the scale, and the weight's enclosure
+module _ {least most scale : Float} {bound : Interval} (cut : Cut least most scale bound) where
+  pub scale-in : T (finite most) → Divides (reciprocalOf (pointOf scale)) (inv (val most))
+  scale-in f = subst (λ (x : Float). Divides (reciprocalOf (pointOf x)) (inv (val most))) (sym (cut .scaled)) (reciprocal-inside _ (val most) (point-inside most f))
+
+  pub bound-in : (W : ℚ) → val least /q val most ≤q W → W ≤q q1 → Inside bound W
+  bound-in W l h = record { low = lower-le (bound .lo) (cut .low) l; high = subst (λ x. Upper x W) (sym (cut .one)) (subst (λ x. W ≤q x) (sym val-one) h) }
+
 -- ---- a point of the net
 
 pub record ControlIn (c : Control) (X Y Z W : ℚ) : Type 0 where
@@ -189,6 +198,11 @@ pub record FinitePoint (p : Point) : Type 0 where
   pub x : T (finite (p .x))
   pub y : T (finite (p .y))
   pub z : T (finite (p .z))
+
+-- each of the n points of a run of finite coordinates
+pub point-finite : (ps : List Float) (n : ℕ) → length ps ≡ 3 * n → ((k : ℕ) → k < length ps → finite (at ps k) ≡ true) → (i : ℕ) → i < n → FinitePoint (pointAt ps i)
+unfolding pointAt
+point-finite ps n e f i l = record { x = T-of _ (f (i * 3) (omega arith)); y = T-of _ (f (i * 3 + 1) (omega arith)); z = T-of _ (f (i * 3 + 2) (omega arith)) }
 
 moved-in : (p o : Float) (q : Interval) (W : ℚ) → T (finite p) → T (finite o) → Inside q W → JetIn (movedOf p o q) ((val p -q val o) *q W) q0 q0
 unfolding movedOf

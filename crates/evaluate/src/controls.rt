@@ -49,7 +49,7 @@ pub fn term_of(two: bool, o: Vector, q: Vector, w: f64, n: f64) -> Sums
     }
 }
 
-// Point i. The one place that knows how coordinates are arranged.
+// Point i. The one place of this crate that knows how coordinates are arranged.
 pub fn point_at(points: &[f64], i: usize) -> Vector
     requires { ⌜ i * 3 + 2 < length (now points) ⌝ }
     ensures { λ r. ⌜ r ≡ pointOf (now (points .entry)) i ⌝ }
