@@ -81,22 +81,6 @@ pub param-in : (lo hi : Float) (t : ℚ) → T (finite lo) → T (finite hi) →
 unfolding parameterOf
 param-in lo hi t f g a b = record { value = record { low = low-of lo t f a; high = high-of hi t g b }; du = in-one; dv = in-zero }
 
-pub mix-x : (α : Jet) (a b : Control) → mixOf α a b .x ≡ mixJet α (a .x) (b .x)
-unfolding mixOf
-mix-x α a b = refl
-
-pub mix-y : (α : Jet) (a b : Control) → mixOf α a b .y ≡ mixJet α (a .y) (b .y)
-unfolding mixOf
-mix-y α a b = refl
-
-pub mix-z : (α : Jet) (a b : Control) → mixOf α a b .z ≡ mixJet α (a .z) (b .z)
-unfolding mixOf
-mix-z α a b = refl
-
-pub mix-w : (α : Jet) (a b : Control) → mixOf α a b .w ≡ mixJet α (a .w) (b .w)
-unfolding mixOf
-mix-w α a b = refl
-
 -- ---- on one span
 
 module _ (p s : ℕ) (ks ps ws : List Float) (r : Bool) (lo hi : Float) (Va : ValidCurve p ks ps r ws) (Sp : SpanValid p (countOf ps) ks lo hi s) (t : ℚ) (from : val lo ≤q t) (upto : t ≤q val hi) where
@@ -229,16 +213,16 @@ module _ (p s : ℕ) (ks ps ws : List Float) (r : Bool) (lo hi : Float) (Va : Va
           (along (valAt ks) t p s C (λ m. q0)) (nowhere (valAt ks) t p s C) start (none ks p s j e) p p (omega arith)
 
       levels-in : (j : Jet) → JetIn j t q1 q0 → (k : ℕ) → refusalLevels ks p s j 1 p ≡ k → Good (netBy (pointAt ps (s - p)) bound (lastBy k (netOf ks p s j net p p)))
-      unfolding lastBy pointAt
+      unfolding lastBy pointAt mixOf
       levels-in j h (suc k) e = tt
       levels-in j h zero e =
           boxes-eq (cartesianOf (netOf ks p s j net p p) (pointAt ps (s - p)) bound) (over (HT (H (X ps))) (HT HW) (X ps b)) (over (HT (H (Y ps))) (HT HW) (Y ps b)) (over (HT (H (Z ps))) (HT HW) (Z ps b))
           (EX (X ps)) (EX (Y ps)) (EX (Z ps)) (exact-eq (X ps)) (exact-eq (Y ps)) (exact-eq (Z ps))
           (cartesian-in (netOf ks p s j net p p) (pointAt ps (s - p)) bound (HT (H (X ps))) (HT (H (Y ps))) (HT (H (Z ps))) (HT HW)
-          (run j h e (λ c. c .x) mix-x (H (X ps)) (λ m l. start-in m l .x))
-          (run j h e (λ c. c .y) mix-y (H (Y ps)) (λ m l. start-in m l .y))
-          (run j h e (λ c. c .z) mix-z (H (Z ps)) (λ m l. start-in m l .z))
-          (run j h e (λ c. c .w) mix-w HW (λ m l. start-in m l .w))
+          (run j h e (λ c. c .x) (λ α a b. refl) (H (X ps)) (λ m l. start-in m l .x))
+          (run j h e (λ c. c .y) (λ α a b. refl) (H (Y ps)) (λ m l. start-in m l .y))
+          (run j h e (λ c. c .z) (λ α a b. refl) (H (Z ps)) (λ m l. start-in m l .z))
+          (run j h e (λ c. c .w) (λ α a b. refl) HW (λ m l. start-in m l .w))
           (bound-in cut wh wh-low wh-high) (finite-at (s - p) (let h = fits in let k = base in omega arith)))
 
     row-in : (j : Jet) → JetIn j t q1 q0 → (a : Quotient) → Divides a (inv σ) → Good (netBy (pointAt ps (s - p)) bound (rowBy ps ws r (s - p) (pointAt ps (s - p)) ks p s j a))

@@ -45,7 +45,7 @@ use Rattle.bounds.proofs.JetIn.{JetIn, in-one, in-zero}
 use Rattle.bounds.proofs.NetIn.{none, along, across, nowhere, net-in}
 use Rattle.bounds.proofs.WeightIn.{max-from, min-from, least, Cut, Cuts, range-in, scale-in, bound-in, ControlIn, FinitePoint, point-finite, control-in, up-0}
 use Rattle.bounds.proofs.CartesianIn.{Three, Boxes, over, cartesian-in, boxes-eq, three-eq}
-use Rattle.bounds.proofs.CurveIn.{mix-x, mix-y, mix-z, mix-w, low-of, high-of, X, Y, Z, param-in, Boxed, boxed, unless-in}
+use Rattle.bounds.proofs.CurveIn.{low-of, high-of, X, Y, Z, param-in, Boxed, boxed, unless-in}
 use Rattle.bounds.proofs.SpanIn.{SpanValid, span-valid, InSpan, in-span, weight-finite, weight-positive}
 use Rattle.bounds.specs.Holds.{weight}
 use Rattle.bounds.specs.Answer.{boundedOf}
@@ -309,17 +309,17 @@ module _ (p q us vs : ℕ) (uk vk : List Float) (nu nv : ℕ) (ps ws : List Floa
 
     levels-in : refusalUp row (p + 1) 0 ≡ 0 → (k : ℕ) → refusalLevels uk p us (parameterOf iu) 1 p ≡ k
         → Good (netBy (pointAt ps ((us - p) * nv + (vs - q))) bound (lastBy k (netOf uk p us (parameterOf iu) (λ m. netControl (row m)) p p)))
-    unfolding lastBy pointAt
+    unfolding lastBy pointAt mixOf
     levels-in clear (suc k) e = tt
     levels-in clear zero e =
         boxes-eq (cartesianOf (netOf uk p us (parameterOf iu) (λ m. netControl (row m)) p p) (pointAt ps ((us - p) * nv + (vs - q))) bound)
         (over (HT (H (X ps))) (HT HW) (X ps ((us - p) * nv + (vs - q)))) (over (HT (H (Y ps))) (HT HW) (Y ps ((us - p) * nv + (vs - q)))) (over (HT (H (Z ps))) (HT HW) (Z ps ((us - p) * nv + (vs - q))))
         (EX (X ps)) (EX (Y ps)) (EX (Z ps)) (exact-eq (X ps)) (exact-eq (Y ps)) (exact-eq (Z ps))
         (cartesian-in (netOf uk p us (parameterOf iu) (λ m. netControl (row m)) p p) (pointAt ps ((us - p) * nv + (vs - q))) bound (HT (H (X ps))) (HT (H (Y ps))) (HT (H (Z ps))) (HT HW)
-        (column-in (λ c. c .x) mix-x (H (X ps)) (λ c d m l k n. start-in c d m l k n .x) clear e)
-        (column-in (λ c. c .y) mix-y (H (Y ps)) (λ c d m l k n. start-in c d m l k n .y) clear e)
-        (column-in (λ c. c .z) mix-z (H (Z ps)) (λ c d m l k n. start-in c d m l k n .z) clear e)
-        (column-in (λ c. c .w) mix-w HW (λ c d m l k n. start-in c d m l k n .w) clear e)
+        (column-in (λ c. c .x) (λ α a b. refl) (H (X ps)) (λ c d m l k n. start-in c d m l k n .x) clear e)
+        (column-in (λ c. c .y) (λ α a b. refl) (H (Y ps)) (λ c d m l k n. start-in c d m l k n .y) clear e)
+        (column-in (λ c. c .z) (λ α a b. refl) (H (Z ps)) (λ c d m l k n. start-in c d m l k n .z) clear e)
+        (column-in (λ c. c .w) (λ α a b. refl) HW (λ c d m l k n. start-in c d m l k n .w) clear e)
         (bound-in cut wh wh-low wh-high) (finite-at ((us - p) * nv + (vs - q)) first-here))
 
     ranges-in : Good (rangesAre p q us vs uk vk nv ps ws r ulo uhi vlo vhi scale bound (newOf vlo vhi) (newOf ulo uhi))
