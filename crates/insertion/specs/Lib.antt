@@ -5,4 +5,5 @@ pub mod Insert
 pub mod Fold
 pub mod Start
 pub mod Whole
+pub mod Work
 pub mod Passes

@@ -1,7 +1,7 @@
 // Knots inserted into a curve, in lent runs.
 pub mod answer;
-mod control;
-mod counts;
+pub mod control;
+pub mod counts;
 pub mod insert;
 mod list;
 mod one;

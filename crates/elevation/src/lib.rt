@@ -1,0 +1,1 @@
+// A curve's degree is raised, in lent runs.

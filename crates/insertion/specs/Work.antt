@@ -1,0 +1,70 @@
+-- A curve in a lent run, for edits that insert knots: four numbers a point from the front on, its coordinates and its weight; and the knots from place a on.
+-- Assumes nothing.
+use Prim.Native.Nat.{ℕ, _+_, _-_, _*_, _/_, _%_}
+use mathlib.Core.Bool.{Bool, cond, _&&_}
+use mathlib.Core.Path.{_≡_}
+use mathlib.Core.List.{List, _++_}
+use lib.ListN.{length, take, drop, replicate}
+use lib.Dec.{leb, ltb, eqb}
+use lib.Ieee.{Float}
+use Rattle.doubles.specs.Run.{at}
+use Rattle.doubles.specs.Value.{one+}
+use Rattle.knots.specs.Refusal.{accepted, orElse}
+use Rattle.knots.specs.Clear.{zeros}
+use Rattle.knots.specs.Knots.{knotRefusal}
+use Rattle.knots.specs.Curve.{countOf}
+use Rattle.knots.specs.declared.refusal.Refusal.{Refusal}
+use Rattle.basis.specs.Basis.{tabulate}
+use Rattle.evaluate.specs.Controls.{coordinate}
+use Rattle.evaluate.specs.Shape.{roomRefusal}
+use Rattle.insertion.specs.Rows.{given}
+use Rattle.insertion.specs.Fold.{Outcome, gives, refuses, insertAll}
+
+-- number j of the rows of points ps and weights ws; 1.0 stands for a weight that is not given
+unfoldable pub rowNumber : List Float → Bool → List Float → ℕ → Float
+rowNumber ps g ws j = cond (eqb (j % 4) 3) (cond g (at ws (j / 4)) one+) (coordinate ps (j / 4) (j % 4))
+
+-- a run d with the curve laid over it
+unfoldable pub laidAt : ℕ → List Float → List Float → List Float → Bool → List Float → ℕ → Float
+laidAt a d ks ps g ws j =
+    cond (ltb j (countOf ps * 4)) (rowNumber ps g ws j) (cond (leb a j && ltb j (a + length ks)) (at ks (j - a)) (at d j))
+
+unfoldable pub laid : ℕ → List Float → List Float → List Float → Bool → List Float → List Float
+laid a d ks ps g ws = tabulate (length d) (laidAt a d ks ps g ws)
+
+-- what stands in a run xs: the knots, points and weights of n points
+abbrev pub knotsFrom : ℕ → ℕ → ℕ → List Float → List Float
+knotsFrom a p n xs = take (n + p + 1) (drop a xs)
+
+abbrev pub pointsFrom : ℕ → List Float → List Float
+pointsFrom n xs = tabulate (n * 3) (λ j. at xs (j / 3 * 4 + j % 3))
+
+abbrev pub weightsFrom : Bool → ℕ → List Float → List Float
+weightsFrom g n xs = tabulate (given g n) (λ i. at xs (i * 4 + 3))
+
+-- 30: a run of l numbers has no room for a curve of n points and m knots
+unfoldable pub workRoom : ℕ → ℕ → ℕ → ℕ → Refusal
+workRoom n m a l = orElse (roomRefusal a (n * 4)) (roomRefusal l (a + m))
+
+-- ---- a curve is laid into a run of l numbers
+unfoldable pub layRefusal : List Float → List Float → Bool → List Float → ℕ → ℕ → Refusal
+layRefusal ks ps g ws a l = orElse (roomRefusal (length ws) (given g (countOf ps))) (workRoom (countOf ps) (length ks) a l)
+
+-- ---- the knot t is inserted m times into the curve of degree p and n points that stands in a run xs
+module _ (p n : ℕ) (g : Bool) (t : Float) (m a : ℕ) (xs : List Float) where
+  -- 30, and 1 to 7 of the knots that stand there
+  unfoldable pub timesStart : Refusal
+  timesStart = orElse (workRoom (n + m) (n + m + p + 1) a (length xs)) (knotRefusal p n (knotsFrom a p n xs))
+
+  unfoldable pub timesOutcome : Outcome
+  timesOutcome =
+      cond (eqb (timesStart .number) 0) (insertAll p g n (knotsFrom a p n xs) (pointsFrom n xs) (weightsFrom g n xs) (replicate m t)) (refuses timesStart)
+
+-- the refusal of an outcome, and the run that it leaves
+abbrev pub refusalOf : Outcome → Refusal
+refusalOf (gives ks ps ws) = accepted
+refusalOf (refuses r) = r
+
+abbrev pub workIn : ℕ → Bool → List Float → Outcome → List Float
+workIn a g xs (gives ks ps ws) = laid a xs ks ps g ws
+workIn a g xs (refuses r) = zeros (length xs)
