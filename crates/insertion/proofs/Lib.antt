@@ -1,7 +1,8 @@
 pub mod Counting
 pub mod Tested
-pub mod RowLoops
 pub mod Storing
+pub mod RowLoops
+pub mod Laying
 pub mod Grown
 pub mod Forming
 pub mod Folds
