@@ -5,6 +5,7 @@ pub mod DeBoor
 pub mod Source
 pub mod Curve
 pub mod Refined
+pub mod Local
 pub mod Inserted
 pub mod Boehm
 pub mod Insertion
