@@ -10,6 +10,7 @@ pub mod Inserted
 pub mod Boehm
 pub mod Insertion
 pub mod Insertions
+pub mod Cut
 pub mod Deriv
 pub mod Jets
 pub mod Surface

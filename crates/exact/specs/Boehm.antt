@@ -82,3 +82,9 @@ unfolding inserted insertedPoint refined
 insertedPointAll U p [] w P = P
 insertedPointAll U p (a ∷ l) w P =
     insertedPointAll (refined U (a .knot) (a .place)) p l (inserted U (a .knot) (a .place) p w) (insertedPoint U (a .knot) (a .place) p w P)
+
+-- ---- a part of a curve
+
+-- the knots, or the controls, from place f on
+abbrev pub cut : ℕ → (ℕ → ℚ) → ℕ → ℚ
+cut f U i = U (f + i)
