@@ -82,7 +82,7 @@ unit-quotient {a} {d} h g = go (le-or-lt d q0)
         (≤-eq (sym e), subst (λ y. y ≤q q1) (sym e) (lt→le q0<q1))
     go (inr z) = (div-nonneg h z, div-le-1 g z)
 
-mix-pos : (r a b : ℚ) → q0 ≤q r → r ≤q q1 → q0 <q a → q0 <q b → q0 <q mix r a b
+pub mix-pos : (r a b : ℚ) → q0 ≤q r → r ≤q q1 → q0 <q a → q0 <q b → q0 <q mix r a b
 mix-pos r a b l u h k = go (le-or-lt a b)
   where
     go : (a ≤q b) ⊎ (b <q a) → q0 <q mix r a b

@@ -11,6 +11,7 @@ pub mod Boehm
 pub mod Insertion
 pub mod Insertions
 pub mod Cut
+pub mod Bernstein
 pub mod Deriv
 pub mod Jets
 pub mod Surface
