@@ -171,6 +171,19 @@ pub raisedTo-whole : {a z : ℚ} → a <q z → (d n : ℕ) (t : ℚ) (c : ℕ �
     → whole (ends a z (d + n)) t (d + n) (d + n) (suc (d + n)) (raisedTo d n c) ≡ whole (ends a z d) t d d (suc d) c
 raisedTo-whole {a} {z} lt d n t c = ends-whole a z (d + n) lt t (raisedTo d n c) ∙ casteljau-raisedTo ((t -q a) /q (z -q a)) d n c ∙ sym (ends-whole a z d lt t c)
 
+-- the first and the last control stay, so two segments that met still do
+pub raisedTo-first : (d n : ℕ) (c : ℕ → ℚ) → raisedTo d n c 0 ≡ c 0
+unfolding raisedTo
+raisedTo-first d zero c = refl
+raisedTo-first d (suc n) c = raisedTo-first d n c
+
+pub raisedTo-last : (d n : ℕ) (c : ℕ → ℚ) → raisedTo d n c (d + n) ≡ c d
+unfolding raisedTo
+raisedTo-last d zero c = ap c (add-zero d)
+raisedTo-last d (suc n) c = ap (raised (d + n) (raisedTo d n c)) (add-suc d n)
+    ∙ cond-no _ _ (leb (suc (d + n)) (d + n)) (λ z. let y : suc (d + n) ≤ d + n = leb→le (suc (d + n)) (d + n) z in omega arith)
+    ∙ raisedTo-last d n c
+
 -- ---- with weights
 
 raised-pos : (d : ℕ) (w : ℕ → ℚ) → ((i : ℕ) → i ≤ d → q0 <q w i) → (i : ℕ) → i ≤ suc d → q0 <q raised d w i

@@ -44,6 +44,16 @@ insertions-whole (a ∷ l) U count {p} e f S t c =
     insertions-whole l V′ (suc count) (omega arith) (f .2) S t (inserted U (a .knot) (a .place) p c)
     ∙ insertion-whole U (a .knot) (a .place) (f .0) (f .1) (heldAll-span l V′ (suc count) (omega arith) (f .2) S) t c
 
+-- positive weights stay positive
+pub insertions-pos : (l : List Insert) (U : ℕ → ℚ) (count : ℕ) {p after s : ℕ} → length l + count ≡ after → Fits p count l → SpanOf (refinedAll U l) p after s
+    → (w : ℕ → ℚ) → ((i : ℕ) → i < count → q0 <q w i) → (i : ℕ) → i < after → q0 <q insertedAll U p l w i
+unfolding refinedAll insertedAll
+insertions-pos [] U count e f S w h i g = h i (omega arith)
+insertions-pos (a ∷ l) U count {p} e f S w h i g =
+    let V′ = refined U (a .knot) (a .place) in
+    insertions-pos l V′ (suc count) (omega arith) (f .2) S (inserted U (a .knot) (a .place) p w)
+    (weights-pos U (a .knot) (a .place) (f .0) (f .1) (heldAll-span l V′ (suc count) (omega arith) (f .2) S) w h) i g
+
 -- the exact point of a curve with positive weights is what it was
 pub insertions-point : (l : List Insert) (U : ℕ → ℚ) (count : ℕ) {p after s : ℕ} → length l + count ≡ after → Fits p count l → SpanOf (refinedAll U l) p after s
     → (t : ℚ) (w P : ℕ → ℚ) → ((i : ℕ) → i < count → q0 <q w i)

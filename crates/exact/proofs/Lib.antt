@@ -12,6 +12,7 @@ pub mod Insertion
 pub mod Insertions
 pub mod Cut
 pub mod Bernstein
+pub mod Elevation
 pub mod Deriv
 pub mod Jets
 pub mod Surface
