@@ -18,3 +18,4 @@ pub mod Jets
 pub mod Surface
 pub mod Worked
 pub mod Scheme
+pub mod Textbook

@@ -62,6 +62,11 @@ abbrev pub Fits : ℕ → ℕ → List Insert → Type 0
 Fits p count [] = Unit {0}
 Fits p count (a ∷ l) = (p ≤ a .place) × (a .place < count) × Fits p (suc count) l
 
+-- each knot lies between its two neighbours of the knots so far
+abbrev pub Between : (ℕ → ℚ) → List Insert → Type 0
+Between U [] = Unit {0}
+Between U (a ∷ l) = (U (a .place) ≤q a .knot) × (a .knot ≤q U (suc (a .place))) × Between (refined U (a .knot) (a .place)) l
+
 unfoldable pub refinedAll : (ℕ → ℚ) → List Insert → ℕ → ℚ
 unfolding refined
 refinedAll U [] = U

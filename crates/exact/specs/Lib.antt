@@ -4,3 +4,4 @@ pub mod Surface
 pub mod Boehm
 pub mod Bernstein
 pub mod Scheme
+pub mod Edit
