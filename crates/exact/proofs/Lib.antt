@@ -19,3 +19,4 @@ pub mod Surface
 pub mod Worked
 pub mod Scheme
 pub mod Textbook
+pub mod Homogeneous

@@ -1,5 +1,5 @@
 -- Worked over fractions, the source's knot insertion is Boehm's, and its degree elevation Bernstein's. Assumes nothing.
-use mathlib.Core.Path.{_≡_, refl, sym, _∙_, ap, ap₂}
+use mathlib.Core.Path.{_≡_, refl, sym, _∙_, ap, ap₂, fun-ext}
 use mathlib.Core.Bool.{cond}
 use mathlib.Core.Logic.{⊎-elim}
 use mathlib.Core.List.{[], _∷_}
@@ -9,8 +9,8 @@ use native.Mathlib.Omega.{arith}
 use lib.Dec.{T, leb, leb→le, le→leb, eqb, eqb→eq}
 use Rattle.exact.specs.Rational.{ℚ, _-q_, _*q_, _/q_, inv, q1, ofℕ}
 use Rattle.exact.specs.Boehm.{mix, inserted}
-use Rattle.exact.specs.Bernstein.{raised}
-use Rattle.exact.specs.Edit.{mixOf, shareBy, blendBy, raiseBy}
+use Rattle.exact.specs.Bernstein.{raised, raisedTo}
+use Rattle.exact.specs.Edit.{mixOf, blendBy, raiseBy, raiseToBy}
 use Rattle.exact.proofs.Field.{qring, q-ring, div-is}
 use Rattle.exact.proofs.Source.{cond-yes, cond-no}
 use Rattle.exact.proofs.Refined.{split}
@@ -56,3 +56,8 @@ raise-raised d c (suc j) =
     cond-no _ _ (eqb (suc j) 0) (λ z. let y : suc j ≡ 0 = eqb→eq (suc j) 0 z in omega arith)
     ∙ ap₂ (λ m n. cond (leb (suc j) d) (mixOf fractions (c (suc j)) (c m) (ofℕ (suc j) /q ofℕ n)) (c d)) e (add-one d)
     ∙ ap (λ y. cond (leb (suc j) d) y (c d)) (mix-is (c (suc j)) (c j) (ofℕ (suc j) /q ofℕ (suc d)))
+
+pub raiseTo-raised : (d n : ℕ) (c : ℕ → ℚ) (i : ℕ) → raiseToBy fractions d n c i ≡ raisedTo d n c i
+unfolding raiseToBy raisedTo
+raiseTo-raised d zero c i = refl
+raiseTo-raised d (suc n) c i = raise-raised (d + n) (raiseToBy fractions d n c) i ∙ ap (λ h. raised (d + n) h i) (fun-ext (raiseTo-raised d n c))
