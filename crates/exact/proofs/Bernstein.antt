@@ -7,7 +7,7 @@ use Prim.Native.Nat.{ℕ, zero, suc, _+_, _≤_, _<_}
 use native.Mathlib.Nat.{add-suc, suc-add, add-zero, zero-add}
 use native.Mathlib.Omega.{arith}
 use lib.Dec.{leb, leb→le, le→leb}
-use Rattle.exact.specs.Rational.{ℚ, _+q_, _-q_, _*q_, _/q_, inv, q0, q1, _≤q_, _<q_, ofℕ}
+use Rattle.exact.specs.Rational.{ℚ, _+q_, _-q_, _*q_, _/q_, inv, q0, _≤q_, _<q_, ofℕ}
 use Rattle.exact.specs.Spline.{rise, Knots, whole, exact}
 use Rattle.exact.specs.Boehm.{mix}
 use Rattle.exact.specs.Bernstein.{ends, Segment, raised, raisedTo, raisedPoint}

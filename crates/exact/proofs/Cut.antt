@@ -1,6 +1,6 @@
 -- A part of a curve, cut out of it from control f on, is the curve there; so a trimmed curve, cut out after insertions, is the curve it was trimmed from. Assumes nothing.
 -- m is the number of points that are kept, s a span of the part, and f + s the same span of the curve.
-use mathlib.Core.Path.{_≡_, sym, _∙_, ap, subst}
+use mathlib.Core.Path.{_≡_, _∙_, ap, subst}
 use mathlib.Core.List.{List}
 use Prim.Native.Nat.{ℕ, suc, _+_, _-_, _≤_, _<_}
 use native.Mathlib.Nat.{add-suc}

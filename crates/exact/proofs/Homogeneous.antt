@@ -7,15 +7,15 @@ use Prim.Native.Nat.{ℕ, zero, suc, _+_, _≤_, _<_}
 use mathlib.Core.Bool.{Bool, true, false, cond}
 use native.Mathlib.Omega.{arith}
 use lib.Dec.{leb}
-use Rattle.exact.specs.Rational.{ℚ, _+q_, _-q_, _*q_, _/q_, negq, inv, q0, q1, _≤q_, _<q_, ofℕ}
+use Rattle.exact.specs.Rational.{ℚ, _+q_, _*q_, _/q_, negq, inv, q0, q1, _≤q_, _<q_, ofℕ}
 use Rattle.exact.specs.Spline.{basis, whole, exact}
-use Rattle.exact.specs.Boehm.{SpanOf, refined, held, share, mix, inserted, insertedPoint}
+use Rattle.exact.specs.Boehm.{SpanOf, InSpan, InEnd, refined, share, mix, inserted, insertedPoint}
 use Rattle.exact.specs.Bernstein.{Segment, raised, raisedTo, raisedPoint}
 use Rattle.exact.specs.Edit.{blendBy, raiseToBy, liftBy, lowerBy, insertBy, elevateBy}
 use Rattle.exact.proofs.Laws.{mul-inv}
 use Rattle.exact.proofs.Field.{qring, q-ring, q-combine, mul-zero, div-is, div-zero, div-eq, div-nonneg, mul-ne-0, inv-ne-0, pos-ne, neg-ne, lt→le, lt-of-le-ne, le-or-lt, ≤-antisym}
 use Rattle.exact.proofs.Sum.{Σ-cong, Σ-mul}
-use Rattle.exact.proofs.Insertion.{whole-cong, insertion-point, weights-pos}
+use Rattle.exact.proofs.Insertion.{whole-cong, weights-pos, insertion-same, insertion-same-end}
 use Rattle.exact.proofs.Bernstein.{raisedTo-pos}
 use Rattle.exact.proofs.Elevation.{elevate-same}
 use Rattle.exact.proofs.Scheme.{fractions}
@@ -95,8 +95,11 @@ lowered {L} N o v P m =
 div-pos : {x y : ℚ} → q0 <q x → q0 <q y → q0 <q x /q y
 div-pos {x} {y} h k = lt-of-le-ne (div-nonneg (lt→le h) k) (λ e. mul-ne-0 (pos-ne h) (inv-ne-0 (pos-ne k)) (sym (div-is x y) ∙ sym e))
 
--- weights over a scale
-exact-over : (U : ℕ → ℚ) (t : ℚ) (s p count : ℕ) (w P : ℕ → ℚ) {σ : ℚ} → q0 <q σ → exact U t s p count (λ i. w i /q σ) P ≡ exact U t s p count w P
+-- the weights over a scale
+abbrev pub over : ℚ → (ℕ → ℚ) → ℕ → ℚ
+over σ w i = w i /q σ
+
+exact-over : (U : ℕ → ℚ) (t : ℚ) (s p count : ℕ) (w P : ℕ → ℚ) {σ : ℚ} → q0 <q σ → exact U t s p count (over σ w) P ≡ exact U t s p count w P
 exact-over U t s p count w P {σ} h =
     exact-cong U t s p count (λ i l. q-ring (w i ∷ inv σ ∷ []) (search qring depth 20) tt) (λ i l. refl) ∙ exact-scale U t s p count (inv σ) w P (inv-ne-0 (pos-ne h))
 
@@ -110,13 +113,24 @@ module _ (U : ℕ → ℚ) (x : ℚ) (k p m : ℕ) (few : m ≤ p) (from : p ≤
       ap₂ (λ y z. lowerBy fractions o y z) (blend-inserted U x k p m few from full (λ j. liftBy fractions o (P j) (v j)) i) (blend-inserted U x k p m few from full v i)
       ∙ lowered (inserted-linear U x k p i) o v P n
 
-  pub insert-same : {count s : ℕ} → k < count → SpanOf (refined U x k) p (suc count) s → (o : ℚ) {σ : ℚ} → q0 <q σ → (t : ℚ) (w P : ℕ → ℚ) → ((i : ℕ) → i < count → q0 <q w i)
-      → exact (refined U x k) t s p (suc count) (blendBy fractions p k m x U (λ j. w j /q σ)) (insertBy fractions p k m x U o (λ j. w j /q σ) P) ≡ exact U t (held k s) p count w P
-  insert-same {count} {s} place S o {σ} h t w P pos =
-      let v : ℕ → ℚ = λ j. w j /q σ in
-      let up = weights-pos U x k from place S v (λ i l. div-pos (pos i l) h) in
-      exact-cong (refined U x k) t s p (suc count) (λ i l. blend-inserted U x k p m few from full v i) (λ i l. insert-point o v P i (pos-ne (up i l)))
-      ∙ insertion-point U x k from place S t v P (λ i l. div-pos (pos i l) h) ∙ exact-over U t (held k s) p count w P h
+  module _ {count s s₀ : ℕ} (place : k < count) (S : SpanOf (refined U x k) p (suc count) s) (S₀ : SpanOf U p count s₀) (o : ℚ) {σ : ℚ} (h : q0 <q σ) (t : ℚ) (w P : ℕ → ℚ)
+      (pos : (i : ℕ) → i < count → q0 <q w i) where
+    over-pos : (i : ℕ) → i < count → q0 <q over σ w i
+    over-pos i l = div-pos (pos i l) h
+
+    worked : exact (refined U x k) t s p (suc count) (blendBy fractions p k m x U (over σ w)) (insertBy fractions p k m x U o (over σ w) P)
+        ≡ exact (refined U x k) t s p (suc count) (inserted U x k p (over σ w)) (insertedPoint U x k p (over σ w) P)
+    worked = exact-cong (refined U x k) t s p (suc count) (λ i l. blend-inserted U x k p m few from full (over σ w) i)
+        (λ i l. insert-point o (over σ w) P i (pos-ne (weights-pos U x k from place S (over σ w) over-pos i l)))
+
+    -- the exact point at t, each curve on its own span of t
+    pub insert-same : InSpan U s₀ t → InSpan (refined U x k) s t
+        → exact (refined U x k) t s p (suc count) (blendBy fractions p k m x U (over σ w)) (insertBy fractions p k m x U o (over σ w) P) ≡ exact U t s₀ p count w P
+    insert-same I J = worked ∙ insertion-same U x k from place S S₀ (over σ w) P over-pos I J ∙ exact-over U t s₀ p count w P h
+
+    pub insert-same-end : InEnd U s₀ t → InEnd (refined U x k) s t
+        → exact (refined U x k) t s p (suc count) (blendBy fractions p k m x U (over σ w)) (insertBy fractions p k m x U o (over σ w) P) ≡ exact U t s₀ p count w P
+    insert-same-end I J = worked ∙ insertion-same-end U x k from place S S₀ (over σ w) P over-pos I J ∙ exact-over U t s₀ p count w P h
 
 -- ---- degrees up, as the source works them out
 
@@ -133,8 +147,8 @@ module _ {U W : ℕ → ℚ} {a z : ℚ} {p q b b′ : ℕ} (S : Segment U a z p
       → ((i : ℕ) → i ≤ q → Q (b′ + i) ≡ elevateBy fractions p n o (λ j. w (b + j) /q σ) (λ j. P (b + j)) i)
       → exact W t s′ q count′ v Q ≡ exact U t s p count w P
   elevate-source o {σ} h t w P v Q pos f g =
-      elevate-same S S′ lt n up e e′ l l′ t (λ i. w i /q σ) P v Q (λ i m. div-pos (pos i m) h)
-      (λ i m. f i m ∙ raiseTo-raised p n (λ j. w (b + j) /q σ) i)
-      (λ i m. g i m ∙ elevate-point p n o (λ j. w (b + j) /q σ) (λ j. P (b + j)) i
-      (pos-ne (raisedTo-pos p n (λ j. w (b + j) /q σ) (λ j r. div-pos (pos j r) h) i (omega arith))))
+      let u : ℕ → ℚ = λ j. w (b + j) /q σ in
+      let u-pos : (j : ℕ) → j ≤ p → q0 <q u j = λ j r. div-pos (pos j r) h in
+      elevate-same S S′ lt n up e e′ l l′ t (over σ w) P v Q u-pos (λ i m. f i m ∙ raiseTo-raised p n u i)
+      (λ i m. g i m ∙ elevate-point p n o u (λ j. P (b + j)) i (pos-ne (raisedTo-pos p n u u-pos i (omega arith))))
       ∙ exact-over U t s p count w P h

@@ -7,7 +7,7 @@ use Prim.Native.Nat.{ℕ, zero, suc, _+_, _-_, _≤_, _<_}
 use native.Mathlib.Numerals.{add-one}
 use native.Mathlib.Omega.{arith}
 use lib.Dec.{T, leb, leb→le, le→leb, eqb, eqb→eq}
-use Rattle.exact.specs.Rational.{ℚ, _-q_, _*q_, _/q_, inv, q1, ofℕ}
+use Rattle.exact.specs.Rational.{ℚ, _-q_, _*q_, _/q_, inv, ofℕ}
 use Rattle.exact.specs.Boehm.{mix, inserted}
 use Rattle.exact.specs.Bernstein.{raised, raisedTo}
 use Rattle.exact.specs.Edit.{mixOf, blendBy, raiseBy, raiseToBy}
