@@ -9,4 +9,5 @@ pub mod Folds
 pub mod Domain
 pub mod Starting
 pub mod Outcomes
+pub mod Textbook
 pub mod Worked
