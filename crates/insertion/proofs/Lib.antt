@@ -3,6 +3,7 @@ pub mod Tested
 pub mod RowLoops
 pub mod Storing
 pub mod Grown
+pub mod Counted
 pub mod Forming
 pub mod Folds
 pub mod Domain
