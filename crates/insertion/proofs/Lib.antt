@@ -7,6 +7,7 @@ pub mod Counted
 pub mod Forming
 pub mod Folds
 pub mod Domain
+pub mod Never
 pub mod Starting
 pub mod Outcomes
 pub mod Worked
