@@ -17,7 +17,7 @@ use Rattle.knots.specs.Below.{allBelow}
 use Rattle.knots.specs.Refusal.{refuse, accepted, orElse, control-bad, edit-bad, point-not-finite, weight-count, weight-bad}
 use Rattle.knots.specs.Knots.{allFinite, ValidKnots}
 use Rattle.knots.specs.Curve.{allWeights, controlRefusal, formedRefusal}
-use Rattle.knots.specs.Span.{spanOf}
+use Rattle.knots.specs.Span.{SpanAt, spanOf}
 use Rattle.knots.specs.declared.refusal.Refusal.{Refusal}
 use Rattle.knots.proofs.Below.{and-true, and-left}
 use Rattle.knots.proofs.Refusals.{orElse-none}
@@ -183,3 +183,98 @@ made p g n ks ps ws (t ∷ ts) ks' ps' ws' v e = go (eqb (insertRefusal p n ks p
         → Made p g n ks ps ws (t ∷ ts) ks' ps' ws'
     go true b r h = let z = eqb-true _ 0 b in made-more p n ks ps g ws t v z ts ks' ps' ws' (r z h)
     go false b r h = let z : _≡_ {A = ℕ} 0 1 = cc in absurd (omega arith)
+
+-- ---- what is refused once a knot's place is found: 8, 9, 10, 19, 20
+pub record Late (r : Refusal) : Type 0 where
+  pub some : 8 ≤ r .number
+  pub gap : 10 < r .number → 19 ≤ r .number
+  pub last : r .number ≤ 20
+
+module _ (r : Refusal) (l : Late r) where
+  pub late-some : r .number ≡ 0 → ⊥
+  late-some e = omega (arith, l .some)
+
+  pub late-not : (m : ℕ) → 10 < m → m < 19 → r .number ≡ m → ⊥
+  late-not m a b e = omega (arith, l .gap (omega arith))
+
+late-controls : (g a b c : Bool) (r : Refusal) → r ≡ cond (not a) (refuse point-not-finite) (cond (g && not b) (refuse weight-count) (cond (g && not c) (refuse weight-bad) accepted)) → (r .number ≡ 0 → ⊥) → Late r
+late-controls g false b c r e h = let q : r .number ≡ 8 = ap (λ (x : Refusal). x .number) e in record { some = omega arith; gap = λ l. omega arith; last = omega arith }
+late-controls true true false c r e h = let q : r .number ≡ 9 = ap (λ (x : Refusal). x .number) e in record { some = omega arith; gap = λ l. omega arith; last = omega arith }
+late-controls true true true false r e h = let q : r .number ≡ 10 = ap (λ (x : Refusal). x .number) e in record { some = omega arith; gap = λ l. omega arith; last = omega arith }
+late-controls true true true true r e h = absurd (h (ap (λ (x : Refusal). x .number) e))
+late-controls false true b c r e h = absurd (h (ap (λ (x : Refusal). x .number) e))
+
+late-formed : (a b : Bool) (y r : Refusal) → ((y .number ≡ 0 → ⊥) → Late y) → r ≡ cond (not a) (refuse control-bad) (cond (not b) (refuse edit-bad) y) → (r .number ≡ 0 → ⊥) → Late r
+late-formed false b y r k e h = let q : r .number ≡ 19 = ap (λ (x : Refusal). x .number) e in record { some = omega arith; gap = λ l. omega arith; last = omega arith }
+late-formed true false y r k e h = let q : r .number ≡ 20 = ap (λ (x : Refusal). x .number) e in record { some = omega arith; gap = λ l. omega arith; last = omega arith }
+late-formed true true y r k e h = subst Late (sym e) (k (λ z. h (ap (λ (x : Refusal). x .number) e ∙ z)))
+
+pub inside-finite : (lo hi t : Float) → inside lo hi t ≡ true → finite t ≡ true
+unfolding inside
+inside-finite lo hi t h = and-left (finite t) _ h
+
+-- one knot, inside the domain and with room
+module _ (p n : ℕ) (ks ps : List Float) (g : Bool) (ws : List Float) (t : Float) (v : ValidKnots p n ks) (I : inside (at ks p) (at ks n) t ≡ true) (M : multiplicityOf ks t ≤ p) where
+  spot-none : spotRefusal (at ks p) (at ks n) t p (multiplicityOf ks t) ≡ accepted
+  unfolding spotRefusal
+  spot-none = simp (I, le-ltb p (multiplicityOf ks t) M)
+
+  valid-next : ValidKnots p (n + 1) (moreKnots (spanOf p n ks t) t ks)
+  valid-next =
+      let o = spot-open p n ks ps g ws t (multiplicityOf ks t) v (ap (λ (x : Refusal). x .number) spot-none) in
+      let s = search-meets p n ks v t (o .within .parameter) (o .within .low) in
+      let e = span-is p n ks v t _ (o .within .parameter) s in
+      grown-valid p n ks v t (o .within .parameter) (spanOf p n ks t) (subst (λ (k : ℕ). SpanAt p n ks t k) e s) (o .low) (o .high) M
+
+  form-left : insertRefusal p n ks ps g ws t ≡ formRefusal p n (spanOf p n ks t) (multiplicityOf ks t) t ks ps g ws
+  unfolding insertRefusal
+  form-left = ap (λ (r : Refusal). orElse r (formRefusal p n (spanOf p n ks t) (multiplicityOf ks t) t ks ps g ws)) spot-none
+
+  late-one : (insertRefusal p n ks ps g ws t .number ≡ 0 → ⊥) → Late (insertRefusal p n ks ps g ws t)
+  unfolding formRefusal controlRefusal
+  late-one = late-formed
+      (allBelow (λ i. isLifted (lifted p n k s t ks ps g ws i)) n)
+      (allBelow (λ i. isBlended (blended p n k s t ks ps g ws i)) (n + 1))
+      (formedRefusal p (n + 1) (moreKnots k t ks) (morePoints p n k s t ks ps g ws) g (moreWeights p n k s t ks ps g ws)) (insertRefusal p n ks ps g ws t)
+      (late-controls g (allFinite (morePoints p n k s t ks ps g ws)) (eqb (length (moreWeights p n k s t ks ps g ws)) (n + 1)) (allWeights (moreWeights p n k s t ks ps g ws)) _ controls) form-left
+    where
+      k : ℕ
+      k = spanOf p n ks t
+
+      s : ℕ
+      s = multiplicityOf ks t
+
+      controls : formedRefusal p (n + 1) (moreKnots k t ks) (morePoints p n k s t ks ps g ws) g (moreWeights p n k s t ks ps g ws)
+          ≡ cond (not (allFinite (morePoints p n k s t ks ps g ws))) (refuse point-not-finite) (cond (g && not (eqb (length (moreWeights p n k s t ks ps g ws)) (n + 1))) (refuse weight-count) (cond (g && not (allWeights (moreWeights p n k s t ks ps g ws))) (refuse weight-bad) accepted))
+      controls = sym (controls-left p (n + 1) (moreKnots k t ks) (morePoints p n k s t ks ps g ws) g (moreWeights p n k s t ks ps g ws) valid-next)
+
+-- a list, every knot of it inside the domain, and with room for it
+pub late : (p : ℕ) (g : Bool) (n : ℕ) (ks ps ws ts : List Float) (r : Refusal) → ValidKnots p n ks → Each (λ t. inside (at ks p) (at ks n) t ≡ true) ts
+    → ((u : Float) → multiplicityOf ks u + countIn (λ x. eq x u) ts ≤ p + 1) → insertAll p g n ks ps ws ts ≡ refuses r → Late r
+unfolding insertAll countIn multiplicityOf
+late p g n ks ps ws [] r v I M e = let z : _≡_ {A = ℕ} 0 1 = cc in absurd (omega arith)
+late p g n ks ps ws (t ∷ ts) r v I M e = go (eqb (insertRefusal p n ks ps g ws t .number) 0) refl
+    (λ z. late p g (n + 1) K (insertedPoints p n ks ps g ws t) (insertedWeights p n ks ps g ws t) ts r (inserted-valid p n ks ps g ws t z) (moved z) (room z)) e
+  where
+    K : List Float
+    K = insertedKnots p n ks ps g ws t
+
+    moved : insertRefusal p n ks ps g ws t .number ≡ 0 → Each (λ x. inside (at K p) (at K (n + 1)) x ≡ true) ts
+    moved z =
+        let l = v .long in
+        let a : at ks p ≡ at K p = sym (one-front p n ks ps g ws t v z p (omega arith)) in
+        let b : at ks n ≡ at K (n + 1) = sym (one-back p n ks ps g ws t v z n (omega arith) (omega arith)) in
+        each-map (λ x. inside (at ks p) (at ks n) x ≡ true) (λ x. inside (at K p) (at K (n + 1)) x ≡ true) (λ x h. ap₂ (λ (i j : Float). inside i j x) (sym a) (sym b) ∙ h) ts (I .1)
+
+    room : insertRefusal p n ks ps g ws t .number ≡ 0 → (u : Float) → multiplicityOf K u + countIn (λ x. eq x u) ts ≤ p + 1
+    room z u = omega (arith, M u, one-counts p n ks ps g ws t v z (λ x. eq x u))
+
+    here : multiplicityOf ks t ≤ p
+    here = omega (arith, M t, ap bit (eq-self t (inside-finite (at ks p) (at ks n) t (I .0))))
+
+    go : (b : Bool) → eqb (insertRefusal p n ks ps g ws t .number) 0 ≡ b
+        → (insertRefusal p n ks ps g ws t .number ≡ 0 → insertAll p g (n + 1) K (insertedPoints p n ks ps g ws t) (insertedWeights p n ks ps g ws t) ts ≡ refuses r → Late r)
+        → cond b (insertAll p g (n + 1) K (insertedPoints p n ks ps g ws t) (insertedWeights p n ks ps g ws t) ts) (refuses (insertRefusal p n ks ps g ws t)) ≡ refuses r
+        → Late r
+    go true b k h = k (eqb-true _ 0 b) h
+    go false b k h = let q : insertRefusal p n ks ps g ws t ≡ r = cc in subst Late q (late-one p n ks ps g ws t v (I .0) here (eqb-false _ 0 b))
