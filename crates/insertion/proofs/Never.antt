@@ -7,9 +7,10 @@ use mathlib.Core.List.{List, [], _∷_, _++_}
 use native.Mathlib.Omega.{arith}
 use native.Mathlib.Nat.{add-zero}
 use borrow.Author.Tests.{eqb-true, eqb-false, ltb-true, le-ltb, not-true, not-false}
-use lib.ListN.{length, replicate, length-replicate, length-append}
+use lib.ListN.{length, take, drop, replicate, length-take, length-drop, length-replicate, length-append, replicate-append-replicate}
+use lib.Seq.{getD-take, getD-drop, ext-getD}
 use lib.Dec.{eqb, ltb}
-use lib.Ieee.{Float, lt, le, eq}
+use lib.Ieee.{Float, nan, lt, le, eq}
 use lib.Ieee.Scale.{finite}
 use Rattle.doubles.specs.Run.{at}
 use Rattle.doubles.proofs.Tested.{lt-irrefl, lt-asym, lt-trans, ge-lt-trans, lt-ge-trans, le-is}
@@ -24,7 +25,7 @@ use Rattle.knots.proofs.Refusals.{orElse-none}
 use Rattle.knots.proofs.Spans.{search-meets, span-is}
 use Rattle.basis.proofs.Whole.{at-tabulate, length-tabulate}
 use Rattle.insertion.specs.Control.{isLifted, isBlended}
-use Rattle.insertion.specs.Counts.{bit, countBelow, multiplicityOf}
+use Rattle.insertion.specs.Counts.{bit, countBelow, multiplicityOf, allEqual}
 use Rattle.insertion.specs.Rows.{given}
 use Rattle.insertion.specs.Insert.{knotAt, moreKnots, inside, spotRefusal, lifted, blended, morePoints, moreWeights, formRefusal, insertedKnots, insertedPoints, insertedWeights, insertRefusal}
 use Rattle.insertion.specs.Fold.{Outcome, gives, refuses, insertAll}
@@ -33,7 +34,7 @@ use Rattle.insertion.proofs.Storing.{knot-low, knot-high}
 use Rattle.insertion.proofs.Grown.{grown-valid, controls-left}
 use Rattle.insertion.proofs.Forming.{SpotOpen, spot-open}
 use Rattle.insertion.proofs.Folds.{inserted-valid}
-use Rattle.insertion.proofs.Counted.{belowOf, count-grown, gt-not-eq, lt-not-eq, eq-self, multiplicity-same, multiplicity-most, multiplicity-low, multiplicity-high}
+use Rattle.insertion.proofs.Counted.{belowOf, count-grown, gt-not-eq, lt-not-eq, eq-finite, eq-self, eq-lt-left, level-eq, multiplicity-same, multiplicity-most, multiplicity-low, multiplicity-high}
 
 -- ---- lists
 -- every number of a list
@@ -278,3 +279,109 @@ late p g n ks ps ws (t ∷ ts) r v I M e = go (eqb (insertRefusal p n ks ps g ws
         → Late r
     go true b k h = k (eqb-true _ 0 b) h
     go false b k h = let q : insertRefusal p n ks ps g ws t ≡ r = cc in subst Late q (late-one p n ks ps g ws t v (I .0) here (eqb-false _ 0 b))
+
+-- ---- what is made, by numbers
+module _ (p : ℕ) (g : Bool) (n : ℕ) (ks ps ws ts ks' ps' ws' : List Float) (v : ValidKnots p n ks) (M : Made p g n ks ps ws ts ks' ps' ws') where
+  pub made-multiplicity : (u : Float) → multiplicityOf ks' u ≡ multiplicityOf ks u + countIn (λ x. eq x u) ts
+  unfolding multiplicityOf
+  made-multiplicity u = M .counts (λ x. eq x u)
+
+  pub made-below : (u : Float) → belowOf ks' u ≡ belowOf ks u + countIn (λ x. lt x u) ts
+  unfolding belowOf
+  made-below u = M .counts (λ x. lt x u)
+
+  pub made-low : at ks' p ≡ at ks p
+  made-low = M .front p (omega arith)
+
+  pub made-high : at ks' (n + length ts) ≡ at ks n
+  made-high = let l = v .long in M .back n (omega arith) (omega arith)
+
+  -- clamped ends stay as they are
+  pub made-clamped : clampedEnds p (n + length ts) ks' ≡ clampedEnds p n ks
+  unfolding clampedEnds
+  made-clamped = ap₂ (λ (x y : Bool). x && y) (ap₂ allEqual firsts made-low) (ap₂ allEqual lasts made-high)
+    where
+      l : length ks ≡ n + p + 1
+      l = v .long
+
+      l' : length ks' ≡ n + length ts + p + 1
+      l' = M .valid .long
+
+      firsts : take (p + 1) ks' ≡ take (p + 1) ks
+      firsts =
+          let a : length (take (p + 1) ks') ≡ p + 1 = simp length-take (omega (arith, l')) in
+          let b : length (take (p + 1) ks) ≡ p + 1 = simp length-take (omega (arith, l)) in
+          ext-getD nan (take (p + 1) ks') (take (p + 1) ks) (a ∙ sym b) (λ j h. getD-take (p + 1) ks' j nan (omega arith) ∙ (M .front j (omega arith) ∙ sym (getD-take (p + 1) ks j nan (omega arith))))
+
+      lasts : drop (n + length ts) ks' ≡ drop n ks
+      lasts =
+          let a : length (drop (n + length ts) ks') ≡ p + 1 = simp length-drop (omega (arith, l')) in
+          let b : length (drop n ks) ≡ p + 1 = simp length-drop (omega (arith, l)) in
+          ext-getD nan (drop (n + length ts) ks') (drop n ks) (a ∙ sym b) (λ j h.
+          let e : n + length ts + j ≡ n + j + length ts = omega arith in
+          getD-drop (n + length ts) ks' j nan ∙ (ap (at ks') e ∙ (M .back (n + j) (omega arith) (omega (arith, l)) ∙ sym (getD-drop n ks j nan))))
+
+-- ---- room
+module _ (p n : ℕ) (ks : List Float) (v : ValidKnots p n ks) where
+  -- m times t, beside c numbers that equal u
+  pub room-more : (t u : Float) → finite t ≡ true → (m c : ℕ) → multiplicityOf ks t + m ≤ p + 1 → multiplicityOf ks u + c ≤ p + 1 → (eq t u ≡ true → c ≡ 0) → multiplicityOf ks u + (m * bit (eq t u) + c) ≤ p + 1
+  room-more t u T m c a b h = go (eq t u) refl
+    where
+      go : (x : Bool) → eq t u ≡ x → multiplicityOf ks u + (m * bit (eq t u) + c) ≤ p + 1
+      go false e = rw e (omega arith)
+      go true e = let z = h e in let q = multiplicity-same p n ks v t u T (eq-finite t u T e) e in rw e (omega arith)
+
+  pub room-replicate : (t : Float) → finite t ≡ true → (m : ℕ) → multiplicityOf ks t + m ≤ p + 1 → (u : Float) → multiplicityOf ks u + countIn (λ x. eq x u) (replicate m t) ≤ p + 1
+  room-replicate t T m a u = omega (arith, count-replicate (λ x. eq x u) m t, room-more t u T m 0 a (omega (arith, multiplicity-most p n ks v u)) (λ e. refl))
+
+-- ---- one knot, m times
+pub record Repeated (p : ℕ) (g : Bool) (n : ℕ) (ks ps ws : List Float) (m : ℕ) (t : Float) (ks' ps' ws' : List Float) : Type 0 where
+  pub valid : ValidKnots p (n + m) ks'
+  pub points : length ps ≡ n * 3 → length ps' ≡ (n + m) * 3
+  pub weights : length ws ≡ given g n → length ws' ≡ given g (n + m)
+  pub multiplicity : (u : Float) → multiplicityOf ks' u ≡ multiplicityOf ks u + m * bit (eq t u)
+  pub below : (u : Float) → belowOf ks' u ≡ belowOf ks u + m * bit (lt t u)
+  pub low : at ks' p ≡ at ks p
+  pub high : at ks' (n + m) ≡ at ks n
+  pub clamped : clampedEnds p (n + m) ks' ≡ clampedEnds p n ks
+
+module _ (p : ℕ) (g : Bool) (n : ℕ) (ks ps ws : List Float) (v : ValidKnots p n ks) (t : Float) where
+  pub repeated : (m : ℕ) (ks' ps' ws' : List Float) → insertAll p g n ks ps ws (replicate m t) ≡ gives ks' ps' ws' → Repeated p g n ks ps ws m t ks' ps' ws'
+  repeated m ks' ps' ws' e =
+      let M = made p g n ks ps ws (replicate m t) ks' ps' ws' v e in
+      let l : length (replicate m t) ≡ m = length-replicate m t in
+      record {
+        valid = subst (λ (i : ℕ). ValidKnots p (n + i) ks') l (M .valid);
+        points = λ h. subst (λ (i : ℕ). length ps' ≡ (n + i) * 3) l (M .points h);
+        weights = λ h. subst (λ (i : ℕ). length ws' ≡ given g (n + i)) l (M .weights h);
+        multiplicity = λ u. omega (arith, made-multiplicity p g n ks ps ws (replicate m t) ks' ps' ws' v M u, count-replicate (λ x. eq x u) m t);
+        below = λ u. omega (arith, made-below p g n ks ps ws (replicate m t) ks' ps' ws' v M u, count-replicate (λ x. lt x u) m t);
+        low = made-low p g n ks ps ws (replicate m t) ks' ps' ws' v M;
+        high = subst (λ (i : ℕ). at ks' (n + i) ≡ at ks n) l (made-high p g n ks ps ws (replicate m t) ks' ps' ws' v M);
+        clamped = subst (λ (i : ℕ). clampedEnds p (n + i) ks' ≡ clampedEnds p n ks) l (made-clamped p g n ks ps ws (replicate m t) ks' ps' ws' v M);
+      }
+
+  -- one time more
+  pub repeated-next : (m : ℕ) → insertAll p g n ks ps ws (replicate (m + 1) t) ≡ andThen (insertAll p g n ks ps ws (replicate m t)) (λ ks' ps' ws'. insertAll p g (n + m) ks' ps' ws' (t ∷ []))
+  repeated-next m =
+      ap (insertAll p g n ks ps ws) (sym (replicate-append-replicate m 1 t))
+      ∙ (insert-append p g n ks ps ws (replicate m t) (t ∷ []) ∙ ap (λ (i : ℕ). andThen (insertAll p g n ks ps ws (replicate m t)) (λ ks' ps' ws'. insertAll p g (n + i) ks' ps' ws' (t ∷ []))) (length-replicate m t))
+
+  module _ (I : inside (at ks p) (at ks n) t ≡ true) where
+    pub repeated-late : (m : ℕ) → multiplicityOf ks t + m ≤ p + 1 → (r : Refusal) → insertAll p g n ks ps ws (replicate m t) ≡ refuses r → Late r
+    repeated-late m a r = late p g n ks ps ws (replicate m t) r v (each-replicate (λ x. inside (at ks p) (at ks n) x ≡ true) m t I) (room-replicate p n ks v t (inside-finite (at ks p) (at ks n) t I) m a)
+
+    -- the source inserts t while it stands there less than degree + 1 times: so often it does
+    pub loop-on : (j : ℕ) → j < p + 1 - multiplicityOf ks t → (ks' ps' ws' : List Float) → insertAll p g n ks ps ws (replicate j t) ≡ gives ks' ps' ws' → (multiplicityOf ks' t ≡ multiplicityOf ks t + j) × (multiplicityOf ks' t < p + 1)
+    loop-on j l ks' ps' ws' e =
+        let a = repeated j ks' ps' ws' e .multiplicity t in
+        let b : bit (eq t t) ≡ 1 = ap bit (eq-self t (inside-finite (at ks p) (at ks n) t I)) in
+        let c : multiplicityOf ks' t ≡ multiplicityOf ks t + j = a ∙ rw b (omega arith) in
+        (c, omega arith)
+
+    pub loop-off : (ks' ps' ws' : List Float) → insertAll p g n ks ps ws (replicate (p + 1 - multiplicityOf ks t) t) ≡ gives ks' ps' ws' → multiplicityOf ks' t ≡ p + 1
+    loop-off ks' ps' ws' e =
+        let a = repeated (p + 1 - multiplicityOf ks t) ks' ps' ws' e .multiplicity t in
+        let b : bit (eq t t) ≡ 1 = ap bit (eq-self t (inside-finite (at ks p) (at ks n) t I)) in
+        let c : multiplicityOf ks' t ≡ multiplicityOf ks t + (p + 1 - multiplicityOf ks t) = a ∙ rw b (omega arith) in
+        omega (arith, multiplicity-most p n ks v t)
