@@ -158,7 +158,7 @@ eq-finite (fin s m e) nan f h = h
 eq-finite (fin s m e) (inf t) f h = h
 eq-finite (fin s m e) (fin t n d) f h = refl
 
-not-both : (b : Bool) → b ≡ true → b ≡ false → ⊥
+pub not-both : (b : Bool) → b ≡ true → b ≡ false → ⊥
 not-both b p q = let z : _≡_ {A = ℕ} 0 1 = ap bit (sym q ∙ p) in omega arith
 
 pub refuted : (b : Bool) → (b ≡ true → ⊥) → b ≡ false

@@ -34,7 +34,7 @@ use Rattle.insertion.proofs.Storing.{knot-low, knot-high}
 use Rattle.insertion.proofs.Grown.{grown-valid, controls-left}
 use Rattle.insertion.proofs.Forming.{SpotOpen, spot-open}
 use Rattle.insertion.proofs.Folds.{inserted-valid}
-use Rattle.insertion.proofs.Counted.{belowOf, count-grown, gt-not-eq, lt-not-eq, eq-finite, eq-self, eq-lt-left, level-eq, multiplicity-same, multiplicity-most, multiplicity-low, multiplicity-high}
+use Rattle.insertion.proofs.Counted.{belowOf, count-grown, gt-not-eq, lt-not-eq, eq-finite, eq-self, eq-lt-left, level-eq, not-both, refuted, multiplicity-same, multiplicity-most, multiplicity-low, multiplicity-high}
 
 -- ---- lists
 -- every number of a list
@@ -385,3 +385,88 @@ module _ (p : ℕ) (g : Bool) (n : ℕ) (ks ps ws : List Float) (v : ValidKnots 
         let b : bit (eq t t) ≡ 1 = ap bit (eq-self t (inside-finite (at ks p) (at ks n) t I)) in
         let c : multiplicityOf ks' t ≡ multiplicityOf ks t + (p + 1 - multiplicityOf ks t) = a ∙ rw b (omega arith) in
         omega (arith, multiplicity-most p n ks v t)
+
+-- ---- a clamped curve, cut at its ends or inside
+pub inside-by : (lo hi t : Float) → finite lo ≡ true → finite hi ≡ true → finite t ≡ true → lt lo t ≡ true → lt t hi ≡ true → inside lo hi t ≡ true
+unfolding inside
+inside-by lo hi t L H T a b =
+    and-true (finite t) _ T (and-true (not (le t lo)) (not (le hi t)) (ap not (le-is t lo T L ∙ ap not a)) (ap not (le-is hi t H T ∙ ap not b)))
+
+module _ (p n : ℕ) (ks : List Float) (v : ValidKnots p n ks) (c : clampedEnds p n ks ≡ true) where
+  -- at an end of the domain nothing is missing
+  pub missing-inside : (t : Float) → finite t ≡ true → lt t (at ks p) ≡ false → lt (at ks n) t ≡ false → Each (λ x. inside (at ks p) (at ks n) x ≡ true) (replicate (p + 1 - multiplicityOf ks t) t)
+  missing-inside t T a b = go (lt (at ks p) t) refl (lt t (at ks n)) refl
+    where
+      first : finite (at ks p) ≡ true
+      first = let l = v .long in v .finites p (omega arith)
+
+      last : finite (at ks n) ≡ true
+      last = let l = v .long in v .finites n (omega arith)
+
+      none : (y : Float) → finite y ≡ true → multiplicityOf ks y ≡ p + 1 → eq t y ≡ true → Each (λ x. inside (at ks p) (at ks n) x ≡ true) (replicate (p + 1 - multiplicityOf ks t) t)
+      none y Y f e =
+          let z : 0 ≡ p + 1 - multiplicityOf ks t = omega (arith, multiplicity-same p n ks v t y T Y e) in
+          subst (λ (m : ℕ). Each (λ x. inside (at ks p) (at ks n) x ≡ true) (replicate m t)) z tt
+
+      go : (x : Bool) → lt (at ks p) t ≡ x → (y : Bool) → lt t (at ks n) ≡ y → Each (λ x. inside (at ks p) (at ks n) x ≡ true) (replicate (p + 1 - multiplicityOf ks t) t)
+      go false e y f = none (at ks p) first (multiplicity-low p n ks v c) (level-eq t (at ks p) T first a e)
+      go true e false f = none (at ks n) last (multiplicity-high p n ks v c) (level-eq t (at ks n) T last f b)
+      go true e true f = each-replicate (λ x. inside (at ks p) (at ks n) x ≡ true) (p + 1 - multiplicityOf ks t) t (inside-by (at ks p) (at ks n) t first last T e f)
+
+-- both ends made full
+pub record Cut (p n : ℕ) (ks : List Float) (lo hi : Float) (ks' : List Float) : Type 0 where
+  pub full-low : multiplicityOf ks' lo ≡ p + 1
+  pub full-high : multiplicityOf ks' hi ≡ p + 1
+  pub below-low : belowOf ks' lo ≡ belowOf ks lo
+  pub below-high : belowOf ks' hi ≡ belowOf ks hi + (p + 1 - multiplicityOf ks lo)
+  pub long : length ks' ≡ n + (p + 1 - multiplicityOf ks lo) + (p + 1 - multiplicityOf ks hi) + p + 1
+
+module _ (p : ℕ) (g : Bool) (n : ℕ) (ks ps ws : List Float) (v : ValidKnots p n ks) (lo hi : Float) (L : finite lo ≡ true) (H : finite hi ≡ true) (b : lt lo hi ≡ true) where
+  abbrev pub cutEnds : List Float
+  cutEnds = replicate (p + 1 - multiplicityOf ks lo) lo ++ replicate (p + 1 - multiplicityOf ks hi) hi
+
+  ends-count : (f : Float → Bool) → countIn f cutEnds ≡ (p + 1 - multiplicityOf ks lo) * bit (f lo) + (p + 1 - multiplicityOf ks hi) * bit (f hi)
+  ends-count f =
+      omega (arith, count-append f (replicate (p + 1 - multiplicityOf ks lo) lo) (replicate (p + 1 - multiplicityOf ks hi) hi), count-replicate f (p + 1 - multiplicityOf ks lo) lo, count-replicate f (p + 1 - multiplicityOf ks hi) hi)
+
+  ends-long : length cutEnds ≡ (p + 1 - multiplicityOf ks lo) + (p + 1 - multiplicityOf ks hi)
+  ends-long =
+      omega (arith, length-append (replicate (p + 1 - multiplicityOf ks lo) lo) (replicate (p + 1 - multiplicityOf ks hi) hi), length-replicate (p + 1 - multiplicityOf ks lo) lo, length-replicate (p + 1 - multiplicityOf ks hi) hi)
+
+  ends-room : (u : Float) → multiplicityOf ks u + countIn (λ x. eq x u) cutEnds ≤ p + 1
+  ends-room u =
+      let x = multiplicity-most p n ks v lo in
+      let y = multiplicity-most p n ks v hi in
+      let r = room-replicate p n ks v hi H (p + 1 - multiplicityOf ks hi) (omega arith) u in
+      let q = count-replicate (λ x. eq x u) (p + 1 - multiplicityOf ks hi) hi in
+      omega (arith, ends-count (λ x. eq x u), room-more p n ks v lo u L (p + 1 - multiplicityOf ks lo) ((p + 1 - multiplicityOf ks hi) * bit (eq hi u)) (omega arith) (omega arith) none)
+    where
+      none : eq lo u ≡ true → (p + 1 - multiplicityOf ks hi) * bit (eq hi u) ≡ 0
+      none e =
+          let U = eq-finite lo u L e in
+          rw (gt-not-eq hi u H U (eq-lt-left lo u L U e hi H b)) (omega arith)
+
+  pub cut-late : clampedEnds p n ks ≡ true → lt lo (at ks p) ≡ false → lt (at ks n) hi ≡ false → (r : Refusal) → insertAll p g n ks ps ws cutEnds ≡ refuses r → Late r
+  cut-late c i j r =
+      let l = v .long in
+      late p g n ks ps ws cutEnds r v
+      (each-append (λ x. inside (at ks p) (at ks n) x ≡ true) (replicate (p + 1 - multiplicityOf ks lo) lo) (replicate (p + 1 - multiplicityOf ks hi) hi)
+      (missing-inside p n ks v c lo L i (refuted (lt (at ks n) lo) (λ e. not-both (lt (at ks n) hi) (lt-trans (at ks n) lo hi e b) j)))
+      (missing-inside p n ks v c hi H (refuted (lt hi (at ks p)) (λ e. not-both (lt lo (at ks p)) (lt-trans lo hi (at ks p) b e) i)) j)) ends-room
+
+  pub cut-made : (ks' ps' ws' : List Float) → insertAll p g n ks ps ws cutEnds ≡ gives ks' ps' ws' → Cut p n ks lo hi ks'
+  cut-made ks' ps' ws' e =
+      let M = made p g n ks ps ws cutEnds ks' ps' ws' v e in
+      let x = multiplicity-most p n ks v lo in
+      let y = multiplicity-most p n ks v hi in
+      let ll : bit (eq lo lo) ≡ 1 = ap bit (eq-self lo L) in
+      let hh : bit (eq hi hi) ≡ 1 = ap bit (eq-self hi H) in
+      let hl : bit (eq hi lo) ≡ 0 = ap bit (gt-not-eq hi lo H L b) in
+      let lh : bit (eq lo hi) ≡ 0 = ap bit (lt-not-eq lo hi b) in
+      record {
+        full-low = made-multiplicity p g n ks ps ws cutEnds ks' ps' ws' v M lo ∙ rw (ends-count (λ x. eq x lo), ll, hl) (omega arith);
+        full-high = made-multiplicity p g n ks ps ws cutEnds ks' ps' ws' v M hi ∙ rw (ends-count (λ x. eq x hi), hh, lh) (omega arith);
+        below-low = made-below p g n ks ps ws cutEnds ks' ps' ws' v M lo ∙ rw (ends-count (λ x. lt x lo), lt-irrefl lo, lt-asym lo hi b) (omega arith);
+        below-high = made-below p g n ks ps ws cutEnds ks' ps' ws' v M hi ∙ rw (ends-count (λ x. lt x hi), lt-irrefl hi, b) (omega arith);
+        long = omega (arith, M .valid .long, ends-long);
+      }
