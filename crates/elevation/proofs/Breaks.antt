@@ -1,0 +1,113 @@
+-- The breaks of a clamped curve: where they lie, how many knots they are, and that they can be made full.
+-- Assumes nothing.
+use Prim.Native.Nat.{ℕ, zero, suc, _+_, _-_, _*_, _≤_, _<_}
+use mathlib.Core.Bool.{Bool, true, false, not, cond}
+use mathlib.Core.Path.{_≡_, refl, sym, _∙_, ap, ap₂, subst}
+use mathlib.Core.List.{List, [], _∷_, _++_}
+use native.Mathlib.Omega.{arith}
+use native.Mathlib.Nat.{add-zero}
+use lib.ListN.{length, replicate, length-replicate, length-append}
+use lib.Dec.{ltb}
+use lib.Ieee.{Float, lt, eq}
+use lib.Ieee.Scale.{finite}
+use Rattle.doubles.specs.Run.{at}
+use Rattle.doubles.proofs.Tested.{lt-irrefl, lt-asym, lt-trans, ge-lt-trans, lt-ge-trans}
+use Rattle.knots.specs.Knots.{ValidKnots}
+use Rattle.knots.specs.declared.refusal.Refusal.{Refusal}
+use Rattle.knots.proofs.Valid.{sorted}
+use Rattle.insertion.specs.Counts.{bit, countBelow, multiplicityOf}
+use Rattle.insertion.specs.Insert.{inside}
+use Rattle.insertion.specs.Fold.{gives, refuses, insertAll}
+use Rattle.insertion.specs.Start.{clampedEnds}
+use Rattle.insertion.proofs.Grown.{count-run}
+use Rattle.insertion.proofs.Counted.{gt-not-eq, lt-not-eq, below-by, eq-finite, eq-self, eq-same, eq-lt-left, eq-lt-right, multiplicity-same, multiplicity-most, clamped-low, clamped-high}
+use Rattle.insertion.proofs.Never.{Each, countIn, each-append, each-replicate, each-map, count-append, count-replicate, Made, made, made-multiplicity, Late, late, inside-by, room-more}
+use Rattle.elevation.specs.Breaks.{breaksFrom, breaksOf, isFull, fullCount, missingAll}
+
+-- ---- what holds of each knot that differs from the one before it holds of each break
+pub breaks-each : (P : Float → Type 0) (ks : List Float) (i m : ℕ) → ((j : ℕ) → i ≤ j → j < i + m → eq (at ks (j - 1)) (at ks j) ≡ false → P (at ks j)) → Each P (breaksFrom ks i m)
+unfolding breaksFrom
+breaks-each P ks i zero h = tt
+breaks-each P ks i (suc m) h = go (eq (at ks (i - 1)) (at ks i)) refl (breaks-each P ks (suc i) m (λ j a b. h j (omega arith) (omega arith)))
+  where
+    go : (x : Bool) → eq (at ks (i - 1)) (at ks i) ≡ x → Each P (breaksFrom ks (suc i) m) → Each P (cond x (breaksFrom ks (suc i) m) (at ks i ∷ breaksFrom ks (suc i) m))
+    go true e r = r
+    go false e r = (h i (omega arith) (omega arith) e, r)
+
+-- each number of a list is below all after it
+abbrev pub Rising : List Float → Type 0
+Rising [] = Unit
+Rising (t ∷ ts) = Each (λ u. lt t u ≡ true) ts × Rising ts
+
+-- what a break is
+pub record IsBreak (p n : ℕ) (ks : List Float) (t : Float) : Type 0 where
+  pub number : finite t ≡ true
+  pub low : lt (at ks p) t ≡ true
+  pub high : lt t (at ks n) ≡ true
+  pub present : 1 ≤ multiplicityOf ks t
+  pub most : multiplicityOf ks t ≤ p + 1
+
+module _ (p n : ℕ) (ks : List Float) (v : ValidKnots p n ks) where
+  fins : (j : ℕ) → j < n → finite (at ks j) ≡ true
+  fins j l = let L = v .long in v .finites j (omega arith)
+
+  -- the knot before a start is below it
+  start-above : (i : ℕ) → i < n → eq (at ks (i - 1)) (at ks i) ≡ false → lt (at ks (i - 1)) (at ks i) ≡ true
+  start-above i l e = let L = v .long in below-by (at ks (i - 1)) (at ks i) (fins (i - 1) (omega arith)) (fins i l) e (sorted p n ks v (i - 1) i (omega arith) (omega arith))
+
+  -- and so is every one before it
+  start-past : (i j : ℕ) → i < j → j < n → eq (at ks (j - 1)) (at ks j) ≡ false → lt (at ks i) (at ks j) ≡ true
+  start-past i j a l e =
+      let L = v .long in
+      ge-lt-trans (at ks i) (at ks (j - 1)) (at ks j) (fins i (omega arith)) (sorted p n ks v i (j - 1) (omega arith) (omega arith)) (start-above j l e)
+
+  pub breaks-rise : (i m : ℕ) → i + m ≤ n → Rising (breaksFrom ks i m)
+  unfolding breaksFrom
+  breaks-rise i zero l = tt
+  breaks-rise i (suc m) l = go (eq (at ks (i - 1)) (at ks i)) (breaks-rise (suc i) m (omega arith))
+    where
+      go : (x : Bool) → Rising (breaksFrom ks (suc i) m) → Rising (cond x (breaksFrom ks (suc i) m) (at ks i ∷ breaksFrom ks (suc i) m))
+      go true r = r
+      go false r = (breaks-each (λ u. lt (at ks i) u ≡ true) ks (suc i) m (λ j a b e. start-past i j (omega arith) (omega arith) e), r)
+
+  pub distinct : Rising (breaksOf p n ks)
+  unfolding breaksOf
+  distinct = let C = v .count in breaks-rise (p + 1) (n - (p + 1)) (omega arith)
+
+  module _ (c : clampedEnds p n ks ≡ true) where
+    -- no inner knot equals an end
+    above-low : (j : ℕ) → p < j → j < length ks → lt (at ks p) (at ks j) ≡ true
+    above-low j a l =
+        let C = v .count in
+        let P = fins p (omega arith) in
+        let Z = fins 0 (omega arith) in
+        let J = v .finites j l in
+        eq-lt-left (at ks 0) (at ks p) Z P (clamped-low p n ks v c 0 (omega arith)) (at ks j) J
+        (lt-ge-trans (at ks 0) (at ks (0 + (p + 1))) (at ks j) J (v .multiplicity 0 (omega arith)) (sorted p n ks v (0 + (p + 1)) j (omega arith) l))
+
+    below-high : (i : ℕ) → i < n → lt (at ks i) (at ks n) ≡ true
+    below-high i l =
+        let L = v .long in
+        let N = v .finites n (omega arith) in
+        let E = v .finites (n + p) (omega arith) in
+        let I = fins i l in
+        let e : n - 1 + (p + 1) ≡ n + p = omega arith in
+        let m : lt (at ks (n - 1)) (at ks (n + p)) ≡ true = subst (λ (j : ℕ). lt (at ks (n - 1)) (at ks j) ≡ true) e (v .multiplicity (n - 1) (omega arith)) in
+        eq-lt-right (at ks (n + p)) (at ks n) E N (clamped-high p n ks v c (n + p) (omega arith) (omega arith)) (at ks i) I
+        (ge-lt-trans (at ks i) (at ks (n - 1)) (at ks (n + p)) I (sorted p n ks v i (n - 1) (omega arith) (omega arith)) m)
+
+    knot-break : (j : ℕ) → p < j → j < n → IsBreak p n ks (at ks j)
+    unfolding multiplicityOf
+    knot-break j a b =
+        let L = v .long in
+        record {
+          number = fins j b;
+          low = above-low j a (omega arith);
+          high = below-high j b;
+          present = count-run (λ i. eq (at ks i) (at ks j)) j 1 (length ks) (omega arith) (λ i x y. let e : j ≡ i = omega arith in subst (λ (k : ℕ). eq (at ks k) (at ks j) ≡ true) e (eq-self (at ks j) (fins j b)));
+          most = multiplicity-most p n ks v (at ks j);
+        }
+
+    pub breaks-are : Each (IsBreak p n ks) (breaksOf p n ks)
+    unfolding breaksOf
+    breaks-are = let C = v .count in breaks-each (IsBreak p n ks) ks (p + 1) (n - (p + 1)) (λ j a b e. knot-break j (omega arith) (omega arith))
