@@ -20,7 +20,7 @@ use Rattle.insertion.specs.Insert.{inside}
 use Rattle.insertion.specs.Fold.{gives, refuses, insertAll}
 use Rattle.insertion.specs.Start.{clampedEnds}
 use Rattle.insertion.proofs.Grown.{count-run}
-use Rattle.insertion.proofs.Counted.{gt-not-eq, lt-not-eq, below-by, eq-finite, eq-self, eq-same, eq-lt-left, eq-lt-right, multiplicity-same, multiplicity-most, clamped-low, clamped-high}
+use Rattle.insertion.proofs.Counted.{gt-not-eq, lt-not-eq, below-by, eq-finite, count-early, eq-self, eq-same, eq-sym, eq-lt-left, eq-lt-right, multiplicity-same, multiplicity-most, clamped-low, clamped-high}
 use Rattle.insertion.proofs.Never.{Each, countIn, each-append, each-replicate, each-map, count-append, count-replicate, Made, made, made-multiplicity, Late, late, inside-by, room-more}
 use Rattle.elevation.specs.Breaks.{breaksFrom, breaksOf, isFull, fullCount, missingAll}
 
@@ -38,6 +38,38 @@ breaks-each P ks i (suc m) h = go (eq (at ks (i - 1)) (at ks i)) refl (breaks-ea
 abbrev pub Rising : List Float → Type 0
 Rising [] = Unit
 Rising (t ∷ ts) = Each (λ u. lt t u ≡ true) ts × Rising ts
+
+-- ---- how many of the m places from i on pass a test
+unfoldable countFrom : (ℕ → Bool) → ℕ → ℕ → ℕ
+countFrom f i zero = 0
+countFrom f i (suc m) = bit (f i) + countFrom f (suc i) m
+
+count-split : (f : ℕ → Bool) (i m : ℕ) → countBelow f (i + m) ≡ countBelow f i + countFrom f i m
+unfolding countBelow countFrom
+count-split f i zero = ap (countBelow f) (add-zero i) ∙ omega arith
+count-split f i (suc m) = let e : i + suc m ≡ suc i + m = omega arith in ap (countBelow f) e ∙ omega (arith, count-split f (suc i) m)
+
+from-none : (f : ℕ → Bool) (i m : ℕ) → ((j : ℕ) → i ≤ j → j < i + m → f j ≡ false) → countFrom f i m ≡ 0
+unfolding countFrom
+from-none f i zero h = refl
+from-none f i (suc m) h = let z : bit (f i) ≡ 0 = ap bit (h i (omega arith) (omega arith)) in omega (arith, from-none f (suc i) m (λ j a b. h j (omega arith) (omega arith)))
+
+from-cong : (f g : ℕ → Bool) (i m : ℕ) → ((j : ℕ) → i ≤ j → j < i + m → f j ≡ g j) → countFrom f i m ≡ countFrom g i m
+unfolding countFrom
+from-cong f g i zero h = refl
+from-cong f g i (suc m) h = let z : bit (f i) ≡ bit (g i) = ap bit (h i (omega arith) (omega arith)) in omega (arith, from-cong f g (suc i) m (λ j a b. h j (omega arith) (omega arith)))
+
+-- how many knots the numbers of a list are
+unfoldable pub timesAll : List Float → List Float → ℕ
+timesAll ks [] = 0
+timesAll ks (t ∷ ts) = multiplicityOf ks t + timesAll ks ts
+
+pub missing-long : (p : ℕ) (ks bs : List Float) → Each (λ t. multiplicityOf ks t ≤ p + 1) bs → length (missingAll p ks bs) + timesAll ks bs ≡ (p + 1) * length bs
+unfolding missingAll timesAll
+missing-long p ks [] h = omega arith
+missing-long p ks (t ∷ ts) h =
+    let a = h .0 in
+    omega (arith, missing-long p ks ts (h .1), length-append (replicate (p + 1 - multiplicityOf ks t) t) (missingAll p ks ts), length-replicate (p + 1 - multiplicityOf ks t) t)
 
 -- what a break is
 pub record IsBreak (p n : ℕ) (ks : List Float) (t : Float) : Type 0 where
@@ -111,3 +143,57 @@ module _ (p n : ℕ) (ks : List Float) (v : ValidKnots p n ks) where
     pub breaks-are : Each (IsBreak p n ks) (breaksOf p n ks)
     unfolding breaksOf
     breaks-are = let C = v .count in breaks-each (IsBreak p n ks) ks (p + 1) (n - (p + 1)) (λ j a b e. knot-break j (omega arith) (omega arith))
+
+    -- a break stands where it starts and then on
+    start-times : (i m : ℕ) → p < i → i + suc m ≡ n → eq (at ks (i - 1)) (at ks i) ≡ false → multiplicityOf ks (at ks i) ≡ suc (countFrom (λ j. eq (at ks j) (at ks i)) (suc i) m)
+    unfolding multiplicityOf countFrom
+    start-times i m a q e =
+        let L = v .long in
+        let l : length ks ≡ i + suc m + (p + 1) = omega arith in
+        let I = fins i (omega arith) in
+        let before : countBelow f i ≤ 0 = count-early f 0 i (λ j x y. lt-not-eq (at ks j) (at ks i) (start-past j i y (omega arith) e)) in
+        let behind : countFrom f (i + suc m) (p + 1) ≡ 0 = from-none f (i + suc m) (p + 1) (λ j x y.
+        let J = v .finites j (omega arith) in
+        gt-not-eq (at ks j) (at ks i) J I (lt-ge-trans (at ks i) (at ks n) (at ks j) J (below-high i (omega arith)) (sorted p n ks v n j (omega arith) (omega arith)))) in
+        let here : bit (eq (at ks i) (at ks i)) ≡ 1 = ap bit (eq-self (at ks i) I) in
+        ap (countBelow f) l ∙ omega (arith, count-split f (i + suc m) (p + 1), count-split f i (suc m))
+      where
+        f : ℕ → Bool
+        f j = eq (at ks j) (at ks i)
+
+    -- the knots from i on are those of the breaks from i on, and those that still equal the knot before i
+    walk : (i m : ℕ) → p < i → i + m ≡ n → timesAll ks (breaksFrom ks i m) + countFrom (λ j. eq (at ks j) (at ks (i - 1))) i m ≡ m
+    unfolding breaksFrom timesAll countFrom
+    walk i zero a q = omega arith
+    walk i (suc m) a q =
+        let e : suc i - 1 ≡ i = omega arith in
+        go (eq (at ks (i - 1)) (at ks i)) refl (subst (λ (k : ℕ). timesAll ks (breaksFrom ks (suc i) m) + countFrom (λ j. eq (at ks j) (at ks k)) (suc i) m ≡ m) e (walk (suc i) m (omega arith) (omega arith)))
+      where
+        go : (x : Bool) → eq (at ks (i - 1)) (at ks i) ≡ x → timesAll ks (breaksFrom ks (suc i) m) + countFrom (λ j. eq (at ks j) (at ks i)) (suc i) m ≡ m
+            → timesAll ks (cond x (breaksFrom ks (suc i) m) (at ks i ∷ breaksFrom ks (suc i) m)) + countFrom (λ j. eq (at ks j) (at ks (i - 1))) i (suc m) ≡ suc m
+        go true e r =
+            let X = fins (i - 1) (omega arith) in
+            let Y = fins i (omega arith) in
+            let one : bit (eq (at ks i) (at ks (i - 1))) ≡ 1 = ap bit (eq-sym (at ks (i - 1)) (at ks i) X Y e) in
+            omega (arith, from-cong (λ j. eq (at ks j) (at ks (i - 1))) (λ j. eq (at ks j) (at ks i)) (suc i) m (λ j x y. eq-same (at ks (i - 1)) (at ks i) X Y e (at ks j) (fins j (omega arith))))
+        go false e r =
+            let L = v .long in
+            let none = from-none (λ j. eq (at ks j) (at ks (i - 1))) i (suc m) (λ j x y.
+            let J = fins j (omega arith) in
+            gt-not-eq (at ks j) (at ks (i - 1)) J (fins (i - 1) (omega arith)) (lt-ge-trans (at ks (i - 1)) (at ks i) (at ks j) J (start-above i (omega arith) e) (sorted p n ks v i j x (omega arith)))) in
+            omega (arith, start-times i m a q e, none)
+
+    -- every inner knot is one of a break
+    pub breaks-times : timesAll ks (breaksOf p n ks) + (p + 1) ≡ n
+    unfolding breaksOf
+    breaks-times =
+        let C = v .count in
+        let L = v .long in
+        let e : p + 1 - 1 ≡ p = omega arith in
+        let w = subst (λ (k : ℕ). timesAll ks (breaksFrom ks (p + 1) (n - (p + 1))) + countFrom (λ j. eq (at ks j) (at ks k)) (p + 1) (n - (p + 1)) ≡ n - (p + 1)) e (walk (p + 1) (n - (p + 1)) (omega arith) (omega arith)) in
+        let none = from-none (λ j. eq (at ks j) (at ks p)) (p + 1) (n - (p + 1)) (λ j x y. gt-not-eq (at ks j) (at ks p) (fins j (omega arith)) (fins p (omega arith)) (above-low j (omega arith) (omega arith))) in
+        omega arith
+
+    pub extracted-count : n + length (missingAll p ks (breaksOf p n ks)) ≡ (p + 1) * (length (breaksOf p n ks) + 1)
+    extracted-count =
+        omega (arith, breaks-times, missing-long p ks (breaksOf p n ks) (each-map (IsBreak p n ks) (λ t. multiplicityOf ks t ≤ p + 1) (λ t b. b .most) (breaksOf p n ks) breaks-are))
