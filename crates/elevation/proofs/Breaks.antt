@@ -1,17 +1,16 @@
 -- The breaks of a clamped curve: where they lie, how many knots they are, and that they can be made full.
 -- Assumes nothing.
 use Prim.Native.Nat.{ℕ, zero, suc, _+_, _-_, _*_, _≤_, _<_}
-use mathlib.Core.Bool.{Bool, true, false, not, cond}
-use mathlib.Core.Path.{_≡_, refl, sym, _∙_, ap, ap₂, subst}
-use mathlib.Core.List.{List, [], _∷_, _++_}
+use mathlib.Core.Bool.{Bool, true, false, cond}
+use mathlib.Core.Path.{_≡_, refl, _∙_, ap, subst}
+use mathlib.Core.List.{List, [], _∷_}
 use native.Mathlib.Omega.{arith}
 use native.Mathlib.Nat.{add-zero}
 use lib.ListN.{length, replicate, length-replicate, length-append}
-use lib.Dec.{ltb}
 use lib.Ieee.{Float, lt, eq}
 use lib.Ieee.Scale.{finite}
 use Rattle.doubles.specs.Run.{at}
-use Rattle.doubles.proofs.Tested.{lt-irrefl, lt-asym, lt-trans, ge-lt-trans, lt-ge-trans}
+use Rattle.doubles.proofs.Tested.{ge-lt-trans, lt-ge-trans}
 use Rattle.knots.specs.Knots.{ValidKnots}
 use Rattle.knots.specs.declared.refusal.Refusal.{Refusal}
 use Rattle.knots.proofs.Valid.{sorted}
@@ -21,7 +20,7 @@ use Rattle.insertion.specs.Insert.{inside}
 use Rattle.insertion.specs.Fold.{gives, refuses, insertAll}
 use Rattle.insertion.specs.Start.{clampedEnds}
 use Rattle.insertion.proofs.Grown.{count-run}
-use Rattle.insertion.proofs.Counted.{gt-not-eq, lt-not-eq, below-by, eq-finite, count-early, eq-self, eq-same, eq-sym, eq-lt-left, eq-lt-right, multiplicity-same, multiplicity-most, clamped-low, clamped-high}
+use Rattle.insertion.proofs.Counted.{gt-not-eq, lt-not-eq, below-by, eq-finite, count-early, eq-self, eq-same, eq-sym, eq-lt-left, eq-lt-right, multiplicity-most, clamped-low, clamped-high}
 use Rattle.insertion.proofs.Never.{Each, countIn, each-append, each-replicate, each-map, count-append, count-replicate, Made, made, made-multiplicity, Late, late, inside-by, room-more}
 use Rattle.elevation.specs.Breaks.{breaksFrom, breaksOf, isFull, fullCount, missingAll}
 

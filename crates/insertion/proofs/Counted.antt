@@ -1,20 +1,20 @@
 -- How many knots pass a test: with a knot more, in a run that is in order, and where the ends are clamped.
 -- Assumes nothing.
-use Prim.Native.Nat.{ℕ, zero, suc, _+_, _-_, _*_, _≤_, _<_}
-use mathlib.Core.Bool.{Bool, true, false, not, _&&_, _||_}
+use Prim.Native.Nat.{ℕ, zero, suc, _+_, _-_, _≤_, _<_}
+use mathlib.Core.Bool.{Bool, true, false, not, _||_}
 use mathlib.Core.Path.{_≡_, refl, sym, _∙_, ap, subst}
 use mathlib.Core.Logic.{⊎-elim}
 use mathlib.Core.List.{List}
 use native.Mathlib.Omega.{arith}
 use native.Mathlib.Numerals.{add-one}
-use borrow.Author.Tests.{not-true, not-false, ltb-true, ne-eqb}
+use borrow.Author.Tests.{ltb-true, ne-eqb}
 use lib.ListN.{length, take, drop, length-take, length-drop}
 use lib.Seq.{getD-take, getD-drop}
 use lib.Dec.{eqb}
 use lib.Ieee.{Float, nan, inf, fin, below, level, lt, le, eq}
 use lib.Ieee.Scale.{finite}
 use Rattle.doubles.specs.Run.{at}
-use Rattle.doubles.proofs.Tested.{lt-irrefl, lt-asym, lt-trans, ge-trans, lt-ge-trans, ge-lt-trans, le-is}
+use Rattle.doubles.proofs.Tested.{lt-irrefl, lt-trans, ge-trans, lt-ge-trans, ge-lt-trans, le-is}
 use Rattle.knots.specs.Knots.{ValidKnots}
 use Rattle.knots.proofs.Below.{and-left, and-right, and-false-l, and-false-r, all-at}
 use Rattle.knots.proofs.Valid.{sorted}
@@ -30,6 +30,18 @@ use Rattle.insertion.proofs.Grown.{count-run}
 -- how many knots are below u
 unfoldable pub belowOf : List Float → Float → ℕ
 belowOf ks u = countBelow (λ j. lt (at ks j) u) (length ks)
+
+-- ---- a test by its two answers
+pub not-both : (b : Bool) → b ≡ true → b ≡ false → ⊥
+not-both b p q = let z : _≡_ {A = ℕ} 0 1 = ap bit (sym q ∙ p) in omega arith
+
+pub refuted : (b : Bool) → (b ≡ true → ⊥) → b ≡ false
+refuted true h = absurd (h refl)
+refuted false h = refl
+
+pub confirmed : (b : Bool) → (b ≡ false → ⊥) → b ≡ true
+confirmed true h = refl
+confirmed false h = absurd (h refl)
 
 -- ---- one test beside others
 pub count-cong : (f g : ℕ → Bool) (n : ℕ) → ((k : ℕ) → k < n → f k ≡ g k) → countBelow f n ≡ countBelow g n
@@ -59,27 +71,12 @@ count-mono f g n h = omega (arith, count-within f (λ k. false) g n (λ k l e. r
 
 -- ---- where no place passes
 pub count-late : (f : ℕ → Bool) (a n : ℕ) → a ≤ n → ((i : ℕ) → i < a → f i ≡ false) → a + countBelow f n ≤ n
-unfolding countBelow
-count-late f a zero l h = omega arith
-count-late f a (suc n) l h = ⊎-elim
-    (λ (b : a < suc n). omega (arith, count-late f a n (omega arith) h, bits (f n)))
-    (λ (b : suc n ≤ a).
-    let z : bit (f n) ≡ 0 = ap bit (h n (omega arith)) in
-    omega (arith, count-late f n n (omega arith) (λ i x. h i (omega arith))))
-    (lt-or-ge a (suc n))
-  where
-    bits : (b : Bool) → bit b ≤ 1
-    bits true = omega arith
-    bits false = omega arith
+count-late f a n l h = omega (arith, count-run (λ i. not (f i)) 0 a n (omega arith) (λ i x y. ap not (h i (omega arith))), count-apart f (λ i. not (f i)) n (λ i x e. ap not e))
 
 pub count-early : (f : ℕ → Bool) (a n : ℕ) → ((i : ℕ) → a ≤ i → i < n → f i ≡ false) → countBelow f n ≤ a
-unfolding countBelow
-count-early f a zero h = omega arith
-count-early f a (suc n) h = ⊎-elim
-    (λ (b : n < a). omega (arith, count-le f (suc n)))
-    (λ (b : a ≤ n).
-    let z : bit (f n) ≡ 0 = ap bit (h n b (omega arith)) in
-    omega (arith, count-early f a n (λ i x y. h i x (omega arith))))
+count-early f a n h = ⊎-elim
+    (λ (b : n < a). omega (arith, count-le f n))
+    (λ (b : a ≤ n). omega (arith, count-run (λ i. not (f i)) a (n - a) n (omega arith) (λ i x y. ap not (h i x (omega arith))), count-apart f (λ i. not (f i)) n (λ i x e. ap not e)))
     (lt-or-ge n a)
 
 -- no two places that pass are m apart
@@ -88,13 +85,12 @@ unfolding countBelow
 count-close f m zero h = omega (arith, count-le f 0)
 count-close f m (suc n) h = go (f n) refl (count-close f m n (λ i j a b. h i j a (omega arith)))
   where
-    other : f n ≡ true → (i : ℕ) → i < suc n - m → (x : Bool) → f i ≡ x → f i ≡ false
-    other e i l false q = q
-    other e i l true q = let z : false ≡ true = sym (h i n (omega arith) (omega arith) q) ∙ e in cc
-
     go : (x : Bool) → f n ≡ x → countBelow f n ≤ m → countBelow f (suc n) ≤ m
     go false e r = let z : bit (f n) ≡ 0 = ap bit e in omega arith
-    go true e r = ⊎-elim (λ (b : suc n < m). omega (arith, count-le f (suc n))) (λ (b : m ≤ suc n). omega (arith, count-late f (suc n - m) (suc n) (omega arith) (λ i l. other e i l (f i) refl))) (lt-or-ge (suc n) m)
+    go true e r = ⊎-elim
+        (λ (b : suc n < m). omega (arith, count-le f (suc n)))
+        (λ (b : m ≤ suc n). omega (arith, count-late f (suc n - m) (suc n) (omega arith) (λ i l. refuted (f i) (λ q. not-both (f n) e (h i n (omega arith) (omega arith) q)))))
+        (lt-or-ge (suc n) m)
 
 -- ---- a knot more
 module _ (f : Float → Bool) (k : ℕ) (t : Float) (ks : List Float) where
@@ -158,20 +154,13 @@ eq-finite (fin s m e) nan f h = h
 eq-finite (fin s m e) (inf t) f h = h
 eq-finite (fin s m e) (fin t n d) f h = refl
 
-pub not-both : (b : Bool) → b ≡ true → b ≡ false → ⊥
-not-both b p q = let z : _≡_ {A = ℕ} 0 1 = ap bit (sym q ∙ p) in omega arith
-
-pub refuted : (b : Bool) → (b ≡ true → ⊥) → b ≡ false
-refuted true h = absurd (h refl)
-refuted false h = refl
-
 module _ (x y : Float) (X : finite x ≡ true) (Y : finite y ≡ true) where
   pub gt-not-eq : lt y x ≡ true → eq x y ≡ false
   unfolding le
-  gt-not-eq h = go (lt x y) (eq x y) (le-is x y X Y ∙ ap not h)
+  gt-not-eq h = refuted (eq x y) (λ e. not-both (le x y) (go (lt x y) (eq x y) e) (le-is x y X Y ∙ ap not h))
     where
-      go : (a b : Bool) → (a || b) ≡ false → b ≡ false
-      go true b e = let z : _≡_ {A = ℕ} 0 1 = cc in absurd (omega arith)
+      go : (a b : Bool) → b ≡ true → (a || b) ≡ true
+      go true b e = refl
       go false b e = e
 
   -- neither below the other
@@ -188,11 +177,7 @@ module _ (x y : Float) (X : finite x ≡ true) (Y : finite y ≡ true) where
 
   -- not equal and not above: below
   pub below-by : eq x y ≡ false → lt y x ≡ false → lt x y ≡ true
-  below-by h k = go (lt x y) refl
-    where
-      go : (b : Bool) → lt x y ≡ b → lt x y ≡ true
-      go true e = e
-      go false e = absurd (not-both (eq x y) (level-eq e k) h)
+  below-by h k = confirmed (lt x y) (λ e. not-both (eq x y) (level-eq e k) h)
 
 pub eq-self : (x : Float) → finite x ≡ true → eq x x ≡ true
 eq-self x X = level-eq x x X X (lt-irrefl x) (lt-irrefl x)
@@ -230,7 +215,7 @@ module _ (p n : ℕ) (ks : List Float) (v : ValidKnots p n ks) where
   multiplicity-same x y X Y e = count-cong (λ j. eq (at ks j) x) (λ j. eq (at ks j) y) (length ks) (λ j l. eq-same x y X Y e (at ks j) (v .finites j l))
 
   -- ---- below one number and below another
-  module _ (lo hi : Float) (L : finite lo ≡ true) (H : finite hi ≡ true) (b : lt lo hi ≡ true) where
+  module _ (lo hi : Float) (L : finite lo ≡ true) (b : lt lo hi ≡ true) where
     pub below-mono : belowOf ks lo ≤ belowOf ks hi
     unfolding belowOf
     below-mono = count-mono (λ j. lt (at ks j) lo) (λ j. lt (at ks j) hi) (length ks) (λ k l e. lt-trans (at ks k) lo hi e b)
@@ -254,11 +239,7 @@ module _ (p n : ℕ) (ks : List Float) (v : ValidKnots p n ks) where
     below-not j l e = count-early (λ i. lt (at ks i) u) j (length ks) (λ i a b. refuted (lt (at ks i) u) (λ h. not-both (lt (at ks j) u) (down j i a b h) e))
 
     pub below-first : (j : ℕ) → j < length ks → j < belowOf ks u → lt (at ks j) u ≡ true
-    below-first j l b = go (lt (at ks j) u) refl
-      where
-        go : (x : Bool) → lt (at ks j) u ≡ x → lt (at ks j) u ≡ true
-        go true e = e
-        go false e = absurd (omega (arith, below-not j l e))
+    below-first j l b = confirmed (lt (at ks j) u) (λ e. omega (arith, below-not j l e))
 
     pub below-rest : (j : ℕ) → j < length ks → belowOf ks u ≤ j → lt (at ks j) u ≡ false
     below-rest j l b = refuted (lt (at ks j) u) (λ e. omega (arith, below-is j l e))

@@ -6,14 +6,14 @@ use mathlib.Core.Path.{_≡_, refl, sym, _∙_, ap, ap₂, subst}
 use mathlib.Core.List.{List, [], _∷_, _++_}
 use native.Mathlib.Omega.{arith}
 use native.Mathlib.Nat.{add-zero}
-use borrow.Author.Tests.{eqb-true, eqb-false, ltb-true, le-ltb, not-true, not-false}
+use borrow.Author.Tests.{eqb-true, eqb-false, le-ltb}
 use lib.ListN.{length, take, drop, replicate, length-take, length-drop, length-replicate, length-append, replicate-append-replicate}
 use lib.Seq.{getD-take, getD-drop, ext-getD}
-use lib.Dec.{eqb, ltb}
+use lib.Dec.{eqb}
 use lib.Ieee.{Float, nan, lt, le, eq}
 use lib.Ieee.Scale.{finite}
 use Rattle.doubles.specs.Run.{at}
-use Rattle.doubles.proofs.Tested.{lt-irrefl, lt-asym, lt-trans, ge-lt-trans, lt-ge-trans, le-is}
+use Rattle.doubles.proofs.Tested.{lt-irrefl, lt-asym, lt-trans, le-is}
 use Rattle.knots.specs.Below.{allBelow}
 use Rattle.knots.specs.Refusal.{refuse, accepted, orElse, control-bad, edit-bad, point-not-finite, weight-count, weight-bad}
 use Rattle.knots.specs.Knots.{allFinite, ValidKnots}
@@ -32,7 +32,7 @@ use Rattle.insertion.specs.Fold.{Outcome, gives, refuses, insertAll}
 use Rattle.insertion.specs.Start.{clampedEnds}
 use Rattle.insertion.proofs.Storing.{knot-low, knot-high}
 use Rattle.insertion.proofs.Grown.{grown-valid, controls-left}
-use Rattle.insertion.proofs.Forming.{SpotOpen, spot-open}
+use Rattle.insertion.proofs.Forming.{spot-open}
 use Rattle.insertion.proofs.Folds.{inserted-valid}
 use Rattle.insertion.proofs.Counted.{belowOf, count-grown, gt-not-eq, lt-not-eq, eq-finite, eq-self, eq-lt-left, level-eq, not-both, refuted, multiplicity-same, multiplicity-most, multiplicity-low, multiplicity-high}
 
