@@ -42,6 +42,10 @@ abbrev pub Each : (Float → Type 0) → List Float → Type 0
 Each P [] = Unit
 Each P (t ∷ ts) = P t × Each P ts
 
+-- every number of a list lies strictly inside the domain
+abbrev pub AllInside : ℕ → ℕ → List Float → List Float → Type 0
+AllInside p n ks = Each (λ t. inside (at ks p) (at ks n) t ≡ true)
+
 -- how many numbers of a list pass a test
 unfoldable pub countIn : (Float → Bool) → List Float → ℕ
 countIn f [] = 0
@@ -74,21 +78,30 @@ abbrev pub andThen : Outcome → (List Float → List Float → List Float → O
 andThen (gives ks ps ws) f = f ks ps ws
 andThen (refuses r) f = refuses r
 
+-- the first knot is inserted or refused
+by-number : (x : ℕ) (Q : Bool → Type 0) → (x ≡ 0 → Q true) → ((x ≡ 0 → ⊥) → Q false) → Q (eqb x 0)
+by-number x Q y z = go (eqb x 0) refl
+  where
+    go : (b : Bool) → eqb x 0 ≡ b → Q b
+    go true e = y (eqb-true x 0 e)
+    go false e = z (eqb-false x 0 e)
+
+-- the others, into what it forms
+abbrev others : ℕ → Bool → ℕ → List Float → List Float → List Float → Float → List Float → Outcome
+others p g n ks ps ws t ts = insertAll p g (n + 1) (insertedKnots p n ks ps g ws t) (insertedPoints p n ks ps g ws t) (insertedWeights p n ks ps g ws t) ts
+
 pub insert-append : (p : ℕ) (g : Bool) (n : ℕ) (ks ps ws ts us : List Float)
     → insertAll p g n ks ps ws (ts ++ us) ≡ andThen (insertAll p g n ks ps ws ts) (λ ks' ps' ws'. insertAll p g (n + length ts) ks' ps' ws' us)
 unfolding insertAll
 insert-append p g n ks ps ws [] us = ap (λ (m : ℕ). insertAll p g m ks ps ws us) (sym (add-zero n))
 insert-append p g n ks ps ws (t ∷ ts) us =
-    go (eqb (insertRefusal p n ks ps g ws t .number) 0) (next (ts ++ us)) (next ts)
-    (insert-append p g (n + 1) (insertedKnots p n ks ps g ws t) (insertedPoints p n ks ps g ws t) (insertedWeights p n ks ps g ws t) ts us)
-  where
-    next : List Float → Outcome
-    next l = insertAll p g (n + 1) (insertedKnots p n ks ps g ws t) (insertedPoints p n ks ps g ws t) (insertedWeights p n ks ps g ws t) l
-
-    go : (b : Bool) (x y : Outcome) → x ≡ andThen y (λ ks' ps' ws'. insertAll p g (n + 1 + length ts) ks' ps' ws' us)
-        → cond b x (refuses (insertRefusal p n ks ps g ws t)) ≡ andThen (cond b y (refuses (insertRefusal p n ks ps g ws t))) (λ ks' ps' ws'. insertAll p g (n + suc (length ts)) ks' ps' ws' us)
-    go true x y e = let q : n + 1 + length ts ≡ n + suc (length ts) = omega arith in e ∙ ap (λ (m : ℕ). andThen y (λ ks' ps' ws'. insertAll p g m ks' ps' ws' us)) q
-    go false x y e = refl
+    let R = insertRefusal p n ks ps g ws t in
+    let e : n + 1 + length ts ≡ n + suc (length ts) = omega arith in
+    by-number (R .number)
+    (λ b. cond b (others p g n ks ps ws t (ts ++ us)) (refuses R) ≡ andThen (cond b (others p g n ks ps ws t ts) (refuses R)) (λ ks' ps' ws'. insertAll p g (n + suc (length ts)) ks' ps' ws' us))
+    (λ z. insert-append p g (n + 1) (insertedKnots p n ks ps g ws t) (insertedPoints p n ks ps g ws t) (insertedWeights p n ks ps g ws t) ts us
+    ∙ ap (λ (m : ℕ). andThen (others p g n ks ps ws t ts) (λ ks' ps' ws'. insertAll p g m ks' ps' ws' us)) e)
+    (λ z. refl)
 
 -- ---- what a list that is inserted makes of a curve
 pub record Made (p : ℕ) (g : Bool) (n : ℕ) (ks ps ws ts ks' ps' ws' : List Float) : Type 0 where
@@ -173,17 +186,13 @@ made p g n ks ps ws [] ks' ps' ws' v e =
     let b : ps ≡ ps' = cc in
     let c : ws ≡ ws' = cc in
     rw (← a, ← b, ← c) (made-none p g n ks ps ws v)
-made p g n ks ps ws (t ∷ ts) ks' ps' ws' v e = go (eqb (insertRefusal p n ks ps g ws t .number) 0) refl
-    (λ z. made p g (n + 1) (insertedKnots p n ks ps g ws t) (insertedPoints p n ks ps g ws t) (insertedWeights p n ks ps g ws t) ts ks' ps' ws' (inserted-valid p n ks ps g ws t z)) e
-  where
-    go : (b : Bool) → eqb (insertRefusal p n ks ps g ws t .number) 0 ≡ b
-        → (insertRefusal p n ks ps g ws t .number ≡ 0
-        → insertAll p g (n + 1) (insertedKnots p n ks ps g ws t) (insertedPoints p n ks ps g ws t) (insertedWeights p n ks ps g ws t) ts ≡ gives ks' ps' ws'
-        → Made p g (n + 1) (insertedKnots p n ks ps g ws t) (insertedPoints p n ks ps g ws t) (insertedWeights p n ks ps g ws t) ts ks' ps' ws')
-        → cond b (insertAll p g (n + 1) (insertedKnots p n ks ps g ws t) (insertedPoints p n ks ps g ws t) (insertedWeights p n ks ps g ws t) ts) (refuses (insertRefusal p n ks ps g ws t)) ≡ gives ks' ps' ws'
-        → Made p g n ks ps ws (t ∷ ts) ks' ps' ws'
-    go true b r h = let z = eqb-true _ 0 b in made-more p n ks ps g ws t v z ts ks' ps' ws' (r z h)
-    go false b r h = let z : _≡_ {A = ℕ} 0 1 = cc in absurd (omega arith)
+made p g n ks ps ws (t ∷ ts) ks' ps' ws' v e =
+    let R = insertRefusal p n ks ps g ws t in
+    by-number (R .number) (λ b. cond b (others p g n ks ps ws t ts) (refuses R) ≡ gives ks' ps' ws' → Made p g n ks ps ws (t ∷ ts) ks' ps' ws')
+    (λ z h.
+    made-more p n ks ps g ws t v z ts ks' ps' ws'
+    (made p g (n + 1) (insertedKnots p n ks ps g ws t) (insertedPoints p n ks ps g ws t) (insertedWeights p n ks ps g ws t) ts ks' ps' ws' (inserted-valid p n ks ps g ws t z) h))
+    (λ z h. let q : _≡_ {A = ℕ} 0 1 = cc in absurd (omega arith)) e
 
 -- ---- what is refused once a knot's place is found: 8, 9, 10, 19, 20
 pub record Late (r : Refusal) : Type 0 where
@@ -250,35 +259,31 @@ module _ (p n : ℕ) (ks ps : List Float) (g : Bool) (ws : List Float) (t : Floa
       controls = sym (controls-left p (n + 1) (moreKnots k t ks) (morePoints p n k s t ks ps g ws) g (moreWeights p n k s t ks ps g ws) valid-next)
 
 -- a list, every knot of it inside the domain, and with room for it
-pub late : (p : ℕ) (g : Bool) (n : ℕ) (ks ps ws ts : List Float) (r : Refusal) → ValidKnots p n ks → Each (λ t. inside (at ks p) (at ks n) t ≡ true) ts
+pub late : (p : ℕ) (g : Bool) (n : ℕ) (ks ps ws ts : List Float) (r : Refusal) → ValidKnots p n ks → AllInside p n ks ts
     → ((u : Float) → multiplicityOf ks u + countIn (λ x. eq x u) ts ≤ p + 1) → insertAll p g n ks ps ws ts ≡ refuses r → Late r
 unfolding insertAll countIn multiplicityOf
 late p g n ks ps ws [] r v I M e = let z : _≡_ {A = ℕ} 0 1 = cc in absurd (omega arith)
-late p g n ks ps ws (t ∷ ts) r v I M e = go (eqb (insertRefusal p n ks ps g ws t .number) 0) refl
-    (λ z. late p g (n + 1) K (insertedPoints p n ks ps g ws t) (insertedWeights p n ks ps g ws t) ts r (inserted-valid p n ks ps g ws t z) (moved z) (room z)) e
+late p g n ks ps ws (t ∷ ts) r v I M e =
+    let R = insertRefusal p n ks ps g ws t in
+    by-number (R .number) (λ b. cond b (others p g n ks ps ws t ts) (refuses R) ≡ refuses r → Late r)
+    (λ z. late p g (n + 1) K (insertedPoints p n ks ps g ws t) (insertedWeights p n ks ps g ws t) ts r (inserted-valid p n ks ps g ws t z) (moved z) (room z))
+    (λ z h. let q : R ≡ r = cc in subst Late q (late-one p n ks ps g ws t v (I .0) here z)) e
   where
     K : List Float
     K = insertedKnots p n ks ps g ws t
 
-    moved : insertRefusal p n ks ps g ws t .number ≡ 0 → Each (λ x. inside (at K p) (at K (n + 1)) x ≡ true) ts
+    moved : insertRefusal p n ks ps g ws t .number ≡ 0 → AllInside p (n + 1) K ts
     moved z =
         let l = v .long in
-        let a : at ks p ≡ at K p = sym (one-front p n ks ps g ws t v z p (omega arith)) in
-        let b : at ks n ≡ at K (n + 1) = sym (one-back p n ks ps g ws t v z n (omega arith) (omega arith)) in
-        each-map (λ x. inside (at ks p) (at ks n) x ≡ true) (λ x. inside (at K p) (at K (n + 1)) x ≡ true) (λ x h. ap₂ (λ (i j : Float). inside i j x) (sym a) (sym b) ∙ h) ts (I .1)
+        let a = one-front p n ks ps g ws t v z p (omega arith) in
+        let b = one-back p n ks ps g ws t v z n (omega arith) (omega arith) in
+        each-map (λ x. inside (at ks p) (at ks n) x ≡ true) (λ x. inside (at K p) (at K (n + 1)) x ≡ true) (λ x h. ap₂ (λ (i j : Float). inside i j x) a b ∙ h) ts (I .1)
 
     room : insertRefusal p n ks ps g ws t .number ≡ 0 → (u : Float) → multiplicityOf K u + countIn (λ x. eq x u) ts ≤ p + 1
     room z u = omega (arith, M u, one-counts p n ks ps g ws t v z (λ x. eq x u))
 
     here : multiplicityOf ks t ≤ p
     here = omega (arith, M t, ap bit (eq-self t (inside-finite (at ks p) (at ks n) t (I .0))))
-
-    go : (b : Bool) → eqb (insertRefusal p n ks ps g ws t .number) 0 ≡ b
-        → (insertRefusal p n ks ps g ws t .number ≡ 0 → insertAll p g (n + 1) K (insertedPoints p n ks ps g ws t) (insertedWeights p n ks ps g ws t) ts ≡ refuses r → Late r)
-        → cond b (insertAll p g (n + 1) K (insertedPoints p n ks ps g ws t) (insertedWeights p n ks ps g ws t) ts) (refuses (insertRefusal p n ks ps g ws t)) ≡ refuses r
-        → Late r
-    go true b k h = k (eqb-true _ 0 b) h
-    go false b k h = let q : insertRefusal p n ks ps g ws t ≡ r = cc in subst Late q (late-one p n ks ps g ws t v (I .0) here (eqb-false _ 0 b))
 
 -- ---- what is made, by numbers
 module _ (p : ℕ) (g : Bool) (n : ℕ) (ks ps ws ts ks' ps' ws' : List Float) (v : ValidKnots p n ks) (M : Made p g n ks ps ws ts ks' ps' ws') where
@@ -322,6 +327,10 @@ module _ (p : ℕ) (g : Bool) (n : ℕ) (ks ps ws ts ks' ps' ws' : List Float) (
           getD-drop (n + length ts) ks' j nan ∙ (ap (at ks') e ∙ (M .back (n + j) (omega arith) (omega (arith, l)) ∙ sym (getD-drop n ks j nan))))
 
 -- ---- room
+-- how often a knot is inserted to be full
+abbrev pub missingOf : ℕ → List Float → Float → ℕ
+missingOf p ks t = p + 1 - multiplicityOf ks t
+
 module _ (p n : ℕ) (ks : List Float) (v : ValidKnots p n ks) where
   -- m times t, beside c numbers that equal u
   pub room-more : (t u : Float) → finite t ≡ true → (m c : ℕ) → multiplicityOf ks t + m ≤ p + 1 → multiplicityOf ks u + c ≤ p + 1 → (eq t u ≡ true → c ≡ 0) → multiplicityOf ks u + (m * bit (eq t u) + c) ≤ p + 1
@@ -333,6 +342,10 @@ module _ (p n : ℕ) (ks : List Float) (v : ValidKnots p n ks) where
 
   pub room-replicate : (t : Float) → finite t ≡ true → (m : ℕ) → multiplicityOf ks t + m ≤ p + 1 → (u : Float) → multiplicityOf ks u + countIn (λ x. eq x u) (replicate m t) ≤ p + 1
   room-replicate t T m a u = omega (arith, count-replicate (λ x. eq x u) m t, room-more t u T m 0 a (omega (arith, multiplicity-most p n ks v u)) (λ e. refl))
+
+  -- how often it is still to be inserted
+  pub missing-fills : (t : Float) → multiplicityOf ks t + missingOf p ks t ≡ p + 1
+  missing-fills t = omega (arith, multiplicity-most p n ks v t)
 
 -- ---- one knot, m times
 pub record Repeated (p : ℕ) (g : Bool) (n : ℕ) (ks ps ws : List Float) (m : ℕ) (t : Float) (ks' ps' ws' : List Float) : Type 0 where
@@ -372,19 +385,19 @@ module _ (p : ℕ) (g : Bool) (n : ℕ) (ks ps ws : List Float) (v : ValidKnots 
     repeated-late m a r = late p g n ks ps ws (replicate m t) r v (each-replicate (λ x. inside (at ks p) (at ks n) x ≡ true) m t I) (room-replicate p n ks v t (inside-finite (at ks p) (at ks n) t I) m a)
 
     -- the source inserts t while it stands there less than degree + 1 times: so often it does
-    pub loop-on : (j : ℕ) → j < p + 1 - multiplicityOf ks t → (ks' ps' ws' : List Float) → insertAll p g n ks ps ws (replicate j t) ≡ gives ks' ps' ws' → (multiplicityOf ks' t ≡ multiplicityOf ks t + j) × (multiplicityOf ks' t < p + 1)
+    pub loop-on : (j : ℕ) → j < missingOf p ks t → (ks' ps' ws' : List Float) → insertAll p g n ks ps ws (replicate j t) ≡ gives ks' ps' ws' → (multiplicityOf ks' t ≡ multiplicityOf ks t + j) × (multiplicityOf ks' t < p + 1)
     loop-on j l ks' ps' ws' e =
         let a = repeated j ks' ps' ws' e .multiplicity t in
         let b : bit (eq t t) ≡ 1 = ap bit (eq-self t (inside-finite (at ks p) (at ks n) t I)) in
         let c : multiplicityOf ks' t ≡ multiplicityOf ks t + j = a ∙ rw b (omega arith) in
         (c, omega arith)
 
-    pub loop-off : (ks' ps' ws' : List Float) → insertAll p g n ks ps ws (replicate (p + 1 - multiplicityOf ks t) t) ≡ gives ks' ps' ws' → multiplicityOf ks' t ≡ p + 1
+    pub loop-off : (ks' ps' ws' : List Float) → insertAll p g n ks ps ws (replicate (missingOf p ks t) t) ≡ gives ks' ps' ws' → multiplicityOf ks' t ≡ p + 1
     loop-off ks' ps' ws' e =
-        let a = repeated (p + 1 - multiplicityOf ks t) ks' ps' ws' e .multiplicity t in
+        let a = repeated (missingOf p ks t) ks' ps' ws' e .multiplicity t in
         let b : bit (eq t t) ≡ 1 = ap bit (eq-self t (inside-finite (at ks p) (at ks n) t I)) in
-        let c : multiplicityOf ks' t ≡ multiplicityOf ks t + (p + 1 - multiplicityOf ks t) = a ∙ rw b (omega arith) in
-        omega (arith, multiplicity-most p n ks v t)
+        let c : multiplicityOf ks' t ≡ multiplicityOf ks t + missingOf p ks t = a ∙ rw b (omega arith) in
+        omega (arith, missing-fills p n ks v t)
 
 -- ---- a clamped curve, cut at its ends or inside
 pub inside-by : (lo hi t : Float) → finite lo ≡ true → finite hi ≡ true → finite t ≡ true → lt lo t ≡ true → lt t hi ≡ true → inside lo hi t ≡ true
@@ -394,7 +407,7 @@ inside-by lo hi t L H T a b =
 
 module _ (p n : ℕ) (ks : List Float) (v : ValidKnots p n ks) (c : clampedEnds p n ks ≡ true) where
   -- at an end of the domain nothing is missing
-  pub missing-inside : (t : Float) → finite t ≡ true → lt t (at ks p) ≡ false → lt (at ks n) t ≡ false → Each (λ x. inside (at ks p) (at ks n) x ≡ true) (replicate (p + 1 - multiplicityOf ks t) t)
+  pub missing-inside : (t : Float) → finite t ≡ true → lt t (at ks p) ≡ false → lt (at ks n) t ≡ false → AllInside p n ks (replicate (missingOf p ks t) t)
   missing-inside t T a b = go (lt (at ks p) t) refl (lt t (at ks n)) refl
     where
       first : finite (at ks p) ≡ true
@@ -403,70 +416,66 @@ module _ (p n : ℕ) (ks : List Float) (v : ValidKnots p n ks) (c : clampedEnds 
       last : finite (at ks n) ≡ true
       last = let l = v .long in v .finites n (omega arith)
 
-      none : (y : Float) → finite y ≡ true → multiplicityOf ks y ≡ p + 1 → eq t y ≡ true → Each (λ x. inside (at ks p) (at ks n) x ≡ true) (replicate (p + 1 - multiplicityOf ks t) t)
+      none : (y : Float) → finite y ≡ true → multiplicityOf ks y ≡ p + 1 → eq t y ≡ true → AllInside p n ks (replicate (missingOf p ks t) t)
       none y Y f e =
-          let z : 0 ≡ p + 1 - multiplicityOf ks t = omega (arith, multiplicity-same p n ks v t y T Y e) in
-          subst (λ (m : ℕ). Each (λ x. inside (at ks p) (at ks n) x ≡ true) (replicate m t)) z tt
+          let z : 0 ≡ missingOf p ks t = omega (arith, multiplicity-same p n ks v t y T Y e) in
+          subst (λ (m : ℕ). AllInside p n ks (replicate m t)) z tt
 
-      go : (x : Bool) → lt (at ks p) t ≡ x → (y : Bool) → lt t (at ks n) ≡ y → Each (λ x. inside (at ks p) (at ks n) x ≡ true) (replicate (p + 1 - multiplicityOf ks t) t)
+      go : (x : Bool) → lt (at ks p) t ≡ x → (y : Bool) → lt t (at ks n) ≡ y → AllInside p n ks (replicate (missingOf p ks t) t)
       go false e y f = none (at ks p) first (multiplicity-low p n ks v c) (level-eq t (at ks p) T first a e)
       go true e false f = none (at ks n) last (multiplicity-high p n ks v c) (level-eq t (at ks n) T last f b)
-      go true e true f = each-replicate (λ x. inside (at ks p) (at ks n) x ≡ true) (p + 1 - multiplicityOf ks t) t (inside-by (at ks p) (at ks n) t first last T e f)
+      go true e true f = each-replicate (λ x. inside (at ks p) (at ks n) x ≡ true) (missingOf p ks t) t (inside-by (at ks p) (at ks n) t first last T e f)
 
--- both ends made full
+-- what is inserted for both ends of a cut to be full
+abbrev pub cutEnds : ℕ → List Float → Float → Float → List Float
+cutEnds p ks lo hi = replicate (missingOf p ks lo) lo ++ replicate (missingOf p ks hi) hi
+
 pub record Cut (p n : ℕ) (ks : List Float) (lo hi : Float) (ks' : List Float) : Type 0 where
   pub full-low : multiplicityOf ks' lo ≡ p + 1
   pub full-high : multiplicityOf ks' hi ≡ p + 1
   pub below-low : belowOf ks' lo ≡ belowOf ks lo
-  pub below-high : belowOf ks' hi ≡ belowOf ks hi + (p + 1 - multiplicityOf ks lo)
-  pub long : length ks' ≡ n + (p + 1 - multiplicityOf ks lo) + (p + 1 - multiplicityOf ks hi) + p + 1
+  pub below-high : belowOf ks' hi ≡ belowOf ks hi + missingOf p ks lo
+  pub long : length ks' ≡ n + missingOf p ks lo + missingOf p ks hi + p + 1
+
+module _ (p : ℕ) (ks : List Float) (lo hi : Float) where
+  ends-count : (f : Float → Bool) → countIn f (cutEnds p ks lo hi) ≡ missingOf p ks lo * bit (f lo) + missingOf p ks hi * bit (f hi)
+  ends-count f =
+      omega (arith, count-append f (replicate (missingOf p ks lo) lo) (replicate (missingOf p ks hi) hi), count-replicate f (missingOf p ks lo) lo, count-replicate f (missingOf p ks hi) hi)
+
+  pub ends-long : length (cutEnds p ks lo hi) ≡ missingOf p ks lo + missingOf p ks hi
+  ends-long =
+      omega (arith, length-append (replicate (missingOf p ks lo) lo) (replicate (missingOf p ks hi) hi), length-replicate (missingOf p ks lo) lo, length-replicate (missingOf p ks hi) hi)
 
 module _ (p : ℕ) (g : Bool) (n : ℕ) (ks ps ws : List Float) (v : ValidKnots p n ks) (lo hi : Float) (L : finite lo ≡ true) (H : finite hi ≡ true) (b : lt lo hi ≡ true) where
-  abbrev pub cutEnds : List Float
-  cutEnds = replicate (p + 1 - multiplicityOf ks lo) lo ++ replicate (p + 1 - multiplicityOf ks hi) hi
-
-  ends-count : (f : Float → Bool) → countIn f cutEnds ≡ (p + 1 - multiplicityOf ks lo) * bit (f lo) + (p + 1 - multiplicityOf ks hi) * bit (f hi)
-  ends-count f =
-      omega (arith, count-append f (replicate (p + 1 - multiplicityOf ks lo) lo) (replicate (p + 1 - multiplicityOf ks hi) hi), count-replicate f (p + 1 - multiplicityOf ks lo) lo, count-replicate f (p + 1 - multiplicityOf ks hi) hi)
-
-  ends-long : length cutEnds ≡ (p + 1 - multiplicityOf ks lo) + (p + 1 - multiplicityOf ks hi)
-  ends-long =
-      omega (arith, length-append (replicate (p + 1 - multiplicityOf ks lo) lo) (replicate (p + 1 - multiplicityOf ks hi) hi), length-replicate (p + 1 - multiplicityOf ks lo) lo, length-replicate (p + 1 - multiplicityOf ks hi) hi)
-
-  ends-room : (u : Float) → multiplicityOf ks u + countIn (λ x. eq x u) cutEnds ≤ p + 1
+  ends-room : (u : Float) → multiplicityOf ks u + countIn (λ x. eq x u) (cutEnds p ks lo hi) ≤ p + 1
   ends-room u =
-      let x = multiplicity-most p n ks v lo in
-      let y = multiplicity-most p n ks v hi in
-      let r = room-replicate p n ks v hi H (p + 1 - multiplicityOf ks hi) (omega arith) u in
-      let q = count-replicate (λ x. eq x u) (p + 1 - multiplicityOf ks hi) hi in
-      omega (arith, ends-count (λ x. eq x u), room-more p n ks v lo u L (p + 1 - multiplicityOf ks lo) ((p + 1 - multiplicityOf ks hi) * bit (eq hi u)) (omega arith) (omega arith) none)
+      let x = missing-fills p n ks v lo in
+      let y = missing-fills p n ks v hi in
+      let r = room-replicate p n ks v hi H (missingOf p ks hi) (omega arith) u in
+      let q = count-replicate (λ x. eq x u) (missingOf p ks hi) hi in
+      omega (arith, ends-count p ks lo hi (λ x. eq x u), room-more p n ks v lo u L (missingOf p ks lo) (missingOf p ks hi * bit (eq hi u)) (omega arith) (omega arith) none)
     where
-      none : eq lo u ≡ true → (p + 1 - multiplicityOf ks hi) * bit (eq hi u) ≡ 0
-      none e =
-          let U = eq-finite lo u L e in
-          rw (gt-not-eq hi u H U (eq-lt-left lo u L U e hi H b)) (omega arith)
+      none : eq lo u ≡ true → missingOf p ks hi * bit (eq hi u) ≡ 0
+      none e = let U = eq-finite lo u L e in rw (gt-not-eq hi u H U (eq-lt-left lo u L U e hi H b)) (omega arith)
 
-  pub cut-late : clampedEnds p n ks ≡ true → lt lo (at ks p) ≡ false → lt (at ks n) hi ≡ false → (r : Refusal) → insertAll p g n ks ps ws cutEnds ≡ refuses r → Late r
+  pub cut-late : clampedEnds p n ks ≡ true → lt lo (at ks p) ≡ false → lt (at ks n) hi ≡ false → (r : Refusal) → insertAll p g n ks ps ws (cutEnds p ks lo hi) ≡ refuses r → Late r
   cut-late c i j r =
-      let l = v .long in
-      late p g n ks ps ws cutEnds r v
-      (each-append (λ x. inside (at ks p) (at ks n) x ≡ true) (replicate (p + 1 - multiplicityOf ks lo) lo) (replicate (p + 1 - multiplicityOf ks hi) hi)
+      late p g n ks ps ws (cutEnds p ks lo hi) r v
+      (each-append (λ x. inside (at ks p) (at ks n) x ≡ true) (replicate (missingOf p ks lo) lo) (replicate (missingOf p ks hi) hi)
       (missing-inside p n ks v c lo L i (refuted (lt (at ks n) lo) (λ e. not-both (lt (at ks n) hi) (lt-trans (at ks n) lo hi e b) j)))
       (missing-inside p n ks v c hi H (refuted (lt hi (at ks p)) (λ e. not-both (lt lo (at ks p)) (lt-trans lo hi (at ks p) b e) i)) j)) ends-room
 
-  pub cut-made : (ks' ps' ws' : List Float) → insertAll p g n ks ps ws cutEnds ≡ gives ks' ps' ws' → Cut p n ks lo hi ks'
+  pub cut-made : (ks' ps' ws' : List Float) → insertAll p g n ks ps ws (cutEnds p ks lo hi) ≡ gives ks' ps' ws' → Cut p n ks lo hi ks'
   cut-made ks' ps' ws' e =
-      let M = made p g n ks ps ws cutEnds ks' ps' ws' v e in
-      let x = multiplicity-most p n ks v lo in
-      let y = multiplicity-most p n ks v hi in
-      let ll : bit (eq lo lo) ≡ 1 = ap bit (eq-self lo L) in
-      let hh : bit (eq hi hi) ≡ 1 = ap bit (eq-self hi H) in
-      let hl : bit (eq hi lo) ≡ 0 = ap bit (gt-not-eq hi lo H L b) in
-      let lh : bit (eq lo hi) ≡ 0 = ap bit (lt-not-eq lo hi b) in
+      let M = made p g n ks ps ws (cutEnds p ks lo hi) ks' ps' ws' v e in
+      let x = missing-fills p n ks v lo in
+      let y = missing-fills p n ks v hi in
+      let times = made-multiplicity p g n ks ps ws (cutEnds p ks lo hi) ks' ps' ws' v M in
+      let less = made-below p g n ks ps ws (cutEnds p ks lo hi) ks' ps' ws' v M in
       record {
-        full-low = made-multiplicity p g n ks ps ws cutEnds ks' ps' ws' v M lo ∙ rw (ends-count (λ x. eq x lo), ll, hl) (omega arith);
-        full-high = made-multiplicity p g n ks ps ws cutEnds ks' ps' ws' v M hi ∙ rw (ends-count (λ x. eq x hi), hh, lh) (omega arith);
-        below-low = made-below p g n ks ps ws cutEnds ks' ps' ws' v M lo ∙ rw (ends-count (λ x. lt x lo), lt-irrefl lo, lt-asym lo hi b) (omega arith);
-        below-high = made-below p g n ks ps ws cutEnds ks' ps' ws' v M hi ∙ rw (ends-count (λ x. lt x hi), lt-irrefl hi, b) (omega arith);
-        long = omega (arith, M .valid .long, ends-long);
+        full-low = times lo ∙ rw (ends-count p ks lo hi (λ x. eq x lo), eq-self lo L, gt-not-eq hi lo H L b) (omega arith);
+        full-high = times hi ∙ rw (ends-count p ks lo hi (λ x. eq x hi), eq-self hi H, lt-not-eq lo hi b) (omega arith);
+        below-low = less lo ∙ rw (ends-count p ks lo hi (λ x. lt x lo), lt-irrefl lo, lt-asym lo hi b) (omega arith);
+        below-high = less hi ∙ rw (ends-count p ks lo hi (λ x. lt x hi), lt-irrefl hi, b) (omega arith);
+        long = omega (arith, M .valid .long, ends-long p ks lo hi);
       }
