@@ -238,8 +238,9 @@ module _ (p n : ℕ) (ks : List Float) (v : ValidKnots p n ks) where
     unfolding belowOf
     below-not j l e = count-early (λ i. lt (at ks i) u) j (length ks) (λ i a b. refuted (lt (at ks i) u) (λ h. not-both (lt (at ks j) u) (down j i a b h) e))
 
-    pub below-first : (j : ℕ) → j < length ks → j < belowOf ks u → lt (at ks j) u ≡ true
-    below-first j l b = confirmed (lt (at ks j) u) (λ e. omega (arith, below-not j l e))
+    pub below-first : (j : ℕ) → j < belowOf ks u → lt (at ks j) u ≡ true
+    unfolding belowOf
+    below-first j b = confirmed (lt (at ks j) u) (λ e. omega (arith, below-not j (omega (arith, count-le (λ i. lt (at ks i) u) (length ks))) e))
 
     pub below-rest : (j : ℕ) → j < length ks → belowOf ks u ≤ j → lt (at ks j) u ≡ false
     below-rest j l b = refuted (lt (at ks j) u) (λ e. omega (arith, below-is j l e))
