@@ -4,9 +4,11 @@ pub mod Storing
 pub mod RowLoops
 pub mod Laying
 pub mod Grown
+pub mod Counted
 pub mod Forming
 pub mod Folds
 pub mod Domain
+pub mod Never
 pub mod Starting
 pub mod Outcomes
 pub mod Textbook
