@@ -2,6 +2,7 @@
 ghost use mathlib.Core.Path.{_≡_};
 ghost use Prim.Native.Nat.{_+_, _-_, _<_};
 ghost use Rattle.evaluate.specs.Controls.{larger};
+ghost use Rattle.insertion.specs.Rows.{given};
 ghost use Rattle.insertion.specs.Counts.{bit, multiplicityOf, belowOf, allEqual};
 
 // One more where yes.
@@ -68,4 +69,11 @@ pub fn all_equal(xs: &[f64], x: f64) -> bool
         i += 1;
     }
     true
+}
+
+// How many weights n points have.
+pub fn given_count(rational: bool, n: usize) -> usize
+    ensures { λ r. ⌜ r ≡ given rational n ⌝ }
+{
+    if rational { n } else { 0 }
 }
