@@ -1,9 +1,9 @@
+use mathlib.Core.Path.{sym, _∙_}
+use borrow.Author.Tests.{not-true, not-false}
+use Rattle.trimming.specs.Trim.{inRange}
 use borrow.Author.Needs.{needs}
 use Rattle.trimming.proofs.start.is_range.Statement.{statement}
 use Rattle.trimming.proofs.start.is_range.Tie as tie
-use Rattle.trimming.proofs.start.is_range.Reads as reads
-use Rattle.trimming.proofs.start.is_range.Lts as lts
-use Rattle.interval.proofs.float.is_finite.Reads as is-finite-reads
 
 -- src/start.rt:21:9
 is-finite-requires : tie.Need-is-finite-requires
@@ -11,7 +11,8 @@ is-finite-requires c κs = search needs
 
 -- src/start.rt:22:9
 returns : tie.Need-returns
-returns c = ?
+unfolding inRange
+returns c = simp (sym (c .before .is-finite .ensures) ∙ not-true _ (c .if1 .taken))
 
 -- src/start.rt:24:9
 is-finite-requires-2 : tie.Need-is-finite-requires-2
@@ -19,19 +20,23 @@ is-finite-requires-2 c κs = search needs
 
 -- src/start.rt:25:9
 returns-2 : tie.Need-returns-2
-returns-2 c = ?
+unfolding inRange
+returns-2 c = simp (sym (c .before .before .before .is-finite .ensures) ∙ not-false _ (c .before .before .if1 .left), sym (c .before .is-finite2 .ensures) ∙ not-true _ (c .if2 .taken))
 
 -- src/start.rt:28:9
 returns-3 : tie.Need-returns-3
-returns-3 c = ?
+unfolding inRange
+returns-3 c = simp (sym (c .before .before .before .before .is-finite .ensures) ∙ not-false _ (c .before .before .before .if1 .left), sym (c .before .before .is-finite2 .ensures) ∙ not-false _ (c .before .if2 .left), c .if3 .taken)
 
 -- src/start.rt:31:9
 returns-4 : tie.Need-returns-4
-returns-4 c = ?
+unfolding inRange
+returns-4 c = simp (sym (c .before .before .before .before .before .is-finite .ensures) ∙ not-false _ (c .before .before .before .before .if1 .left), sym (c .before .before .before .is-finite2 .ensures) ∙ not-false _ (c .before .before .if2 .left), c .before .if3 .left, c .if4 .taken)
 
 -- src/start.rt:18:1
 returns-5 : tie.Need-returns-5
-returns-5 c = ?
+unfolding inRange
+returns-5 c = simp (sym (c .before .before .before .before .before .is-finite .ensures) ∙ not-false _ (c .before .before .before .before .if1 .left), sym (c .before .before .before .is-finite2 .ensures) ∙ not-false _ (c .before .before .if2 .left), c .before .if3 .left, c .if4 .left)
 
 pub is-range-spec : {M : Type 1} → statement M
 is-range-spec =

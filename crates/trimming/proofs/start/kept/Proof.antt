@@ -1,14 +1,17 @@
+use mathlib.Core.Path.{_≡_, sym, _∙_, ap, ap₂}
+use Prim.Native.Nat.{_+_, _-_, _≤_}
+use native.Mathlib.Omega.{arith}
+use denote.Ref.{now}
+use Rattle.insertion.specs.Counts.{belowOf, missingOf}
+use Rattle.trimming.specs.Trim.{keptOf}
+use Rattle.trimming.proofs.Ranges.{below-long}
 use borrow.Author.Needs.{needs}
 use Rattle.trimming.proofs.start.kept.Statement.{statement}
 use Rattle.trimming.proofs.start.kept.Tie as tie
-use Rattle.trimming.proofs.start.kept.Reads as reads
-use Rattle.trimming.proofs.start.kept.Lts as lts
-use Rattle.insertion.proofs.counts.below.Reads as below-reads
-use Rattle.insertion.proofs.counts.missing.Reads as missing-reads
 
 -- src/start.rt:43:21
 add-missing : tie.Need-add-missing
-add-missing c = search needs
+add-missing c = let p = c .before .pre .0 in search needs
 
 -- src/start.rt:43:9
 missing-requires : tie.Need-missing-requires
@@ -24,15 +27,16 @@ below-requires-2 c κs = search needs
 
 -- src/start.rt:45:5
 add-result : tie.Need-add-result
-add-result c = ?
+add-result c = let p = c .before .before .before .before .pre .0 in let q = c .before .before .before .before .pre .1 .0 in let b = below-long (now (c .before .before .before .before .args .knots)) (c .before .before .before .before .args .hi) in let e = c .below2 .ensures in let f = c .before .before .missing .ensures in omega arith
 
 -- src/start.rt:45:5
 sub-result : tie.Need-sub-result
-sub-result c = search needs
+sub-result c = let p = c .before .before .before .before .pre .1 .1 in let e = c .below2 .ensures in let f = c .before .below .ensures in omega arith
 
 -- src/start.rt:37:1
 returns : tie.Need-returns
-returns c = ?
+unfolding keptOf
+returns c = let e = c .below2 .ensures in let f = c .before .below .ensures in let g = c .before .before .missing .ensures in omega arith
 
 pub kept-spec : {M : Type 1} → statement M
 kept-spec =
