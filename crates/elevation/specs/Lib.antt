@@ -1,1 +1,4 @@
 pub mod Breaks
+pub mod Raise
+pub mod Elevate
+pub mod Whole
