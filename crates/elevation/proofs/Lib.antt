@@ -1,1 +1,3 @@
+pub mod RowStores
+pub mod Raising
 pub mod Worked

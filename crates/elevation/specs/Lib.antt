@@ -2,3 +2,4 @@ pub mod Breaks
 pub mod Raise
 pub mod Elevate
 pub mod Whole
+pub mod Passes

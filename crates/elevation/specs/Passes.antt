@@ -1,0 +1,39 @@
+-- What the passes of the code promise each other. The contract of `elevate_degree` names none of it.
+-- Assumes nothing.
+use Prim.Native.Nat.{ℕ, _+_, _-_, _*_, _≤_, _<_}
+use mathlib.Core.Bool.{Bool, true}
+use mathlib.Core.Path.{_≡_}
+use mathlib.Core.List.{List, _∷_, _++_}
+use lib.ListN.{length, take, drop}
+use lib.Ieee.{Float}
+use Rattle.doubles.specs.Run.{at}
+use Rattle.evaluate.specs.declared.vector.Vector.{Vector}
+use Rattle.insertion.specs.Passes.{rowOf}
+use Rattle.insertion.specs.Rows.{given}
+use Rattle.insertion.specs.Whole.{givenOf}
+use Rattle.insertion.specs.declared.control.Control.{Control}
+use Rattle.elevation.specs.Breaks.{breaksFrom}
+use Rattle.elevation.specs.Raise.{raiseOnce, raiseTimes}
+use Rattle.elevation.specs.Elevate.{allBlended, pointsOf, weightsOf}
+
+-- a run d with l over it from place a on
+unfoldable pub over : ℕ → List Float → List Float → List Float
+over a l d = take a d ++ (l ++ drop (a + length l) d)
+
+-- the first m controls of a run are those of h
+pub record Holds (h : ℕ → Control) (m l : ℕ) (xs : List Float) : Type 0 where
+  pub long : length xs ≡ l
+  pub rows : (i : ℕ) → i < m → rowOf xs i ≡ h i
+
+-- place k is a break or the end n; the breaks from it on are those from place i on
+pub record BreakAt (ks : List Float) (n i k : ℕ) : Type 0 where
+  pub from : i ≤ k
+  pub upto : k ≤ n
+  pub same : breaksFrom ks i (n - i) ≡ breaksFrom ks k (n - k)
+  pub here : k < n → breaksFrom ks k (n - k) ≡ at ks k ∷ breaksFrom ks (k + 1) (n - (k + 1))
+
+-- r says that no control of l is one for 20; then their points and weights stand in two runs, those of control i at its place
+pub record Put (o : Vector) (g : Bool) (l : List Control) (i : ℕ) (p₀ w₀ p₁ w₁ : List Float) (r : Bool) : Type 0 where
+  pub answer : r ≡ allBlended l
+  pub points : r ≡ true → p₁ ≡ over (i * 3) (pointsOf o l) p₀
+  pub weights : r ≡ true → w₁ ≡ over (given g i) (givenOf g (weightsOf l)) w₀
