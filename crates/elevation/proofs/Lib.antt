@@ -1,3 +1,5 @@
 pub mod RowStores
 pub mod Raising
+pub mod Overlaid
+pub mod BreakWalks
 pub mod Worked

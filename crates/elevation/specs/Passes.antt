@@ -12,7 +12,7 @@ use Rattle.insertion.specs.Passes.{rowOf}
 use Rattle.insertion.specs.Rows.{given}
 use Rattle.insertion.specs.Whole.{givenOf}
 use Rattle.insertion.specs.declared.control.Control.{Control}
-use Rattle.elevation.specs.Breaks.{breaksFrom}
+use Rattle.elevation.specs.Breaks.{breaksFrom, fullCount}
 use Rattle.elevation.specs.Raise.{raiseOnce, raiseTimes}
 use Rattle.elevation.specs.Elevate.{allBlended, pointsOf, weightsOf}
 
@@ -25,12 +25,21 @@ pub record Holds (h : ℕ → Control) (m l : ℕ) (xs : List Float) : Type 0 wh
   pub long : length xs ≡ l
   pub rows : (i : ℕ) → i < m → rowOf xs i ≡ h i
 
--- place k is a break or the end n; the breaks from it on are those from place i on
-pub record BreakAt (ks : List Float) (n i k : ℕ) : Type 0 where
-  pub from : i ≤ k
+-- place k is a break, or the end n
+pub record AtBreak (ks : List Float) (n k : ℕ) : Type 0 where
   pub upto : k ≤ n
-  pub same : breaksFrom ks i (n - i) ≡ breaksFrom ks k (n - k)
   pub here : k < n → breaksFrom ks k (n - k) ≡ at ks k ∷ breaksFrom ks (k + 1) (n - (k + 1))
+
+-- and it is the first of those from place i on
+pub record NextBreak (ks : List Float) (n i k : ℕ) : Type 0 where
+  pub from : i ≤ k
+  pub same : breaksFrom ks i (n - i) ≡ breaksFrom ks k (n - k)
+  pub place : AtBreak ks n k
+
+-- how many breaks there are, and how many of them are full
+pub record BreaksCounted (p : ℕ) (ks bs : List Float) (b f : ℕ) : Type 0 where
+  pub breaks : b ≡ length bs
+  pub full : f ≡ fullCount p ks bs
 
 -- r says that no control of l is one for 20; then their points and weights stand in two runs, those of control i at its place
 pub record Put (o : Vector) (g : Bool) (l : List Control) (i : ℕ) (p₀ w₀ p₁ w₁ : List Float) (r : Bool) : Type 0 where

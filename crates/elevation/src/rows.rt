@@ -3,8 +3,8 @@ use evaluate::vector::Vector;
 use insertion::control::Control;
 ghost use mathlib.Core.Path.{_≡_};
 ghost use mathlib.Core.Bool.{true};
-ghost use Prim.Native.Nat.{_+_, _*_, _<_};
-ghost use lib.ListN.{length, set};
+ghost use Prim.Native.Nat.{_+_, _*_, _<_, _≤_};
+ghost use lib.ListN.{length, set, replicate};
 ghost use Rattle.insertion.specs.Passes.{rowOf};
 ghost use Rattle.insertion.specs.Whole.{givenOf};
 ghost use Rattle.insertion.specs.Rows.{given};
@@ -35,4 +35,38 @@ pub fn put_row(rows: &mut [f64], i: usize, q: Control)
     rows[at + 1] = q.y;
     rows[at + 2] = q.z;
     rows[at + 3] = q.w;
+}
+
+// A point is stored at its place.
+pub fn put_point(points: &mut [f64], i: usize, v: Vector)
+    requires { ⌜ i * 3 + 2 < length (now points) ⌝ }
+    ensures { λ _. ⌜ now (points .exit) ≡ over (i * 3) (three v) (now (points .entry)) ⌝ }
+{
+    let at = i * 3;
+    points[at] = v.x;
+    points[at + 1] = v.y;
+    points[at + 2] = v.z;
+}
+
+// A weight is stored where the curve has weights.
+pub fn put_weight(weights: &mut [f64], rational: bool, i: usize, w: f64)
+    requires { ⌜ (rational ≡ true → i < length (now weights)) ⌝ }
+    ensures { λ _. ⌜ now (weights .exit) ≡ over (given rational i) (givenOf rational (w ∷ [])) (now (weights .entry)) ⌝ }
+{
+    if rational {
+        weights[i] = w;
+    }
+}
+
+// One number goes to m places from a place on.
+pub fn fill(xs: &mut [f64], from: usize, m: usize, t: f64)
+    requires { ⌜ from + m ≤ length (now xs) ⌝ }
+    ensures { λ _. ⌜ now (xs .exit) ≡ over from (replicate m t) (now (xs .entry)) ⌝ }
+{
+    let mut i = 0usize;
+    while i < m {
+        let at = from + i;
+        xs[at] = t;
+        i += 1;
+    }
 }
