@@ -2,4 +2,5 @@ pub mod RowStores
 pub mod Raising
 pub mod Overlaid
 pub mod BreakWalks
+pub mod KnotWalks
 pub mod Worked
