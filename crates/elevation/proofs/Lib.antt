@@ -3,4 +3,5 @@ pub mod Raising
 pub mod Overlaid
 pub mod BreakWalks
 pub mod KnotWalks
+pub mod Putting
 pub mod Worked

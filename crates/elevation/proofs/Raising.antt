@@ -7,6 +7,7 @@ use mathlib.Core.Path.{_≡_, refl, sym, _∙_, ap, ap₂, subst}
 use mathlib.Core.List.{List}
 use native.Mathlib.Omega.{arith}
 use native.Mathlib.Numerals.{add-one}
+use borrow.Author.Count.{below-more}
 use borrow.Author.Tests.{le-leb, lt-leb, eq-eqb, ne-eqb, leb-true, leb-false}
 use lib.ListN.{length}
 use lib.Dec.{leb, eqb}
@@ -148,3 +149,18 @@ module _ (p e : ℕ) (r₀ : List Float) where
 
     pub times-end : e ≤ d → Holds (raiseTimes p (e - p) (rowOf r₀)) (e + 1) (length r₀) r₁
     times-end l = let U = I .upto in let z : d ≡ e = omega arith in subst (λ (k : ℕ). Holds (raiseTimes p (k - p) (rowOf r₀)) (k + 1) (length r₀) r₁) z (I .holds)
+
+-- ---- controls stored one by one
+module _ (h : ℕ → Control) (l : ℕ) where
+  pub hold-none : (r₁ : List Float) → length r₁ ≡ l → Holds h 0 l r₁
+  hold-none r₁ e = record { long = e; rows = λ i b. absurd (omega arith) }
+
+  pub hold-more : (r₁ : List Float) (i : ℕ) → Holds h i l r₁ → i * 4 + 3 < l → (q : Control) → q ≡ h i → (r₂ : List Float) → r₂ ≡ four r₁ (i * 4) (q .x) (q .y) (q .z) (q .w) → Holds h (i + 1) l r₂
+  hold-more r₁ i I b q Q r₂ E =
+      let L = I .long in
+      record {
+        long = ap length E ∙ (four-long r₁ (i * 4) (q .x) (q .y) (q .z) (q .w) ∙ L);
+        rows = below-more (λ j. rowOf r₂ j ≡ h j) i
+            (λ j k. ap (λ (xs : List Float). rowOf xs j) E ∙ (row-other r₁ i q j (λ e. omega arith) ∙ I .rows j k))
+            (ap (λ (xs : List Float). rowOf xs i) E ∙ (row-same r₁ i q (omega arith) ∙ Q));
+      }

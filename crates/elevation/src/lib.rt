@@ -3,3 +3,4 @@ mod breaks;
 mod put_knots;
 mod raise;
 mod rows;
+mod segments;
