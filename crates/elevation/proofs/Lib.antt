@@ -4,4 +4,5 @@ pub mod Overlaid
 pub mod BreakWalks
 pub mod KnotWalks
 pub mod Putting
+pub mod Joining
 pub mod Worked

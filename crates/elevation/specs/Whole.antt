@@ -26,35 +26,35 @@ raiseRoom e n g p m a b c d =
     (orElse (roomRefusal b (n * 3))
     (orElse (roomRefusal c (given g n)) (roomRefusal d (10 * m + 2 * (p + 1)))))
 
-module _ (p : ℕ) (ks ps : List Float) (g : Bool) (ws : List Float) (e : ℕ) where
-  abbrev pub breaksIn : List Float
-  breaksIn = breaksOf p (countOf ps) ks
+-- the points of the answer, of a curve of n points
+unfoldable pub elevatedCount : ℕ → ℕ → ℕ → List Float → ℕ
+elevatedCount p e n ks = cond (eqb e p) n (raisedCount p e ks (breaksOf p n ks))
 
-  -- the points of the answer
-  unfoldable pub elevatedCount : ℕ
-  elevatedCount = cond (eqb e p) (countOf ps) (raisedCount p e ks breaksIn)
+-- 16, 18, 30
+unfoldable pub raiseStart : ℕ → ℕ → ℕ → List Float → Bool → ℕ → ℕ → ℕ → ℕ → Refusal
+raiseStart p e n ks g a b c d =
+    cond (ltb e p) (refuse degree-lowered)
+    (cond (not (eqb e p) && ltb 64 e) (refuse elevation-high)
+    (raiseRoom e (elevatedCount p e n ks) g p (extractedCount p (breaksOf p n ks)) a b c d))
 
-  module _ (a b c d : ℕ) where
-    -- the curve's refusal, 17, 16, 18, 30
-    unfoldable pub elevateStart : Refusal
-    elevateStart =
-        orElse (curveRefusal p ks ps g ws)
-        (cond (not (clampedEnds p (countOf ps) ks)) (refuse ends-unclamped)
-        (cond (ltb e p) (refuse degree-lowered)
-        (cond (not (eqb e p) && ltb 64 e) (refuse elevation-high)
-        (raiseRoom e elevatedCount g p (extractedCount p breaksIn) a b c d))))
+module _ (p : ℕ) (ks ps : List Float) (g : Bool) (ws : List Float) (e : ℕ) (a b c d : ℕ) where
+  -- the curve's refusal, 17, 16, 18, 30
+  unfoldable pub elevateStart : Refusal
+  elevateStart =
+      orElse (curveRefusal p ks ps g ws)
+      (cond (not (clampedEnds p (countOf ps) ks)) (refuse ends-unclamped) (raiseStart p e (countOf ps) ks g a b c d))
 
-    -- a refusal before anything is formed; a copy; or the raised curve
-    unfoldable pub elevateOutcome : Outcome
-    elevateOutcome =
-        cond (eqb (elevateStart .number) 0)
-        (cond (eqb e p) (gives ks ps (givenOf g ws)) (raiseAll p e (countOf ps) ks ps g (givenOf g ws) breaksIn))
-        (refuses elevateStart)
+  -- a refusal before anything is formed; a copy; or the raised curve
+  unfoldable pub elevateOutcome : Outcome
+  elevateOutcome =
+      cond (eqb (elevateStart .number) 0)
+      (cond (eqb e p) (gives ks ps (givenOf g ws)) (raiseAll p e (countOf ps) ks ps g (givenOf g ws) (breaksOf p (countOf ps) ks)))
+      (refuses elevateStart)
 
-    -- the answer r, and what is left in runs of a, b, c and d numbers
-    pub record ElevateMeets (k₁ p₁ w₁ s₁ : List Float) (r : EditAnswer) : Type 0 where
-      pub answer : r ≡ answerOf e elevatedCount elevateOutcome
-      pub knots : k₁ ≡ knotsIn a elevateOutcome
-      pub points : p₁ ≡ pointsIn b elevateOutcome
-      pub weights : w₁ ≡ weightsIn c elevateOutcome
-      pub scratch : s₁ ≡ zeros d
+  -- the answer r, and what is left in runs of a, b, c and d numbers
+  pub record ElevateMeets (k₁ p₁ w₁ s₁ : List Float) (r : EditAnswer) : Type 0 where
+    pub answer : r ≡ answerOf e (elevatedCount p e (countOf ps) ks) elevateOutcome
+    pub knots : k₁ ≡ knotsIn a elevateOutcome
+    pub points : p₁ ≡ pointsIn b elevateOutcome
+    pub weights : w₁ ≡ weightsIn c elevateOutcome
+    pub scratch : s₁ ≡ zeros d

@@ -1,8 +1,8 @@
 // The knots of the raised curve.
-use crate::breaks::is_full;
-use crate::breaks::more;
-use crate::breaks::next_break;
 use crate::rows::fill;
+use crate::walk::is_full;
+use crate::walk::more;
+use crate::walk::next_break;
 ghost use mathlib.Core.Path.{_≡_};
 ghost use Prim.Native.Nat.{_+_, _<_, _≤_};
 ghost use lib.ListN.{length};

@@ -1,12 +1,12 @@
 // The segments of an extracted curve are raised one by one, and their points and weights written.
-use crate::breaks::is_full;
-use crate::breaks::more;
-use crate::breaks::next_break;
 use crate::raise::raise_rows;
 use crate::rows::put_point;
 use crate::rows::put_row;
 use crate::rows::put_weight;
 use crate::rows::row_at;
+use crate::walk::is_full;
+use crate::walk::more;
+use crate::walk::next_break;
 use evaluate::vector::Vector;
 use insertion::control::is_blended;
 use insertion::control::lower_of;
@@ -64,4 +64,89 @@ fn put_rows(
         i += 1;
     }
     true
+}
+
+// The segment whose controls stand from control `first` on is raised, in a run of its own, and what it adds is written: after a full break all its controls, else all but the first.
+fn put_segment(
+    p: usize,
+    e: usize,
+    first: usize,
+    full: bool,
+    work: &[f64],
+    o: Vector,
+    rational: bool,
+    place: usize,
+    points: &mut [f64],
+    weights: &mut [f64],
+) -> bool
+    requires { ⌜ (p ≤ e) × (e ≤ 64) ⌝ }
+    requires { ⌜ (first + (p + 1)) * 4 ≤ length (now work) ⌝ }
+    requires { ⌜ (place + (e + bit full)) * 3 ≤ length (now points) ⌝ }
+    requires { ⌜ given rational (place + (e + bit full)) ≤ length (now weights) ⌝ }
+    ensures { λ r. ⌜ Put o rational (controlsOf (raiseTimes p (e - p) (λ i. rowOf (now (work .entry)) (first + i))) (bit (not full)) (e + bit full)) place (now (points .entry)) (now (weights .entry)) (now (points .exit)) (now (weights .exit)) r ⌝ }
+{
+    let mut rows = [0.0; 260];
+    load_rows(first, p + 1, work, &mut rows);
+    raise_rows(p, e, &mut rows);
+    let skipped = more(0, !full);
+    let m = more(e, full);
+    put_rows(skipped, m, &rows, o, rational, place, points, weights)
+}
+
+// The segments after the breaks.
+fn put_rest(
+    p: usize,
+    e: usize,
+    n: usize,
+    knots: &[f64],
+    work: &[f64],
+    o: Vector,
+    rational: bool,
+    points: &mut [f64],
+    weights: &mut [f64],
+) -> bool
+    requires { ⌜ (p < n) × (n ≤ length (now knots)) × (p ≤ e) × (e ≤ 64) ⌝ }
+    requires { ⌜ extractedCount p (breaksOf p n (now knots)) * 4 ≤ length (now work) ⌝ }
+    requires { ⌜ raisedCount p e (now knots) (breaksOf p n (now knots)) * 3 ≤ length (now points) ⌝ }
+    requires { ⌜ given rational (raisedCount p e (now knots) (breaksOf p n (now knots))) ≤ length (now weights) ⌝ }
+    ensures { λ r. ⌜ Put o rational (keptFrom p e (now (knots .entry)) (rowOf (now (work .entry))) 1 (breaksOf p n (now (knots .entry)))) (e + 1) (now (points .entry)) (now (weights .entry)) (now (points .exit)) (now (weights .exit)) r ⌝ }
+{
+    let mut place = e + 1;
+    let mut j = 1usize;
+    let mut k = next_break(knots, p + 1, n);
+    while k < n {
+        let full = is_full(p, knots, knots[k]);
+        let first = j * (p + 1);
+        if !put_segment(p, e, first, full, work, o, rational, place, points, weights) {
+            return false;
+        }
+        place = more(place + e, full);
+        j += 1;
+        k = next_break(knots, k + 1, n);
+    }
+    true
+}
+
+// All segments; false at the first control that refusal 20 is for.
+pub fn put_segments(
+    p: usize,
+    e: usize,
+    n: usize,
+    knots: &[f64],
+    work: &[f64],
+    o: Vector,
+    rational: bool,
+    points: &mut [f64],
+    weights: &mut [f64],
+) -> bool
+    requires { ⌜ (p < n) × (n ≤ length (now knots)) × (p ≤ e) × (e ≤ 64) ⌝ }
+    requires { ⌜ extractedCount p (breaksOf p n (now knots)) * 4 ≤ length (now work) ⌝ }
+    requires { ⌜ raisedCount p e (now knots) (breaksOf p n (now knots)) * 3 ≤ length (now points) ⌝ }
+    requires { ⌜ given rational (raisedCount p e (now knots) (breaksOf p n (now knots))) ≤ length (now weights) ⌝ }
+    ensures { λ r. ⌜ Put o rational (keptAll p e (now (knots .entry)) (rowOf (now (work .entry))) (breaksOf p n (now (knots .entry)))) 0 (now (points .entry)) (now (weights .entry)) (now (points .exit)) (now (weights .exit)) r ⌝ }
+{
+    if !put_segment(p, e, 0, true, work, o, rational, 0, points, weights) {
+        return false;
+    }
+    put_rest(p, e, n, knots, work, o, rational, points, weights)
 }

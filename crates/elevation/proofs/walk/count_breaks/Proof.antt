@@ -1,4 +1,4 @@
--- `elevation::breaks::count_breaks` meets its contract.
+-- `elevation::walk::count_breaks` meets its contract.
 -- Assumes nothing.
 use borrow.Author.Needs.{needs}
 use native.Mathlib.Omega.{arith}
@@ -10,8 +10,8 @@ use denote.Ref.{now}
 use Rattle.elevation.specs.Breaks.{breaksOf}
 use Rattle.elevation.specs.Passes.{AtBreak}
 use Rattle.elevation.proofs.BreakWalks.{left, left-none, breaks-few, full-le, walk-all, Counting, count-start, count-more, count-end}
-use Rattle.elevation.proofs.breaks.count_breaks.Statement.{statement}
-use Rattle.elevation.proofs.breaks.count_breaks.Tie as tie
+use Rattle.elevation.proofs.walk.count_breaks.Statement.{statement}
+use Rattle.elevation.proofs.walk.count_breaks.Tie as tie
 
 abbrev Inv-loop : tie.InvT-loop
 Inv-loop p n knots breaks₀ full₀ k₀ breaks full k = AtBreak knots n k × Counting p knots (breaksOf p n knots) (left knots n k) breaks full

@@ -1,4 +1,4 @@
--- `elevation::breaks::next_break` meets its contract.
+-- `elevation::walk::next_break` meets its contract.
 -- Assumes nothing.
 use borrow.Author.Needs.{needs}
 use native.Mathlib.Omega.{arith}
@@ -6,8 +6,8 @@ use Prim.Native.Nat.{_-_}
 use denote.Ref.{now}
 use borrow.Author.Tests.{not-true, not-false}
 use Rattle.elevation.proofs.BreakWalks.{InWalk, walk-start, walk-more, walk-found, walk-end}
-use Rattle.elevation.proofs.breaks.next_break.Statement.{statement}
-use Rattle.elevation.proofs.breaks.next_break.Tie as tie
+use Rattle.elevation.proofs.walk.next_break.Statement.{statement}
+use Rattle.elevation.proofs.walk.next_break.Tie as tie
 
 abbrev Inv-loop : tie.InvT-loop
 Inv-loop knots from n k₀ k = InWalk knots n from k

@@ -1,9 +1,9 @@
--- `elevation::breaks::more` meets its contract.
+-- `elevation::walk::more` meets its contract.
 -- Assumes nothing.
 use native.Mathlib.Omega.{arith}
 use borrow.Author.Needs.{needs}
-use Rattle.elevation.proofs.breaks.more.Statement.{statement}
-use Rattle.elevation.proofs.breaks.more.Tie as tie
+use Rattle.elevation.proofs.walk.more.Statement.{statement}
+use Rattle.elevation.proofs.walk.more.Tie as tie
 
 add-result : tie.Need-add-result
 add-result c = search needs

@@ -1,12 +1,12 @@
--- `elevation::breaks::is_full` meets its contract.
+-- `elevation::walk::is_full` meets its contract.
 -- Assumes nothing.
 use Prim.Native.Nat.{ℕ}
 use mathlib.Core.Path.{ap}
 use lib.Dec.{ltb}
 use Rattle.elevation.specs.Breaks.{isFull}
 use borrow.Author.Needs.{needs}
-use Rattle.elevation.proofs.breaks.is_full.Statement.{statement}
-use Rattle.elevation.proofs.breaks.is_full.Tie as tie
+use Rattle.elevation.proofs.walk.is_full.Statement.{statement}
+use Rattle.elevation.proofs.walk.is_full.Tie as tie
 
 multiplicity-requires : tie.Need-multiplicity-requires
 multiplicity-requires c κs = search needs

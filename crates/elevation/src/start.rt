@@ -1,0 +1,110 @@
+// The refusals of an elevation before anything is formed.
+use crate::walk::count_breaks;
+use evaluate::shape::room_refusal;
+use knots::refusal::Refusal;
+use knots::refusal::refuse;
+ghost use mathlib.Core.Path.{_≡_};
+ghost use mathlib.Core.Bool.{not, cond, _&&_};
+ghost use Prim.Native.Nat.{_+_, _-_, _*_, _<_, _≤_};
+ghost use lib.ListN.{length};
+ghost use lib.Dec.{eqb, ltb};
+ghost use Rattle.insertion.specs.Rows.{given};
+ghost use Rattle.elevation.specs.Breaks.{breaksOf};
+ghost use Rattle.elevation.specs.Elevate.{extractedCount, raisedCount};
+ghost use Rattle.elevation.specs.Whole.{raiseRoom, elevatedCount, raiseStart};
+
+// How many weights n points have.
+pub fn given_count(rational: bool, n: usize) -> usize
+    ensures { λ r. ⌜ r ≡ given rational n ⌝ }
+{
+    if rational { n } else { 0 }
+}
+
+// 30 for lent runs of a, b, c and d numbers: knots, points and weights of n points of degree e, and scratch for m points of degree p.
+fn raise_room(
+    e: usize,
+    n: usize,
+    rational: bool,
+    p: usize,
+    m: usize,
+    a: usize,
+    b: usize,
+    c: usize,
+    d: usize,
+) -> Refusal
+    requires { ⌜ (e ≤ 1048576) × (n ≤ 1099511627776) ⌝ }
+    requires { ⌜ (p ≤ 1048576) × (m ≤ 1099511627776) ⌝ }
+    ensures { λ r. ⌜ r ≡ raiseRoom e n rational p m a b c d ⌝ }
+{
+    let first = room_refusal(a, n + e + 1);
+    if first.number != 0 {
+        return first;
+    }
+    let second = room_refusal(b, n * 3);
+    if second.number != 0 {
+        return second;
+    }
+    let third = room_refusal(c, given_count(rational, n));
+    if third.number != 0 {
+        return third;
+    }
+    room_refusal(d, 10 * m + 2 * (p + 1))
+}
+
+// The points of a raised curve with so many breaks, of which so many are full.
+fn raised_count(e: usize, breaks: usize, full: usize) -> usize
+    requires { ⌜ (e ≤ 64) × (breaks ≤ 1048576) × (full ≤ breaks) ⌝ }
+    ensures { λ r. ⌜ r ≡ (e + 1) * (breaks + 1) - breaks + full ⌝ }
+{
+    (e + 1) * (breaks + 1) - breaks + full
+}
+
+// A higher degree that is above 64.
+fn is_high(p: usize, e: usize) -> bool
+    ensures { λ r. ⌜ r ≡ (not (eqb e p) && ltb 64 e) ⌝ }
+{
+    if e == p {
+        return false;
+    }
+    e > 64
+}
+
+// The points of the answer: of the same degree as many as before.
+pub fn elevated_count(p: usize, e: usize, n: usize, knots: &[f64]) -> usize
+    requires { ⌜ (p < n) × (n ≤ length (now knots)) × (n ≤ 1048576) ⌝ }
+    requires { ⌜ ((e ≡ p → ⊥) → e ≤ 64) ⌝ }
+    ensures { λ r. ⌜ r ≡ elevatedCount p e n (now (knots .entry)) ⌝ }
+{
+    if e == p {
+        return n;
+    }
+    let met = count_breaks(p, n, knots);
+    raised_count(e, met.breaks, met.full)
+}
+
+// 16, 18, 30 for the lent runs.
+pub fn raise_start(
+    p: usize,
+    e: usize,
+    n: usize,
+    knots: &[f64],
+    rational: bool,
+    a: usize,
+    b: usize,
+    c: usize,
+    d: usize,
+) -> Refusal
+    requires { ⌜ (p < n) × (n ≤ length (now knots)) × (n ≤ 1048576) ⌝ }
+    ensures { λ r. ⌜ r ≡ raiseStart p e n (now (knots .entry)) rational a b c d ⌝ }
+{
+    if e < p {
+        return refuse(16);
+    }
+    if is_high(p, e) {
+        return refuse(18);
+    }
+    let count = elevated_count(p, e, n, knots);
+    let met = count_breaks(p, n, knots);
+    let extracted = (p + 1) * (met.breaks + 1);
+    raise_room(e, count, rational, p, extracted, a, b, c, d)
+}
