@@ -5,4 +5,5 @@ pub mod BreakWalks
 pub mod KnotWalks
 pub mod Putting
 pub mod Joining
+pub mod Limits
 pub mod Worked

@@ -1,26 +1,29 @@
+-- `elevation::start::elevated_count` meets its contract.
+-- Assumes nothing.
+use native.Mathlib.Omega.{arith}
+use mathlib.Core.Path.{_∙_}
+use denote.Ref.{now}
+use borrow.Author.Tests.{eq-eqb}
+use Rattle.elevation.specs.Breaks.{breaksOf}
+use Rattle.elevation.specs.Whole.{elevatedCount}
+use Rattle.elevation.proofs.BreakWalks.{full-le}
+use Rattle.elevation.proofs.Limits.{breaks-small, counted}
 use borrow.Author.Needs.{needs}
 use Rattle.elevation.proofs.start.elevated_count.Statement.{statement}
 use Rattle.elevation.proofs.start.elevated_count.Tie as tie
-use Rattle.elevation.proofs.start.elevated_count.Reads as reads
-use Rattle.elevation.proofs.start.elevated_count.Lts as lts
-use Rattle.elevation.proofs.start.raised_count.Reads as raised-count-reads
-use Rattle.elevation.proofs.walk.count_breaks.Reads as count-breaks-reads
 
--- src/start.rt:79:9
 returns : tie.Need-returns
-returns c = ?
+unfolding elevatedCount
+returns c = simp (eq-eqb (c .before .before .args .e) (c .before .before .args .p) (c .if1 .taken))
 
--- src/start.rt:81:9
 count-breaks-requires : tie.Need-count-breaks-requires
 count-breaks-requires c κs = search needs
 
--- src/start.rt:82:5
 raised-count-requires : tie.Need-raised-count-requires
-raised-count-requires c κs = ?
+raised-count-requires c κs = let w = breaks-small (c .before .before .before .args .p) (c .before .before .before .args .n) (now (c .before .before .before .args .knots)) (c .before .before .before .pre .0 .0) (c .before .before .before .pre .0 .2) in let v = full-le (c .before .before .before .args .p) (now (c .before .before .before .args .knots)) (breaksOf (c .before .before .before .args .p) (c .before .before .before .args .n) (now (c .before .before .before .args .knots))) in let x = c .count-breaks .ensures .breaks in let y = c .count-breaks .ensures .full in (c .before .before .before .pre .1 (c .before .if1 .left), omega arith, omega arith)
 
--- src/start.rt:73:1
 returns-2 : tie.Need-returns-2
-returns-2 c = ?
+returns-2 c = c .raised-count .ensures ∙ counted (c .before .before .before .before .args .p) (c .before .before .before .before .args .n) (now (c .before .before .before .before .args .knots)) (c .before .before .before .before .pre .0 .0) (c .before .before .before .before .pre .0 .2) (c .before .before .before .before .args .e) _ _ (c .before .before .if1 .left) (c .before .count-breaks .ensures)
 
 pub elevated-count-spec : {M : Type 1} → statement M
 elevated-count-spec =

@@ -1,61 +1,54 @@
+-- `elevation::start::raise_start` meets its contract.
+-- Assumes nothing.
+use native.Mathlib.Omega.{arith}
+use Prim.Native.Nat.{ℕ, _≤_}
+use mathlib.Core.Path.{sym, _∙_, ap₂, subst}
+use denote.Ref.{now}
+use borrow.Author.Tests.{lt-ltb, le-ltb}
+use Rattle.elevation.specs.Whole.{raiseRoom, raiseStart}
+use Rattle.elevation.proofs.Limits.{not-high, breaks-small, extracted-small, raised-small, extracted-is}
 use borrow.Author.Needs.{needs}
 use Rattle.elevation.proofs.start.raise_start.Statement.{statement}
 use Rattle.elevation.proofs.start.raise_start.Tie as tie
-use Rattle.elevation.proofs.start.raise_start.Reads as reads
-use Rattle.elevation.proofs.start.raise_start.Lts as lts
-use Rattle.elevation.proofs.start.elevated_count.Reads as elevated-count-reads
-use Rattle.elevation.proofs.start.is_high.Reads as is-high-reads
-use Rattle.elevation.proofs.start.raise_room.Reads as raise-room-reads
-use Rattle.elevation.proofs.walk.count_breaks.Reads as count-breaks-reads
-use Rattle.knots.proofs.refusal.refuse.Reads as refuse-reads
 
--- src/start.rt:101:9
 refuse-requires : tie.Need-refuse-requires
 refuse-requires c κs = search needs
 
--- src/start.rt:101:9
 returns : tie.Need-returns
-returns c = ?
+unfolding raiseStart
+returns c = simp (lt-ltb (c .before .before .before .args .e) (c .before .before .before .args .p) (c .before .if1 .taken)) (c .refuse .ensures)
 
--- src/start.rt:103:8
 is-high-requires : tie.Need-is-high-requires
 is-high-requires c κs = search needs
 
--- src/start.rt:104:9
 refuse-requires-2 : tie.Need-refuse-requires-2
 refuse-requires-2 c κs = search needs
 
--- src/start.rt:104:9
 returns-2 : tie.Need-returns-2
-returns-2 c = ?
+unfolding raiseStart
+returns-2 c = simp (le-ltb (c .before .before .before .before .before .args .e) (c .before .before .before .before .before .args .p) (c .before .before .before .if1 .left), sym (c .before .before .is-high .ensures) ∙ c .before .if2 .taken) (c .refuse2 .ensures)
 
--- src/start.rt:106:9
 elevated-count-requires : tie.Need-elevated-count-requires
-elevated-count-requires c κs = ?
+elevated-count-requires c κs = ((c .before .before .before .before .pre .0, c .before .before .before .before .pre .1, c .before .before .before .before .pre .2), (not-high (c .before .before .before .before .args .p) (c .before .before .before .before .args .e) (sym (c .before .is-high .ensures) ∙ c .if2 .left)))
 
--- src/start.rt:107:9
 count-breaks-requires : tie.Need-count-breaks-requires
 count-breaks-requires c κs = search needs
 
--- src/start.rt:108:22
 add-extracted : tie.Need-add-extracted
 add-extracted c = search needs
 
--- src/start.rt:108:32
 add-extracted-2 : tie.Need-add-extracted-2
-add-extracted-2 c = ?
+add-extracted-2 c = let w = breaks-small (c .before .before .before .before .before .before .before .args .p) (c .before .before .before .before .before .before .before .args .n) (now (c .before .before .before .before .before .before .before .args .knots)) (c .before .before .before .before .before .before .before .pre .0) (c .before .before .before .before .before .before .before .pre .2) in let x = c .before .count-breaks .ensures .breaks in let m = extracted-small (c .before .before .before .before .before .before .before .args .p) (c .before .before .before .before .before .before .before .args .n) (now (c .before .before .before .before .before .before .before .args .knots)) (c .before .before .before .before .before .before .before .pre .0) (c .before .before .before .before .before .before .before .pre .2) (c .before .count-breaks .result .breaks) (c .before .count-breaks .ensures .breaks) in search needs
 
--- src/start.rt:108:21
 mul-extracted : tie.Need-mul-extracted
-mul-extracted c = ?
+mul-extracted c = let w = breaks-small (c .before .before .before .before .before .before .before .args .p) (c .before .before .before .before .before .before .before .args .n) (now (c .before .before .before .before .before .before .before .args .knots)) (c .before .before .before .before .before .before .before .pre .0) (c .before .before .before .before .before .before .before .pre .2) in let x = c .before .count-breaks .ensures .breaks in let m = extracted-small (c .before .before .before .before .before .before .before .args .p) (c .before .before .before .before .before .before .before .args .n) (now (c .before .before .before .before .before .before .before .args .knots)) (c .before .before .before .before .before .before .before .pre .0) (c .before .before .before .before .before .before .before .pre .2) (c .before .count-breaks .result .breaks) (c .before .count-breaks .ensures .breaks) in search needs
 
--- src/start.rt:109:5
 raise-room-requires : tie.Need-raise-room-requires
-raise-room-requires c κs = ?
+raise-room-requires c κs = let w = breaks-small (c .before .before .before .before .before .before .before .args .p) (c .before .before .before .before .before .before .before .args .n) (now (c .before .before .before .before .before .before .before .args .knots)) (c .before .before .before .before .before .before .before .pre .0) (c .before .before .before .before .before .before .before .pre .2) in let x = c .before .count-breaks .ensures .breaks in let m = extracted-small (c .before .before .before .before .before .before .before .args .p) (c .before .before .before .before .before .before .before .args .n) (now (c .before .before .before .before .before .before .before .args .knots)) (c .before .before .before .before .before .before .before .pre .0) (c .before .before .before .before .before .before .before .pre .2) (c .before .count-breaks .result .breaks) (c .before .count-breaks .ensures .breaks) in let r = raised-small (c .before .before .before .before .before .before .before .args .p) (c .before .before .before .before .before .before .before .args .n) (now (c .before .before .before .before .before .before .before .args .knots)) (c .before .before .before .before .before .before .before .pre .0) (c .before .before .before .before .before .before .before .pre .2) (c .before .before .before .before .before .before .before .args .e) (not-high (c .before .before .before .before .before .before .before .args .p) (c .before .before .before .before .before .before .before .args .e) (sym (c .before .before .before .before .is-high .ensures) ∙ c .before .before .before .if2 .left)) in ((r .1, subst (λ (k : ℕ). k ≤ 1099511627776) (sym (c .before .before .elevated-count .ensures)) (r .0)), (omega arith, m))
 
--- src/start.rt:86:1
 returns-3 : tie.Need-returns-3
-returns-3 c = ?
+unfolding raiseStart
+returns-3 c = simp (le-ltb (c .before .before .before .before .before .before .before .before .args .e) (c .before .before .before .before .before .before .before .before .args .p) (c .before .before .before .before .before .before .if1 .left), sym (c .before .before .before .before .before .is-high .ensures) ∙ c .before .before .before .before .if2 .left) (c .raise-room .ensures ∙ ap₂ (λ (x y : ℕ). raiseRoom (c .before .before .before .before .before .before .before .before .args .e) x (c .before .before .before .before .before .before .before .before .args .rational) (c .before .before .before .before .before .before .before .before .args .p) y (c .before .before .before .before .before .before .before .before .args .a) (c .before .before .before .before .before .before .before .before .args .b) (c .before .before .before .before .before .before .before .before .args .c) (c .before .before .before .before .before .before .before .before .args .d)) (c .before .before .before .elevated-count .ensures) (extracted-is (c .before .before .before .before .before .before .before .before .args .p) (c .before .before .before .before .before .before .before .before .args .n) (now (c .before .before .before .before .before .before .before .before .args .knots)) (c .before .before .before .before .before .before .before .before .pre .0) (c .before .before .before .before .before .before .before .before .pre .2) _ _ (c .before .before .count-breaks .ensures)))
 
 pub raise-start-spec : {M : Type 1} → statement M
 raise-start-spec =

@@ -1,30 +1,25 @@
+-- `elevation::start::raised_count` meets its contract.
+-- Assumes nothing.
+use Rattle.elevation.proofs.Limits.{product-small}
 use borrow.Author.Needs.{needs}
 use Rattle.elevation.proofs.start.raised_count.Statement.{statement}
 use Rattle.elevation.proofs.start.raised_count.Tie as tie
-use Rattle.elevation.proofs.start.raised_count.Reads as reads
-use Rattle.elevation.proofs.start.raised_count.Lts as lts
 
--- src/start.rt:59:6
 add-result : tie.Need-add-result
 add-result c = search needs
 
--- src/start.rt:59:16
 add-result-2 : tie.Need-add-result-2
 add-result-2 c = search needs
 
--- src/start.rt:59:5
 mul-result : tie.Need-mul-result
-mul-result c = ?
+mul-result c = let m = product-small (c .args .e) (c .args .breaks) (c .pre .0) in let b = c .pre .1 in let f = c .pre .2 in search needs
 
--- src/start.rt:59:5
 sub-result : tie.Need-sub-result
-sub-result c = search needs
+sub-result c = let m = product-small (c .args .e) (c .args .breaks) (c .pre .0) in let b = c .pre .1 in let f = c .pre .2 in search needs
 
--- src/start.rt:59:5
 add-result-3 : tie.Need-add-result-3
-add-result-3 c = ?
+add-result-3 c = let m = product-small (c .args .e) (c .args .breaks) (c .pre .0) in let b = c .pre .1 in let f = c .pre .2 in search needs
 
--- src/start.rt:55:1
 returns : tie.Need-returns
 returns c = search needs
 
