@@ -6,4 +6,6 @@ pub mod KnotWalks
 pub mod Putting
 pub mod Joining
 pub mod Limits
+pub mod Inserting
+pub mod LaidOut
 pub mod Worked
