@@ -8,4 +8,5 @@ pub mod Joining
 pub mod Limits
 pub mod Inserting
 pub mod LaidOut
+pub mod Extracting
 pub mod Worked

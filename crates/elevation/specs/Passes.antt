@@ -8,6 +8,9 @@ use lib.ListN.{length, take, drop}
 use lib.Ieee.{Float}
 use Rattle.doubles.specs.Run.{at}
 use Rattle.evaluate.specs.declared.vector.Vector.{Vector}
+use Rattle.knots.specs.declared.refusal.Refusal.{Refusal}
+use Rattle.insertion.specs.Fold.{Outcome, gives, refuses}
+use Rattle.insertion.specs.Work.{knotsFrom, pointsFrom, weightsFrom}
 use Rattle.insertion.specs.Passes.{rowOf}
 use Rattle.insertion.specs.Rows.{given}
 use Rattle.insertion.specs.Whole.{givenOf}
@@ -40,6 +43,11 @@ pub record NextBreak (ks : List Float) (n i k : ℕ) : Type 0 where
 pub record BreaksCounted (p : ℕ) (ks bs : List Float) (b f : ℕ) : Type 0 where
   pub breaks : b ≡ length bs
   pub full : f ≡ fullCount p ks bs
+
+-- the outcome of the extraction: r is its refusal; where there is none, the curve of m points stands in a run, its knots from place a on
+pub record Extracted (p : ℕ) (g : Bool) (m a : ℕ) (goal : Outcome) (x₁ : List Float) (r : Refusal) : Type 0 where
+  pub refused : (r .number ≡ 0 → ⊥) → goal ≡ refuses r
+  pub given : r .number ≡ 0 → goal ≡ gives (knotsFrom a p m x₁) (pointsFrom m x₁) (weightsFrom g m x₁)
 
 -- r says that no control of l is one for 20; then their points and weights stand in two runs, those of control i at its place
 pub record Put (o : Vector) (g : Bool) (l : List Control) (i : ℕ) (p₀ w₀ p₁ w₁ : List Float) (r : Bool) : Type 0 where
