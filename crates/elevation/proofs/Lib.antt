@@ -1,3 +1,4 @@
+pub mod Breaks
 pub mod RowStores
 pub mod Raising
 pub mod Overlaid

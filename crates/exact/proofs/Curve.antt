@@ -25,11 +25,14 @@ whole-is U t s p b r c e =
     (Σ-zero b (λ m l. rw (basis-low U t s p m (omega arith)) (zero-mul (c m))))
     (Σ-zero r (λ m l. rw (basis-high U t s p (b + suc p + m) (omega arith)) (zero-mul (c (b + suc p + m)))))
 
+pub whole-active : (U : ℕ → ℚ) (t : ℚ) (s p b count : ℕ) (c : ℕ → ℚ) → b + p ≡ s → s < count → whole U t s p count c ≡ curve U t s p b (λ m. c (b + m))
+whole-active U t s p b count c e l =
+    let x : count ≡ b + suc p + (count - (b + suc p)) = omega arith in
+    ap (λ n. whole U t s p n c) x ∙ whole-is U t s p b (count - (b + suc p)) c e
+
 module _ {U : ℕ → ℚ} {n s : ℕ} (K : Knots U n s) (p b count : ℕ) (span : b + p ≡ s) (fits : s < count) (knots : s + p < n) where
   pub whole-curve : (t : ℚ) (c : ℕ → ℚ) → whole U t s p count c ≡ curve U t s p b (λ m. c (b + m))
-  whole-curve t c =
-      let x : count ≡ b + suc p + (count - (b + suc p)) = omega arith in
-      ap (λ k. whole U t s p k c) x ∙ whole-is U t s p b (count - (b + suc p)) c span
+  whole-curve t c = whole-active U t s p b count c span fits
 
   -- The weight of the source, over scale, lies between the bounds of the active weights over scale
   module _ {t : ℚ} (above : U s ≤q t) (below : t ≤q U (suc s)) (w : ℕ → ℚ) where

@@ -5,7 +5,7 @@ use mathlib.Core.List.{List, [], _∷_}
 use Prim.Native.Nat.{ℕ, zero, suc, _+_, _≤_, _<_}
 use native.Mathlib.Nat.{add-suc, suc-add, add-zero}
 use native.Mathlib.Omega.{arith}
-use Rattle.exact.specs.Rational.{ℚ, _+q_, _-q_, _*q_, _/q_, negq, inv, q0, q1, _≤q_, _<q_}
+use Rattle.exact.specs.Rational.{ℚ, _+q_, _-q_, _*q_, _/q_, negq, inv, q0, q1, _≤q_, _<q_, ofℕ}
 use Rattle.exact.specs.Spline.{Σq, rise, fall, basis, Knots, dbasis, quotient, slope}
 use Rattle.exact.proofs.Laws.{mul-inv, inv-0}
 use Rattle.exact.proofs.Field.{qring, q-ring, q-combine, q-combine₂, zero-mul, pos-ne, div-eq, mul-ne-0, le-or-lt, ≤-antisym, <-≤-trans, le-sub, le-by, add-nonneg, div-is}
@@ -152,10 +152,6 @@ quotient-relative X X′ W W′ r q n m =
     (q-combine (q *q (X′ -q X *q inv W *q W′)) (mul-inv W m) (q-ring (X ∷ X′ ∷ W ∷ W′ ∷ r ∷ q ∷ inv W ∷ []) (search qring depth 20) tt)))
 
 -- ---- the textbook's formula (The NURBS Book, 2.7): N' of degree k + 1 is k + 1 times a difference
-
-unfoldable pub ofℕ : ℕ → ℚ
-ofℕ zero = q0
-ofℕ (suc k) = ofℕ k +q q1
 
 unfoldable pub formula : (ℕ → ℚ) → ℚ → ℕ → ℕ → ℕ → ℚ
 unfolding ofℕ slope basis

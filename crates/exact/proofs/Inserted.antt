@@ -67,6 +67,17 @@ module _ (U : ℕ → ℚ) (x : ℚ) (k p : ℕ) (c : ℕ → ℚ) where
   pub ins-high : (j : ℕ) → k < suc j → inserted U x k p c (suc j) ≡ c j
   ins-high j h = ins-suc j ∙ (mix-cong (share-high U x k p (suc j) h) refl refl ∙ mix-0 (c j) (c (suc j)))
 
+  -- past the places whose knot is x a control is moved on
+  pub ins-multiple : (j : ℕ) → k < suc j + p → suc j ≤ k → U (suc j) ≡ x → inserted U x k p c (suc j) ≡ c j
+  ins-multiple j h g e = ins-suc j ∙ (mix-cong (share-multiple U x k p (suc j) h g e) refl refl ∙ mix-0 (c j) (c (suc j)))
+
+  -- where p knots are x already, the control there stands twice: the curve may break at x, and does not yet
+  pub ins-break : (j : ℕ) → j + p ≡ k → ((i : ℕ) → j < i → i ≤ k → U i ≡ x) → inserted U x k p c (suc j) ≡ inserted U x k p c j
+  ins-break j e full = ⊎-elim
+      (λ (h : suc j ≤ k). ins-multiple j (omega arith) h (full (suc j) (omega arith) h))
+      (λ (h : k < suc j). ins-high j h) (split (suc j) k)
+      ∙ sym (ins-low j (omega arith))
+
 -- ---- positive weights
 
 sub-mono : {x y : ℚ} (u : ℚ) → x ≤q y → x -q u ≤q y -q u
@@ -82,7 +93,7 @@ unit-quotient {a} {d} h g = go (le-or-lt d q0)
         (≤-eq (sym e), subst (λ y. y ≤q q1) (sym e) (lt→le q0<q1))
     go (inr z) = (div-nonneg h z, div-le-1 g z)
 
-mix-pos : (r a b : ℚ) → q0 ≤q r → r ≤q q1 → q0 <q a → q0 <q b → q0 <q mix r a b
+pub mix-pos : (r a b : ℚ) → q0 ≤q r → r ≤q q1 → q0 <q a → q0 <q b → q0 <q mix r a b
 mix-pos r a b l u h k = go (le-or-lt a b)
   where
     go : (a ≤q b) ⊎ (b <q a) → q0 <q mix r a b

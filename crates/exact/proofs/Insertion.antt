@@ -32,7 +32,7 @@ held-below k s count h g = let H = held-is k s in ⊎-elim
     (λ (a : s ≤ k). let e : held k s ≡ s = H .left a in omega arith)
     (λ (a : k < s). let e : suc (held k s) ≡ s = H .right a in omega arith) (split s k)
 
-put-back : (w X : ℚ) → w ≢ q0 → w *q (X /q w) ≡ X
+pub put-back : (w X : ℚ) → w ≢ q0 → w *q (X /q w) ≡ X
 put-back w X h = q-combine X (mul-inv w h) (q-ring (w ∷ X ∷ inv w ∷ []) (search qring depth 20) tt)
 
 module _ (U : ℕ → ℚ) (x : ℚ) (k : ℕ) {p count s : ℕ} (from : p ≤ k) (place : k < count) (S : SpanOf (refined U x k) p (suc count) s) where

@@ -2,14 +2,24 @@
 -- l is the insertions; s a span after all of them, and heldAll l s the span of the old knots that holds it.
 use mathlib.Core.Path.{_≡_, _∙_, ap, subst}
 use mathlib.Core.List.{List, [], _∷_}
-use Prim.Native.Nat.{ℕ, suc, _+_, _<_}
+use Prim.Native.Nat.{ℕ, suc, _+_, _≤_, _<_}
 use native.Mathlib.Omega.{arith}
 use lib.ListN.{length}
-use Rattle.exact.specs.Rational.{ℚ, q0, _<q_}
+use Rattle.exact.specs.Rational.{ℚ, q0, _≤q_, _<q_}
 use Rattle.exact.specs.Spline.{whole, exact}
-use Rattle.exact.specs.Boehm.{SpanOf, InSpan, InEnd, Insert, Fits, refined, inserted, insertedPoint, refinedAll, heldAll, insertedAll, insertedPointAll}
-use Rattle.exact.proofs.Refined.{one-span, one-end}
+use Rattle.exact.specs.Boehm.{SpanOf, InSpan, InEnd, Insert, Fits, Between, refined, inserted, insertedPoint, refinedAll, heldAll, insertedAll, insertedPointAll}
+use Rattle.exact.proofs.Refined.{refined-is, new-order, one-span, one-end}
 use Rattle.exact.proofs.Insertion.{held-span, held-in, held-end, insertion-whole, insertion-point, weights-pos}
+
+-- knots between their neighbours leave the knots in order
+pub insertions-order : (l : List Insert) (U : ℕ → ℚ) (count p : ℕ) {after : ℕ} → length l + count ≡ after → Fits p count l → Between U l
+    → ((i j : ℕ) → i ≤ j → j < count + suc p → U i ≤q U j) → (i j : ℕ) → i ≤ j → j < after + suc p → refinedAll U l i ≤q refinedAll U l j
+unfolding refinedAll
+insertions-order [] U count p e f b mono = λ i j h g. mono i j h (omega arith)
+insertions-order (a ∷ l) U count p e f b mono =
+    let low : a .place < count = f .1 in
+    insertions-order l (refined U (a .knot) (a .place)) (suc count) p (omega arith) (f .2) (b .2)
+    (λ i j h g. new-order (refined-is U (a .knot) (a .place)) (count + suc p) (omega arith) mono (b .0) (b .1) i j h (omega arith))
 
 -- the old span is a nonempty span of the old curve
 pub heldAll-span : (l : List Insert) (U : ℕ → ℚ) (count : ℕ) {p after s : ℕ} → length l + count ≡ after → Fits p count l → SpanOf (refinedAll U l) p after s
@@ -43,6 +53,16 @@ insertions-whole (a ∷ l) U count {p} e f S t c =
     let V′ = refined U (a .knot) (a .place) in
     insertions-whole l V′ (suc count) (omega arith) (f .2) S t (inserted U (a .knot) (a .place) p c)
     ∙ insertion-whole U (a .knot) (a .place) (f .0) (f .1) (heldAll-span l V′ (suc count) (omega arith) (f .2) S) t c
+
+-- positive weights stay positive
+pub insertions-pos : (l : List Insert) (U : ℕ → ℚ) (count : ℕ) {p after s : ℕ} → length l + count ≡ after → Fits p count l → SpanOf (refinedAll U l) p after s
+    → (w : ℕ → ℚ) → ((i : ℕ) → i < count → q0 <q w i) → (i : ℕ) → i < after → q0 <q insertedAll U p l w i
+unfolding refinedAll insertedAll
+insertions-pos [] U count e f S w h i g = h i (omega arith)
+insertions-pos (a ∷ l) U count {p} e f S w h i g =
+    let V′ = refined U (a .knot) (a .place) in
+    insertions-pos l V′ (suc count) (omega arith) (f .2) S (inserted U (a .knot) (a .place) p w)
+    (weights-pos U (a .knot) (a .place) (f .0) (f .1) (heldAll-span l V′ (suc count) (omega arith) (f .2) S) w h) i g
 
 -- the exact point of a curve with positive weights is what it was
 pub insertions-point : (l : List Insert) (U : ℕ → ℚ) (count : ℕ) {p after s : ℕ} → length l + count ≡ after → Fits p count l → SpanOf (refinedAll U l) p after s

@@ -6,12 +6,12 @@ use mathlib.Core.List.{List, [], _∷_}
 use Prim.Native.Nat.{ℕ, zero, suc, _+_, _-_, min, max, _≤_, _<_}
 use native.Mathlib.Omega.{arith}
 use lib.Dec.{T, leb, ltb, eqb, ltb→lt, nltb→le, leb→le, le→leb, nleb→lt}
-use Rattle.exact.specs.Rational.{ℚ, _+q_, _-q_, _*q_, _/q_, negq, inv, q0, q1, _≤q_}
+use Rattle.exact.specs.Rational.{ℚ, _+q_, _-q_, _*q_, _/q_, negq, inv, q0, q1, _≤q_, ofℕ}
 use Rattle.exact.specs.Spline.{rise, fall, slope, basis, dbasis}
 use Rattle.exact.specs.Scheme.{Arithmetic, widthOf, shareOf, carryOf, partOf, nextOf, basisOf, tableOf, numOf, coefOf, termOf, sumOf, startOf, derOf, rowOf, derivativeOf, factorOf, dersOf}
 use Rattle.exact.proofs.Field.{qring, q-ring, q-combine, q-combine₂, mul-zero, div-is}
 use Rattle.exact.proofs.DeBoor.{basis-suc, basis-one, basis-low, basis-high}
-use Rattle.exact.proofs.Deriv.{ofℕ, formula, dbasis-formula}
+use Rattle.exact.proofs.Deriv.{formula, dbasis-formula}
 
 abbrev pub fractions : Arithmetic ℚ
 fractions = record { add = _+q_; sub = _-q_; mul = _*q_; div = _/q_; neg = negq; nought = q0; one = q1; whole = ofℕ }

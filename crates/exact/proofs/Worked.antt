@@ -7,7 +7,8 @@ use lib.IntN.{ℤ, pos, negsuc}
 use lib.ListN.{getD}
 use Rattle.exact.specs.Rational.{ℚ, frac, q1, _≤q_}
 use Rattle.exact.specs.Spline.{basis, Knots, exact, dbasis, dexact}
-use Rattle.exact.specs.Boehm.{refined, inserted, insertedPoint}
+use Rattle.exact.specs.Boehm.{refined, inserted, insertedPoint, cut}
+use Rattle.exact.specs.Bernstein.{ends, raised, raisedTo}
 use Rattle.exact.proofs.Field.{same, by-same, dec-le, dec-lt}
 use Rattle.exact.proofs.DeBoor.{curve, deboor, mono-of-steps, deboor-is}
 use Rattle.exact.proofs.Source.{work, alpha}
@@ -106,3 +107,36 @@ inserted-A-3 = by-same tt
 refined-A : exact (refined A half 2) half 3 2 5 (inserted A half 2 2 (λ i. q1)) (insertedPoint A half 2 2 (λ i. q1) x) ≡ frac (pos 7) 3
 unfolding same exact refined insertedPoint A half x
 refined-A = by-same tt
+
+-- ---- the line 0 0 1 1 with x = 0 2, raised to degree 2 is x = 0 1 2, and to degree 3 it is x = 0 2/3 4/3 2
+
+line : ℕ → ℚ
+unfolding q
+line i = q (getD (0 ∷ 2 ∷ []) i 0)
+
+raised-line-0 : raised 1 line 0 ≡ q 0
+unfolding same raised line
+raised-line-0 = by-same tt
+
+raised-line-1 : raised 1 line 1 ≡ q 1
+unfolding same raised line
+raised-line-1 = by-same tt
+
+raised-line-2 : raised 1 line 2 ≡ q 2
+unfolding same raised line
+raised-line-2 = by-same tt
+
+raised-line-1-of-3 : raisedTo 1 2 line 1 ≡ frac (pos 2) 2
+unfolding same raisedTo line
+raised-line-1-of-3 = by-same tt
+
+-- the point at 1/2 of the raised line
+raised-line : exact (ends (q 0) (q 1) 2) half 2 2 3 (λ i. q1) (raised 1 line) ≡ q 1
+unfolding same exact ends raised half line
+raised-line = by-same tt
+
+-- ---- A without its first control: the knots 0 0 1 2 2 2 and x = 2 4 6, at 3/2
+
+cut-A : exact (cut 1 A) (frac (pos 3) 1) 2 2 3 (λ i. q1) (cut 1 x) ≡ frac (pos 17) 3
+unfolding same exact A x
+cut-A = by-same tt

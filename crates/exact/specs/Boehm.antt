@@ -62,6 +62,11 @@ abbrev pub Fits : ℕ → ℕ → List Insert → Type 0
 Fits p count [] = Unit {0}
 Fits p count (a ∷ l) = (p ≤ a .place) × (a .place < count) × Fits p (suc count) l
 
+-- each knot lies between its two neighbours of the knots so far
+abbrev pub Between : (ℕ → ℚ) → List Insert → Type 0
+Between U [] = Unit {0}
+Between U (a ∷ l) = (U (a .place) ≤q a .knot) × (a .knot ≤q U (suc (a .place))) × Between (refined U (a .knot) (a .place)) l
+
 unfoldable pub refinedAll : (ℕ → ℚ) → List Insert → ℕ → ℚ
 unfolding refined
 refinedAll U [] = U
@@ -82,3 +87,9 @@ unfolding inserted insertedPoint refined
 insertedPointAll U p [] w P = P
 insertedPointAll U p (a ∷ l) w P =
     insertedPointAll (refined U (a .knot) (a .place)) p l (inserted U (a .knot) (a .place) p w) (insertedPoint U (a .knot) (a .place) p w P)
+
+-- ---- a part of a curve
+
+-- the knots, or the controls, from place f on
+abbrev pub cut : ℕ → (ℕ → ℚ) → ℕ → ℚ
+cut f U i = U (f + i)

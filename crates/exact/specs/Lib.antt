@@ -2,4 +2,6 @@ pub mod Rational
 pub mod Spline
 pub mod Surface
 pub mod Boehm
+pub mod Bernstein
 pub mod Scheme
+pub mod Edit

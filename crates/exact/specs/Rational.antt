@@ -152,3 +152,9 @@ pub record _≤q_ (x y : ℚ) : Type 0 where
 
 pub record _<q_ (x y : ℚ) : Type 0 where
   pub lt : T (not (nn (x -q y)))
+
+-- ---- the whole number n
+
+unfoldable pub ofℕ : ℕ → ℚ
+ofℕ zero = q0
+ofℕ (suc n) = ofℕ n +q q1

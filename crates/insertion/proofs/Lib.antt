@@ -1,11 +1,15 @@
 pub mod Counting
 pub mod Tested
-pub mod RowLoops
 pub mod Storing
+pub mod RowLoops
+pub mod Laying
 pub mod Grown
+pub mod Counted
 pub mod Forming
 pub mod Folds
 pub mod Domain
+pub mod Never
 pub mod Starting
 pub mod Outcomes
+pub mod Textbook
 pub mod Worked

@@ -13,17 +13,19 @@ use Rattle.knots.proofs.Refusals.{stop, skip}
 use Rattle.insertion.specs.Fold.{Outcome, gives, refuses, insertAll}
 use Rattle.insertion.specs.Start.{insertStart}
 use Rattle.insertion.specs.Whole.{givenOf, answerOf, knotsIn, pointsIn, weightsIn, insertOutcome, InsertMeets}
-use Rattle.insertion.specs.Passes.{ListMeets}
+use Rattle.insertion.specs.Passes.{OutMeets}
 use Rattle.insertion.specs.declared.answer.EditAnswer.{EditAnswer}
 use Rattle.insertion.specs.declared.answer.EditAnswer.the-variants.{Formed, Refused}
 
 module _ (a b c : ℕ) (k₁ p₁ w₁ : List Float) (r : Refusal) where
-  refused : (goal : Outcome) → ListMeets a b c goal k₁ p₁ w₁ r → (r .number ≡ 0 → ⊥) → goal ≡ refuses r
+  refused : (goal : Outcome) → OutMeets a b c goal k₁ p₁ w₁ r → (r .number ≡ 0 → ⊥) → goal ≡ refuses r
+  unfolding OutMeets
   refused (gives ks ps ws) m h = absurd (h (m .0))
   refused (refuses x) m h = ap refuses (sym (m .0))
 
-  given : (goal : Outcome) → ListMeets a b c goal k₁ p₁ w₁ r → r .number ≡ 0
+  given : (goal : Outcome) → OutMeets a b c goal k₁ p₁ w₁ r → r .number ≡ 0
       → (p n : ℕ) → (Formed p n ≡ answerOf p n goal) × (k₁ ≡ knotsIn a goal) × (p₁ ≡ pointsIn b goal) × (w₁ ≡ weightsIn c goal)
+  unfolding OutMeets
   given (gives ks ps ws) m z p n = (refl, m .1, m .2, m .3)
   given (refuses x) m z p n = absurd (m .1 z)
 
@@ -49,7 +51,7 @@ module _ (p : ℕ) (ks ps : List Float) (g : Bool) (ws ts : List Float) (a b c d
       ends-refused r o k₁ p₁ w₁ K P W
 
   module _ (x : Refusal) (E : x ≡ insertStart p ks ps g ws ts a b c d) (z : x .number ≡ 0) (r : Refusal) (k₁ p₁ w₁ : List Float)
-      (m : ListMeets a b c (insertAll p g (countOf ps) ks ps (givenOf g ws) ts) k₁ p₁ w₁ r) where
+      (m : OutMeets a b c (insertAll p g (countOf ps) ks ps (givenOf g ws) ts) k₁ p₁ w₁ r) where
     opened : goal ≡ insertAll p g (countOf ps) ks ps (givenOf g ws) ts
     unfolding insertOutcome
     opened = simp (skip E z)

@@ -158,21 +158,3 @@ module _ (k m : ℕ) (t : Float) (k₀ : List Float) (b : k < m) (l : m < length
       let U = I .upto in
       let e : i ≡ m + 1 = omega arith in
       subst (λ (j : ℕ). k₁ ≡ tabulate j (knotAt k t k₀) ++ drop j k₀) e (I .front)
-
--- what is put into a run is put into its front
-module _ (k : ℕ) (t : Float) (ks xs : List Float) (m : ℕ) (b : k < m) (same : (j : ℕ) → j < m → at xs j ≡ at ks j) where
-  knot-cong : (j : ℕ) → j < m + 1 → knotAt k t xs j ≡ knotAt k t ks j
-  unfolding knotAt
-  knot-cong j l = go (leb j k) refl (eqb j (k + 1)) refl
-    where
-      go : (x : Bool) → leb j k ≡ x → (y : Bool) → eqb j (k + 1) ≡ y → knotAt k t xs j ≡ knotAt k t ks j
-      go true e y f = let h = leb-true j k e in simp e (same j (omega arith))
-      go false e true f = simp (e, f)
-      go false e false f = let h = leb-false j k e in simp (e, f) (same (j - 1) (omega arith))
-
-pub put-front : (k : ℕ) (t : Float) (xs : List Float) (m : ℕ) → k < m → m ≤ length xs → tabulate (m + 1) (knotAt k t xs) ≡ moreKnots k t (take m xs)
-unfolding moreKnots
-put-front k t xs m b l =
-    let e : length (take m xs) ≡ m = simp length-take (omega arith) in
-    tabulate-cong (m + 1) (knotAt k t xs) (knotAt k t (take m xs)) (knot-cong k t (take m xs) xs m b (λ j h. sym (getD-take m xs j nan h)))
-    ∙ ap (λ (i : ℕ). tabulate (i + 1) (knotAt k t (take m xs))) (sym e)

@@ -16,7 +16,7 @@ use Rattle.insertion.specs.Counts.{countBelow, multiplicityOf, largestOf
 use Rattle.insertion.specs.Rows.{scaleOf, liftAt, blendAt, lowerAt}
 use Rattle.insertion.specs.Insert.{knotAt, moreKnots, inside, spotRefusal, morePoints, moreWeights, formRefusal, insertedKnots, insertedPoints, insertedWeights, insertRefusal}
 use Rattle.insertion.specs.Fold.{Outcome, gives, refuses, insertAll}
-use Rattle.insertion.specs.Start.{clampedEnds, roomFor, insertStart}
+use Rattle.insertion.specs.Start.{clampedEnds, editStart, outRoom, scratchRoom, insertStart}
 use Rattle.insertion.specs.Whole.{insertOutcome}
 
 abbrev d : ℕ → Float
@@ -85,5 +85,5 @@ all [] = true
 all (r ∷ rs) = same (told (r .0)) (r .1) && all rs
 
 pub worked : T (all rows)
-unfolding liftOf isLifted isBlended shareOf blendOf lowerOf countBelow multiplicityOf largestOf allEqual scaleOf liftAt blendAt lowerAt knotAt moreKnots inside spotRefusal morePoints moreWeights formRefusal insertedKnots insertedPoints insertedWeights insertRefusal insertAll clampedEnds roomFor insertStart insertOutcome largestFrom weightOf roomRefusal lastAfter spanOf overLong anyLong isWeight allWeights controlRefusal formedRefusal curveRefusal allFinite inOrder ordered apart orderRefusal knotRefusal allBelow ofBits toBits add sub mul div lt le eq
+unfolding liftOf isLifted isBlended shareOf blendOf lowerOf countBelow multiplicityOf largestOf allEqual scaleOf liftAt blendAt lowerAt knotAt moreKnots inside spotRefusal morePoints moreWeights formRefusal insertedKnots insertedPoints insertedWeights insertRefusal insertAll clampedEnds editStart outRoom scratchRoom insertStart insertOutcome largestFrom weightOf roomRefusal lastAfter spanOf overLong anyLong isWeight allWeights controlRefusal formedRefusal curveRefusal allFinite inOrder ordered apart orderRefusal knotRefusal allBelow ofBits toBits add sub mul div lt le eq
 worked = tt

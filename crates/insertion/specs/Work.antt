@@ -8,7 +8,6 @@ use lib.ListN.{length, take, drop, replicate}
 use lib.Dec.{leb, ltb, eqb}
 use lib.Ieee.{Float}
 use Rattle.doubles.specs.Run.{at}
-use Rattle.doubles.specs.Value.{one+}
 use Rattle.knots.specs.Refusal.{accepted, orElse}
 use Rattle.knots.specs.Clear.{zeros}
 use Rattle.knots.specs.Knots.{knotRefusal}
@@ -20,14 +19,14 @@ use Rattle.evaluate.specs.Shape.{roomRefusal}
 use Rattle.insertion.specs.Rows.{given}
 use Rattle.insertion.specs.Fold.{Outcome, gives, refuses, insertAll}
 
--- number j of the rows of points ps and weights ws; 1.0 stands for a weight that is not given
-unfoldable pub rowNumber : List Float → Bool → List Float → ℕ → Float
-rowNumber ps g ws j = cond (eqb (j % 4) 3) (cond g (at ws (j / 4)) one+) (coordinate ps (j / 4) (j % 4))
+-- number j of the rows of points ps and weights ws; where none are given, x stands for the weight
+unfoldable pub rowNumber : List Float → Bool → List Float → Float → ℕ → Float
+rowNumber ps g ws x j = cond (eqb (j % 4) 3) (cond g (at ws (j / 4)) x) (coordinate ps (j / 4) (j % 4))
 
--- a run d with the curve laid over it
+-- a run d with the curve laid over it. Without weights the fourth number of a row is left as it is
 unfoldable pub laidAt : ℕ → List Float → List Float → List Float → Bool → List Float → ℕ → Float
 laidAt a d ks ps g ws j =
-    cond (ltb j (countOf ps * 4)) (rowNumber ps g ws j) (cond (leb a j && ltb j (a + length ks)) (at ks (j - a)) (at d j))
+    cond (ltb j (countOf ps * 4)) (rowNumber ps g ws (at d j) j) (cond (leb a j && ltb j (a + length ks)) (at ks (j - a)) (at d j))
 
 unfoldable pub laid : ℕ → List Float → List Float → List Float → Bool → List Float → List Float
 laid a d ks ps g ws = tabulate (length d) (laidAt a d ks ps g ws)

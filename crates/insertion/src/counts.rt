@@ -2,7 +2,7 @@
 ghost use mathlib.Core.Path.{_≡_};
 ghost use Prim.Native.Nat.{_+_, _<_};
 ghost use Rattle.evaluate.specs.Controls.{larger};
-ghost use Rattle.insertion.specs.Counts.{bit, multiplicityOf, largestOf, allEqual};
+ghost use Rattle.insertion.specs.Counts.{bit, multiplicityOf, allEqual};
 
 // One more where yes.
 fn more(n: usize, yes: bool) -> usize
@@ -26,24 +26,11 @@ pub fn multiplicity(knots: &[f64], t: f64) -> usize
 }
 
 // The larger of two, and the first where neither is.
-fn larger_of(a: f64, b: f64) -> f64
+pub fn larger_of(a: f64, b: f64) -> f64
     ensures { λ r. ⌜ r ≡ larger a b ⌝ }
 {
     if a < b {
         return b;
-    }
-    a
-}
-
-// The largest weight, and +0.0 where there is none. Weights over it neither overflow nor vanish together.
-pub fn largest(weights: &[f64]) -> f64
-    ensures { λ r. ⌜ r ≡ largestOf (now (weights .entry)) ⌝ }
-{
-    let mut a = 0.0;
-    let mut i = 0usize;
-    while i < weights.len() {
-        a = larger_of(a, weights[i]);
-        i += 1;
     }
     a
 }

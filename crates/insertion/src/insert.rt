@@ -1,12 +1,14 @@
 // Knots inserted into a curve: the public call.
 use crate::answer::EditAnswer;
+use crate::lay::lay_knots;
+use crate::lay::lay_rows;
+use crate::lay::store_curve;
 use crate::list::insert_all;
-use crate::one::given_count;
-use crate::runs::copy_run;
 use crate::start::insert_start;
 use knots::clear::clear;
 use knots::refusal::Refusal;
 ghost use mathlib.Core.Path.{_≡_};
+ghost use mathlib.Core.Bool.{true};
 ghost use Prim.Native.Nat.{_+_, _*_, _/_, _≤_};
 ghost use lib.ListN.{length};
 ghost use Rattle.knots.specs.Clear.{zeros};
@@ -14,7 +16,7 @@ ghost use Rattle.knots.specs.Curve.{ValidCurve};
 ghost use Rattle.insertion.specs.Rows.{given};
 ghost use Rattle.insertion.specs.Fold.{insertAll};
 ghost use Rattle.insertion.specs.Whole.{givenOf, InsertMeets};
-ghost use Rattle.insertion.specs.Passes.{ListMeets};
+ghost use Rattle.insertion.specs.Passes.{CurveIn, OutMeets};
 
 // Every lent run at once: what a refusal leaves.
 fn clear_all(knots: &mut [f64], points: &mut [f64], weights: &mut [f64], rows: &mut [f64])
@@ -26,7 +28,24 @@ fn clear_all(knots: &mut [f64], points: &mut [f64], weights: &mut [f64], rows: &
     clear(rows);
 }
 
-// The curve goes into the outputs, and the knots are inserted there.
+// The curve goes into scratch, its knots to place a.
+fn lay_into(
+    knots: &[f64],
+    points: &[f64],
+    rational: bool,
+    weights: &[f64],
+    a: usize,
+    work: &mut [f64],
+)
+    requires { ⌜ (rational ≡ true → length (now points) / 3 ≤ length (now weights)) ⌝ }
+    requires { ⌜ (length (now points) / 3 * 4 ≤ a) × (a + length (now knots) ≤ length (now work)) ⌝ }
+    ensures { λ _. ⌜ CurveIn a (now (knots .entry)) (now (points .entry)) rational (now (weights .entry)) (now (work .entry)) (now (work .exit)) ⌝ }
+{
+    lay_rows(points.len() / 3, points, rational, weights, work);
+    lay_knots(knots, a, work);
+}
+
+// The curve goes into scratch, the knots are inserted there, and what is formed goes to the outputs.
 fn insert_into(
     degree: usize,
     knots: &[f64],
@@ -37,30 +56,35 @@ fn insert_into(
     out_knots: &mut [f64],
     out_points: &mut [f64],
     out_weights: &mut [f64],
-    rows: &mut [f64],
+    work: &mut [f64],
 ) -> Refusal
     requires { ⌜ ValidCurve degree (now knots) (now points) rational (now weights) ⌝ }
     requires { ⌜ (length (now points) / 3 + length (now inserted) + degree + 1 ≤ length (now «out_knots»)) ⌝ }
     requires { ⌜ ((length (now points) / 3 + length (now inserted)) * 3 ≤ length (now «out_points»)) ⌝ }
     requires { ⌜ (given rational (length (now points) / 3 + length (now inserted)) ≤ length (now «out_weights»)) ⌝ }
-    requires { ⌜ (length (now points) / 3 + length (now inserted)) * 4 ≤ length (now rows) ⌝ }
-    ensures { λ r. ⌜ ListMeets (length (now («out_knots» .entry))) (length (now («out_points» .entry))) (length (now («out_weights» .entry))) (insertAll degree rational (length (now (points .entry)) / 3) (now (knots .entry)) (now (points .entry)) (givenOf rational (now (weights .entry))) (now (inserted .entry))) (now («out_knots» .exit)) (now («out_points» .exit)) (now («out_weights» .exit)) r ⌝ }
+    requires { ⌜ 10 * (length (now points) / 3 + length (now inserted)) + 2 * (degree + 1) ≤ length (now work) ⌝ }
+    ensures { λ r. ⌜ OutMeets (length (now («out_knots» .entry))) (length (now («out_points» .entry))) (length (now («out_weights» .entry))) (insertAll degree rational (length (now (points .entry)) / 3) (now (knots .entry)) (now (points .entry)) (givenOf rational (now (weights .entry))) (now (inserted .entry))) (now («out_knots» .exit)) (now («out_points» .exit)) (now («out_weights» .exit)) r ⌝ }
 {
     let n = points.len() / 3;
-    let c = given_count(rational, n);
-    copy_run(knots, out_knots);
-    copy_run(points, out_points);
-    copy_run(&weights[..c], out_weights);
-    insert_all(
+    let m = n + inserted.len();
+    let a = m * 4;
+    lay_into(knots, points, rational, weights, a, work);
+    let refusal = insert_all(degree, n, rational, inserted, a, work);
+    if refusal.number != 0 {
+        return refusal;
+    }
+    store_curve(
         degree,
-        n,
+        m,
+        0,
         rational,
-        inserted,
+        a,
+        work,
         out_knots,
         out_points,
         out_weights,
-        rows,
-    )
+    );
+    refusal
 }
 
 // The knots are inserted one by one, and the curve that is formed stands in the three outputs, +0.0 behind it. After a refusal, also one halfway through the list, they are +0.0. Scratch is left +0.0.

@@ -1,14 +1,13 @@
-// A list of knots inserted into a curve that stands at the front of lent runs.
+// Several knots inserted into a curve that stands in a lent run.
 use crate::one::insert_one;
 use knots::refusal::Refusal;
 use knots::refusal::refuse;
 ghost use mathlib.Core.Path.{_≡_};
 ghost use Prim.Native.Nat.{_+_, _*_, _≤_};
-ghost use lib.ListN.{length, take};
+ghost use lib.ListN.{length, replicate};
 ghost use Rattle.knots.specs.Knots.{ValidKnots};
-ghost use Rattle.evaluate.specs.Lent.{padded};
-ghost use Rattle.insertion.specs.Rows.{given};
 ghost use Rattle.insertion.specs.Fold.{insertAll};
+ghost use Rattle.insertion.specs.Work.{knotsFrom, pointsFrom, weightsFrom};
 ghost use Rattle.insertion.specs.Passes.{ListMeets};
 
 // Each knot goes into the curve that the one before it formed: all weights are divided by their largest anew, and the first point is the reference anew.
@@ -17,22 +16,42 @@ pub fn insert_all(
     n: usize,
     rational: bool,
     inserted: &[f64],
-    knots: &mut [f64],
-    points: &mut [f64],
-    weights: &mut [f64],
-    rows: &mut [f64],
+    a: usize,
+    work: &mut [f64],
 ) -> Refusal
-    requires { ⌜ ValidKnots p n (take (n + p + 1) (now knots)) ⌝ }
-    requires { ⌜ (n + length (now inserted) + p + 1 ≤ length (now knots)) × (now knots ≡ padded (length (now knots)) (take (n + p + 1) (now knots))) ⌝ }
-    requires { ⌜ ((n + length (now inserted)) * 3 ≤ length (now points)) × (now points ≡ padded (length (now points)) (take (n * 3) (now points))) ⌝ }
-    requires { ⌜ (given rational (n + length (now inserted)) ≤ length (now weights)) × (now weights ≡ padded (length (now weights)) (take (given rational n) (now weights))) ⌝ }
-    requires { ⌜ (n + length (now inserted)) * 4 ≤ length (now rows) ⌝ }
-    ensures { λ r. ⌜ ListMeets (length (now (knots .entry))) (length (now (points .entry))) (length (now (weights .entry))) (insertAll p rational n (take (n + p + 1) (now (knots .entry))) (take (n * 3) (now (points .entry))) (take (given rational n) (now (weights .entry))) (now (inserted .entry))) (now (knots .exit)) (now (points .exit)) (now (weights .exit)) r ⌝ }
+    requires { ⌜ ValidKnots p n (knotsFrom a p n (now work)) ⌝ }
+    requires { ⌜ ((n + length (now inserted)) * 4 ≤ a) × (a + (n + length (now inserted) + p + 1) ≤ length (now work)) ⌝ }
+    ensures { λ r. ⌜ ListMeets a p (n + length (now (inserted .entry))) rational (now (work .entry)) (insertAll p rational n (knotsFrom a p n (now (work .entry))) (pointsFrom n (now (work .entry))) (weightsFrom rational n (now (work .entry))) (now (inserted .entry))) (now (work .exit)) r ⌝ }
 {
     let mut i = 0usize;
     while i < inserted.len() {
         let t = inserted[i];
-        let refusal = insert_one(p, n + i, rational, t, knots, points, weights, rows);
+        let refusal = insert_one(p, n + i, rational, t, a, work);
+        if refusal.number != 0 {
+            return refusal;
+        }
+        i += 1;
+    }
+    refuse(0)
+}
+
+// One knot, m times.
+pub fn insert_many(
+    p: usize,
+    n: usize,
+    rational: bool,
+    t: f64,
+    m: usize,
+    a: usize,
+    work: &mut [f64],
+) -> Refusal
+    requires { ⌜ ValidKnots p n (knotsFrom a p n (now work)) ⌝ }
+    requires { ⌜ ((n + m) * 4 ≤ a) × (a + (n + m + p + 1) ≤ length (now work)) ⌝ }
+    ensures { λ r. ⌜ ListMeets a p (n + m) rational (now (work .entry)) (insertAll p rational n (knotsFrom a p n (now (work .entry))) (pointsFrom n (now (work .entry))) (weightsFrom rational n (now (work .entry))) (replicate m t)) (now (work .exit)) r ⌝ }
+{
+    let mut i = 0usize;
+    while i < m {
+        let refusal = insert_one(p, n + i, rational, t, a, work);
         if refusal.number != 0 {
             return refusal;
         }

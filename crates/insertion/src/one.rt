@@ -1,9 +1,10 @@
-// One knot inserted into a curve that stands at the front of lent runs.
+// One knot inserted into a curve that stands in a lent run.
 use crate::counts::multiplicity;
 use crate::rows::Spot;
 use crate::rows::lift_rows;
 use crate::rows::lower_rows;
-use crate::rows::point_at;
+use crate::rows::row_at;
+use crate::rows::vector_of;
 use crate::runs::put_knot;
 use interval::float::is_finite;
 use knots::refusal::Refusal;
@@ -11,10 +12,10 @@ use knots::refusal::refuse;
 use knots::span::span_of;
 ghost use mathlib.Core.Path.{_≡_};
 ghost use Prim.Native.Nat.{_+_, _*_, _<_, _≤_};
-ghost use lib.ListN.{length, take};
+ghost use lib.ListN.{length};
 ghost use Rattle.knots.specs.Knots.{ValidKnots};
-ghost use Rattle.insertion.specs.Rows.{given};
 ghost use Rattle.insertion.specs.Insert.{moreKnots, inside, spotRefusal};
+ghost use Rattle.insertion.specs.Work.{knotsFrom, pointsFrom, weightsFrom};
 ghost use Rattle.insertion.specs.Passes.{Formed, Inserted};
 
 // Finite, and strictly inside the domain.
@@ -43,69 +44,35 @@ fn spot_refusal(lo: f64, hi: f64, t: f64, p: usize, s: usize) -> Refusal
     refuse(0)
 }
 
-// How many weights n points have.
-pub fn given_count(rational: bool, n: usize) -> usize
-    ensures { λ r. ⌜ r ≡ given rational n ⌝ }
-{
-    if rational { n } else { 0 }
-}
-
 // The knot is inserted where it goes: 19, 20, and 8 of the curve that is formed. Nothing else of 1 to 10 can be: valid knots with a knot more are valid, and what 20 lets pass has a weight.
-fn insert_at(
-    spot: Spot,
-    n: usize,
-    rational: bool,
-    knots: &mut [f64],
-    points: &mut [f64],
-    weights: &mut [f64],
-    rows: &mut [f64],
-) -> Refusal
+fn insert_at(spot: Spot, n: usize, rational: bool, a: usize, work: &mut [f64]) -> Refusal
     requires { ⌜ (spot .s ≤ spot .p) × (spot .p ≤ spot .k) × (spot .k < n) ⌝ }
-    requires { ⌜ n + spot .p + 1 < length (now knots) ⌝ }
-    requires { ⌜ (n + 1) * 3 ≤ length (now points) ⌝ }
-    requires { ⌜ given rational (n + 1) ≤ length (now weights) ⌝ }
-    requires { ⌜ n * 4 ≤ length (now rows) ⌝ }
-    requires { ⌜ ValidKnots (spot .p) (n + 1) (moreKnots (spot .k) (spot .t) (take (n + spot .p + 1) (now knots))) ⌝ }
-    ensures { λ r. ⌜ Formed (spot .p) n (spot .k) (spot .s) (spot .t) (take (n + spot .p + 1) (now (knots .entry))) (take (n * 3) (now (points .entry))) rational (take (given rational n) (now (weights .entry))) (now (knots .entry)) (now (points .entry)) (now (weights .entry)) (now (knots .exit)) (now (points .exit)) (now (weights .exit)) r ⌝ }
+    requires { ⌜ ((n + 1) * 4 ≤ a) × (a + (n + spot .p + 1) < length (now work)) ⌝ }
+    requires { ⌜ ValidKnots (spot .p) (n + 1) (moreKnots (spot .k) (spot .t) (knotsFrom a (spot .p) n (now work))) ⌝ }
+    ensures { λ r. ⌜ Formed a (spot .p) n (spot .k) (spot .s) (spot .t) (knotsFrom a (spot .p) n (now (work .entry))) (pointsFrom n (now (work .entry))) rational (weightsFrom rational n (now (work .entry))) (now (work .entry)) (now (work .exit)) r ⌝ }
 {
-    let m = n + spot.p + 1;
-    let b = n * 3;
-    let c = given_count(rational, n);
-    let ps = &points[..b];
-    let ws = &weights[..c];
-    let o = point_at(ps, 0);
-    if !lift_rows(n, o, ps, rational, ws, rows) {
+    let o = vector_of(row_at(rational, work, 0));
+    if !lift_rows(n, o, rational, work) {
         return refuse(19);
     }
-    let ks = &knots[..m];
-    let late = lower_rows(spot, n, o, ks, rational, rows, points, weights);
+    let late = lower_rows(spot, n, a, o, rational, work);
     if late.number != 0 {
         return late;
     }
-    put_knot(knots, spot.k, m, spot.t);
+    let at = a + spot.k;
+    let end = a + (n + spot.p + 1);
+    put_knot(work, at, end, spot.t);
     late
 }
 
-// The knot t is inserted: 13, 14, 19, 20, and 1 to 10 of the curve that is formed. What the runs hold after a refusal is not said.
-pub fn insert_one(
-    p: usize,
-    n: usize,
-    rational: bool,
-    t: f64,
-    knots: &mut [f64],
-    points: &mut [f64],
-    weights: &mut [f64],
-    rows: &mut [f64],
-) -> Refusal
-    requires { ⌜ ValidKnots p n (take (n + p + 1) (now knots)) ⌝ }
-    requires { ⌜ n + p + 1 < length (now knots) ⌝ }
-    requires { ⌜ (n + 1) * 3 ≤ length (now points) ⌝ }
-    requires { ⌜ given rational (n + 1) ≤ length (now weights) ⌝ }
-    requires { ⌜ n * 4 ≤ length (now rows) ⌝ }
-    ensures { λ r. ⌜ Inserted p n (take (n + p + 1) (now (knots .entry))) (take (n * 3) (now (points .entry))) rational (take (given rational n) (now (weights .entry))) t (now (knots .entry)) (now (points .entry)) (now (weights .entry)) (now (knots .exit)) (now (points .exit)) (now (weights .exit)) r ⌝ }
+// The knot t is inserted: 13, 14, 19, 20, and 1 to 10 of the curve that is formed. What the run holds after a refusal is not said.
+pub fn insert_one(p: usize, n: usize, rational: bool, t: f64, a: usize, work: &mut [f64]) -> Refusal
+    requires { ⌜ ValidKnots p n (knotsFrom a p n (now work)) ⌝ }
+    requires { ⌜ ((n + 1) * 4 ≤ a) × (a + (n + p + 1) < length (now work)) ⌝ }
+    ensures { λ r. ⌜ Inserted a p n (knotsFrom a p n (now (work .entry))) (pointsFrom n (now (work .entry))) rational (weightsFrom rational n (now (work .entry))) t (now (work .entry)) (now (work .exit)) r ⌝ }
 {
-    let m = n + p + 1;
-    let ks = &knots[..m];
+    let end = a + (n + p + 1);
+    let ks = &work[a..end];
     let s = multiplicity(ks, t);
     let early = spot_refusal(ks[p], ks[n], t, p, s);
     if early.number != 0 {
@@ -113,5 +80,5 @@ pub fn insert_one(
     }
     let k = span_of(p, n, t, ks);
     let spot = Spot { p, k, s, t };
-    insert_at(spot, n, rational, knots, points, weights, rows)
+    insert_at(spot, n, rational, a, work)
 }

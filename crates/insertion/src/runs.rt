@@ -21,7 +21,7 @@ fn copy_front(xs: &[f64], out: &mut [f64])
 }
 
 // The numbers from a place on become +0.0.
-fn clear_from(xs: &mut [f64], from: usize)
+pub fn clear_from(xs: &mut [f64], from: usize)
     requires { ⌜ from ≤ length (now xs) ⌝ }
     ensures { λ _. ⌜ now (xs .exit) ≡ take from (now (xs .entry)) ++ zeros (length (now (xs .entry)) - from) ⌝ }
 {

@@ -1,15 +1,15 @@
-// The refusals of an insertion before anything is formed.
+// The refusals of an edit before anything is formed.
 use crate::counts::all_equal;
-use crate::one::given_count;
+use crate::lay::given_count;
 use evaluate::shape::room_refusal;
 use knots::curve::curve_refusal;
 use knots::limits::over_long;
 use knots::refusal::Refusal;
 use knots::refusal::refuse;
 ghost use mathlib.Core.Path.{_≡_};
-ghost use Prim.Native.Nat.{_+_, _<_, _≤_};
+ghost use Prim.Native.Nat.{_+_, _<_};
 ghost use lib.ListN.{length};
-ghost use Rattle.insertion.specs.Start.{clampedEnds, roomFor, insertStart};
+ghost use Rattle.insertion.specs.Start.{clampedEnds, editStart, outRoom, scratchRoom, insertStart};
 
 // The degree + 1 first knots are one number, and so are the degree + 1 last.
 fn clamped_ends(p: usize, n: usize, knots: &[f64]) -> bool
@@ -23,24 +23,53 @@ fn clamped_ends(p: usize, n: usize, knots: &[f64]) -> bool
     all_equal(&knots[n..], knots[n])
 }
 
-// 30 for lent runs of a, b, c and d numbers: knots, points and weights of n points, and scratch.
-fn room_for(p: usize, n: usize, rational: bool, a: usize, b: usize, c: usize, d: usize) -> Refusal
-    requires { ⌜ (p ≤ 1048576) × (n ≤ 2097152) ⌝ }
-    ensures { λ r. ⌜ r ≡ roomFor p n rational a b c d ⌝ }
+// The curve's refusal, 17.
+pub fn edit_start(
+    degree: usize,
+    knots: &[f64],
+    points: &[f64],
+    rational: bool,
+    weights: &[f64],
+) -> Refusal
+    ensures { λ r. ⌜ r ≡ editStart degree (now (knots .entry)) (now (points .entry)) rational (now (weights .entry)) ⌝ }
 {
-    let first = room_refusal(a, n + p + 1);
-    if first.number != 0 {
-        return first;
+    let curve = curve_refusal(degree, knots, points, rational, weights);
+    if curve.number != 0 {
+        return curve;
     }
-    let second = room_refusal(b, n * 3);
-    if second.number != 0 {
-        return second;
+    if !clamped_ends(degree, points.len() / 3, knots) {
+        return refuse(17);
     }
-    let third = room_refusal(c, given_count(rational, n));
-    if third.number != 0 {
-        return third;
+    refuse(0)
+}
+
+// 30 for outputs of a, b and c numbers: knots, points and weights of n points. No sum is formed that could be too large.
+pub fn out_room(p: usize, n: usize, rational: bool, a: usize, b: usize, c: usize) -> Refusal
+    ensures { λ r. ⌜ r ≡ outRoom p n rational a b c ⌝ }
+{
+    if n > a {
+        return refuse(30);
     }
-    room_refusal(d, 10 * n + 2 * (p + 1))
+    if p >= a - n {
+        return refuse(30);
+    }
+    if n > b / 3 {
+        return refuse(30);
+    }
+    room_refusal(c, given_count(rational, n))
+}
+
+// 30 for scratch of d numbers, for a curve of degree p that has n points where it has most.
+pub fn scratch_room(p: usize, n: usize, d: usize) -> Refusal
+    ensures { λ r. ⌜ r ≡ scratchRoom p n d ⌝ }
+{
+    if n > d / 10 {
+        return refuse(30);
+    }
+    if p >= (d - 10 * n) / 2 {
+        return refuse(30);
+    }
+    refuse(0)
 }
 
 // 30 for the list, the curve's refusal, 17, 30 for the lent runs.
@@ -61,13 +90,14 @@ pub fn insert_start(
     if over_long(true, inserted) {
         return refuse(30);
     }
-    let curve = curve_refusal(degree, knots, points, rational, weights);
-    if curve.number != 0 {
-        return curve;
+    let early = edit_start(degree, knots, points, rational, weights);
+    if early.number != 0 {
+        return early;
     }
-    let n = points.len() / 3;
-    if !clamped_ends(degree, n, knots) {
-        return refuse(17);
+    let n = points.len() / 3 + inserted.len();
+    let room = out_room(degree, n, rational, a, b, c);
+    if room.number != 0 {
+        return room;
     }
-    room_for(degree, n + inserted.len(), rational, a, b, c, d)
+    scratch_room(degree, n, d)
 }

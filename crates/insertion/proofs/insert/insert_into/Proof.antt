@@ -1,87 +1,81 @@
--- `insertion::insert::insert_into` meets its contract.
--- Assumes nothing.
-use mathlib.Core.Path.{sym, _∙_, subst}
-use Prim.Native.Nat.{_+_, _*_, _/_}
+use mathlib.Core.Path.{_≡_, refl, sym, _∙_, ap, subst}
+use Prim.Native.Nat.{_+_, _-_, _*_, _/_, _≤_}
 use native.Mathlib.Omega.{arith}
 use denote.Ref.{now}
-use lib.ListN.{length, take, length-take}
-use borrow.Author.Needs.{needs}
-use Rattle.insertion.proofs.Starting.{loaded, given-is, given-in, meets-moved, thirds}
-use Rattle.insertion.specs.Rows.{given}
-use Rattle.insertion.proofs.Folds.{given-mono}
+use lib.ListN.{length}
 use Rattle.knots.specs.Knots.{ValidKnots}
+use Rattle.insertion.proofs.Starting.{thirds}
+use Rattle.insertion.proofs.Laying.{knots-back, points-back, weights-back, goal-is, out-refused, out-formed}
+use borrow.Author.Needs.{needs}
 use Rattle.insertion.proofs.insert.insert_into.Statement.{statement}
 use Rattle.insertion.proofs.insert.insert_into.Tie as tie
+use Rattle.insertion.proofs.insert.insert_into.Reads as reads
+use Rattle.insertion.proofs.insert.insert_into.Lts as lts
+use Rattle.insertion.proofs.insert.lay_into.Reads as lay-into-reads
+use Rattle.insertion.proofs.lay.store_curve.Reads as store-curve-reads
+use Rattle.insertion.proofs.list.insert_all.Reads as insert-all-reads
 
-given-count-requires : tie.Need-given-count-requires
-given-count-requires c κs = search needs
+-- src/insert.rt:69:13
+add-m : tie.Need-add-m
+add-m c = let q = c .before .before .before .before .before .before .before .before .pre .1 .1 .1 .1 in let g = c .before .before .before .before .before .before .before .before .good in let f = c .before .before .before .before .before .before .before .before .fits in search needs
 
-copy-run-requires : tie.Need-copy-run-requires
-copy-run-requires c κs = let l = c .before .before .before .before .before .before .before .before .before .before .pre .0 .knots .long in
-    let r = c .before .before .before .before .before .before .before .before .before .before .pre .1 .0 in
-    omega arith
+-- src/insert.rt:70:13
+mul-a : tie.Need-mul-a
+mul-a c = let q = c .before .before .before .before .before .before .before .before .pre .1 .1 .1 .1 in let g = c .before .before .before .before .before .before .before .before .good in let f = c .before .before .before .before .before .before .before .before .fits in search needs
 
-copy-run-requires-2 : tie.Need-copy-run-requires-2
-copy-run-requires-2 c κs = let l = c .before .before .before .before .before .before .before .before .before .before .before .before .before .before .pre .0 .triples in
-    let r = c .before .before .before .before .before .before .before .before .before .before .before .before .before .before .pre .1 .1 .0 in
-    omega arith
+-- src/insert.rt:71:5
+lay-into-requires : tie.Need-lay-into-requires
+lay-into-requires c κs = let q = c .before .before .before .before .before .before .before .before .before .pre .1 .1 .1 .1 in let l = c .before .before .before .before .before .before .before .before .before .pre .0 .knots .long in ((λ g. let w = c .before .before .before .before .before .before .before .before .before .pre .0 .controls .weights g in omega arith), (omega arith, omega arith))
 
-slice-aggregate-copy-run : tie.Need-slice-aggregate-copy-run
-slice-aggregate-copy-run c = let l = given-in (c .before .before .before .before .before .before .before .before .before .before .before .before .before .before .before .before .before .before .args .rational) (length (now (c .before .before .before .before .before .before .before .before .before .before .before .before .before .before .before .before .before .before .args .points)) / 3) _ (now (c .before .before .before .before .before .before .before .before .before .before .before .before .before .before .before .before .before .before .args .weights)) (c .before .before .before .before .before .before .before .before .before .before .before .before .before .before .before .before .before .before .pre .0 .controls .weights) (c .before .before .before .before .before .before .before .before .before .given-count .ensures) in
-    simp length-take (omega arith)
-
-copy-run-requires-3 : tie.Need-copy-run-requires-3
-copy-run-requires-3 c κs = let g = given-is (c .before .before .before .before .before .before .before .before .before .before .before .before .before .before .before .before .before .before .before .args .rational) (length (now (c .before .before .before .before .before .before .before .before .before .before .before .before .before .before .before .before .before .before .before .args .points)) / 3) _ (now (c .before .before .before .before .before .before .before .before .before .before .before .before .before .before .before .before .before .before .before .args .weights)) (c .before .before .before .before .before .before .before .before .before .before .before .before .before .before .before .before .before .before .before .pre .0 .controls .weights) (c .before .before .before .before .before .before .before .before .before .before .given-count .ensures) in
-    let e = g .1 in
-    let m = given-mono (c .before .before .before .before .before .before .before .before .before .before .before .before .before .before .before .before .before .before .before .args .rational) (length (now (c .before .before .before .before .before .before .before .before .before .before .before .before .before .before .before .before .before .before .before .args .points)) / 3) ((length (now (c .before .before .before .before .before .before .before .before .before .before .before .before .before .before .before .before .before .before .before .args .points)) / 3) + length (now (c .before .before .before .before .before .before .before .before .before .before .before .before .before .before .before .before .before .before .before .args .inserted))) (omega arith) in
-    let r = c .before .before .before .before .before .before .before .before .before .before .before .before .before .before .before .before .before .before .before .pre .1 .1 .1 .0 in
-    omega arith
-
+-- src/insert.rt:72:9
 insert-all-requires : tie.Need-insert-all-requires
-insert-all-requires c κs = let g = given-is (c .before .before .before .before .before .before .before .before .before .before .before .before .before .before .before .before .before .before .before .before .before .before .before .before .before .before .args .rational) (length (now (c .before .before .before .before .before .before .before .before .before .before .before .before .before .before .before .before .before .before .before .before .before .before .before .before .before .before .args .points)) / 3) _ (now (c .before .before .before .before .before .before .before .before .before .before .before .before .before .before .before .before .before .before .before .before .before .before .before .before .before .before .args .weights)) (c .before .before .before .before .before .before .before .before .before .before .before .before .before .before .before .before .before .before .before .before .before .before .before .before .before .before .pre .0 .controls .weights) (c .before .before .before .before .before .before .before .before .before .before .before .before .before .before .before .before .before .given-count .ensures) in
-    let k = loaded ((length (now (c .before .before .before .before .before .before .before .before .before .before .before .before .before .before .before .before .before .before .before .before .before .before .before .before .before .before .args .points)) / 3) + c .before .before .before .before .before .before .before .before .before .before .before .before .before .before .before .before .before .before .before .before .before .before .before .before .before .before .args .degree + 1) (now (c .before .before .before .before .before .before .before .before .before .before .before .before .before .before .before .before .before .before .before .before .before .before .before .before .before .before .args .knots)) _ (length (now (c .before .before .before .before .before .before .before .before .before .before .before .before .before .before .before .before .before .before .before .before .before .before .before .before .before .before .args .out-knots))) (c .before .before .before .before .before .before .before .before .before .before .before .before .before .before .before .copy-run .ensures) (c .before .before .before .before .before .before .before .before .before .before .before .before .before .before .out-knots .given) (c .before .before .before .before .before .before .before .before .before .before .before .before .before .before .before .before .before .before .before .before .before .before .before .before .before .before .pre .0 .knots .long) in
-    let p = loaded ((length (now (c .before .before .before .before .before .before .before .before .before .before .before .before .before .before .before .before .before .before .before .before .before .before .before .before .before .before .args .points)) / 3) * 3) (now (c .before .before .before .before .before .before .before .before .before .before .before .before .before .before .before .before .before .before .before .before .before .before .before .before .before .before .args .points)) _ (length (now (c .before .before .before .before .before .before .before .before .before .before .before .before .before .before .before .before .before .before .before .before .before .before .before .before .before .before .args .out-points))) (c .before .before .before .before .before .before .before .before .before .before .before .copy-run2 .ensures) (c .before .before .before .before .before .before .before .before .before .before .out-points .given) (thirds (c .before .before .before .before .before .before .before .before .before .before .before .before .before .before .before .before .before .before .before .before .before .before .before .before .before .before .pre .0 .triples)) in
-    let w = loaded (given (c .before .before .before .before .before .before .before .before .before .before .before .before .before .before .before .before .before .before .before .before .before .before .before .before .before .before .args .rational) (length (now (c .before .before .before .before .before .before .before .before .before .before .before .before .before .before .before .before .before .before .before .before .before .before .before .before .before .before .args .points)) / 3)) (take (c .before .before .before .before .before .before .before .before .before .before .before .before .before .before .before .before .before .given-count .result) (now (c .before .before .before .before .before .before .before .before .before .before .before .before .before .before .before .before .before .before .before .before .before .before .before .before .before .before .args .weights))) _ (length (now (c .before .before .before .before .before .before .before .before .before .before .before .before .before .before .before .before .before .before .before .before .before .before .before .before .before .before .args .out-weights))) (c .before .before .before .before .before .before .copy-run3 .ensures) (c .before .before .before .before .before .out-weights .given) (g .1) in
-    let q = c .before .before .before .before .before .before .before .before .before .before .before .before .before .before .before .before .before .before .before .before .before .before .before .before .before .before .pre in
-    let a = c .before .before .before .before .before .before .before .before .before .before .before .before .before .before .out-knots .given in
-    let b = c .before .before .before .before .before .before .before .before .before .before .out-points .given in
-    let d = c .before .before .before .before .before .out-weights .given in
-    let x = q .1 .0 in
-    let y = q .1 .1 .0 in
-    let z = q .1 .1 .1 .0 in
-    (subst (ValidKnots (c .before .before .before .before .before .before .before .before .before .before .before .before .before .before .before .before .before .before .before .before .before .before .before .before .before .before .args .degree) (length (now (c .before .before .before .before .before .before .before .before .before .before .before .before .before .before .before .before .before .before .before .before .before .before .before .before .before .before .args .points)) / 3)) (sym (k .0)) (q .0 .knots), ((omega arith, k .1), ((omega arith, p .1), ((omega arith, w .1), q .1 .1 .1 .1))))
+insert-all-requires c κs = let q = c .before .before .before .before .before .before .before .before .before .before .before .before .before .pre .1 .1 .1 .1 in let w = c .before .before .work .given in (subst (ValidKnots (c .before .before .before .before .before .before .before .before .before .before .before .before .before .args .degree) (length (now (c .before .before .before .before .before .before .before .before .before .before .before .before .before .args .points)) / 3)) (sym (knots-back (((length (now (c .before .before .before .before .before .before .before .before .before .before .before .before .before .args .points)) / 3) + length (now (c .before .before .before .before .before .before .before .before .before .before .before .before .before .args .inserted))) * 4) (now (c .before .before .before .before .before .before .before .before .before .before .before .before .before .args .knots)) (now (c .before .before .before .before .before .before .before .before .before .before .before .before .before .args .points)) (c .before .before .before .before .before .before .before .before .before .before .before .before .before .args .rational) (now (c .before .before .before .before .before .before .before .before .before .before .before .before .before .args .weights)) (now (c .before .before .before .before .before .before .before .before .before .before .before .before .before .args .work)) _ (c .before .before .before .lay-into .ensures) (c .before .before .before .before .before .before .before .before .before .before .before .before .before .args .degree) (length (now (c .before .before .before .before .before .before .before .before .before .before .before .before .before .args .points)) / 3) (c .before .before .before .before .before .before .before .before .before .before .before .before .before .pre .0 .knots .long))) (c .before .before .before .before .before .before .before .before .before .before .before .before .before .pre .0 .knots), (omega arith, omega arith))
 
+-- src/insert.rt:74:9
 same-length : tie.Need-same-length
-same-length c = search needs
+same-length c = c .before .before .before .work2 .given ∙ c .before .before .before .before .before .before .before .work .given
 
-same-length-2 : tie.Need-same-length-2
-same-length-2 c = search needs
-
-same-length-3 : tie.Need-same-length-3
-same-length-3 c = search needs
-
-same-length-4 : tie.Need-same-length-4
-same-length-4 c = search needs
-
+-- src/insert.rt:74:9
 returns : tie.Need-returns
-returns c = let g = given-is (c .before .before .before .before .before .before .before .before .before .before .before .before .before .before .before .before .before .before .before .before .before .before .before .before .before .before .before .before .before .before .before .before .before .before .before .args .rational) (length (now (c .before .before .before .before .before .before .before .before .before .before .before .before .before .before .before .before .before .before .before .before .before .before .before .before .before .before .before .before .before .before .before .before .before .before .before .args .points)) / 3) _ (now (c .before .before .before .before .before .before .before .before .before .before .before .before .before .before .before .before .before .before .before .before .before .before .before .before .before .before .before .before .before .before .before .before .before .before .before .args .weights)) (c .before .before .before .before .before .before .before .before .before .before .before .before .before .before .before .before .before .before .before .before .before .before .before .before .before .before .before .before .before .before .before .before .before .before .before .pre .0 .controls .weights) (c .before .before .before .before .before .before .before .before .before .before .before .before .before .before .before .before .before .before .before .before .before .before .before .before .before .before .given-count .ensures) in
-    let k = loaded ((length (now (c .before .before .before .before .before .before .before .before .before .before .before .before .before .before .before .before .before .before .before .before .before .before .before .before .before .before .before .before .before .before .before .before .before .before .before .args .points)) / 3) + c .before .before .before .before .before .before .before .before .before .before .before .before .before .before .before .before .before .before .before .before .before .before .before .before .before .before .before .before .before .before .before .before .before .before .before .args .degree + 1) (now (c .before .before .before .before .before .before .before .before .before .before .before .before .before .before .before .before .before .before .before .before .before .before .before .before .before .before .before .before .before .before .before .before .before .before .before .args .knots)) _ (length (now (c .before .before .before .before .before .before .before .before .before .before .before .before .before .before .before .before .before .before .before .before .before .before .before .before .before .before .before .before .before .before .before .before .before .before .before .args .out-knots))) (c .before .before .before .before .before .before .before .before .before .before .before .before .before .before .before .before .before .before .before .before .before .before .before .before .copy-run .ensures) (c .before .before .before .before .before .before .before .before .before .before .before .before .before .before .before .before .before .before .before .before .before .before .before .out-knots .given) (c .before .before .before .before .before .before .before .before .before .before .before .before .before .before .before .before .before .before .before .before .before .before .before .before .before .before .before .before .before .before .before .before .before .before .before .pre .0 .knots .long) in
-    let p = loaded ((length (now (c .before .before .before .before .before .before .before .before .before .before .before .before .before .before .before .before .before .before .before .before .before .before .before .before .before .before .before .before .before .before .before .before .before .before .before .args .points)) / 3) * 3) (now (c .before .before .before .before .before .before .before .before .before .before .before .before .before .before .before .before .before .before .before .before .before .before .before .before .before .before .before .before .before .before .before .before .before .before .before .args .points)) _ (length (now (c .before .before .before .before .before .before .before .before .before .before .before .before .before .before .before .before .before .before .before .before .before .before .before .before .before .before .before .before .before .before .before .before .before .before .before .args .out-points))) (c .before .before .before .before .before .before .before .before .before .before .before .before .before .before .before .before .before .before .before .before .copy-run2 .ensures) (c .before .before .before .before .before .before .before .before .before .before .before .before .before .before .before .before .before .before .before .out-points .given) (thirds (c .before .before .before .before .before .before .before .before .before .before .before .before .before .before .before .before .before .before .before .before .before .before .before .before .before .before .before .before .before .before .before .before .before .before .before .pre .0 .triples)) in
-    let w = loaded (given (c .before .before .before .before .before .before .before .before .before .before .before .before .before .before .before .before .before .before .before .before .before .before .before .before .before .before .before .before .before .before .before .before .before .before .before .args .rational) (length (now (c .before .before .before .before .before .before .before .before .before .before .before .before .before .before .before .before .before .before .before .before .before .before .before .before .before .before .before .before .before .before .before .before .before .before .before .args .points)) / 3)) (take (c .before .before .before .before .before .before .before .before .before .before .before .before .before .before .before .before .before .before .before .before .before .before .before .before .before .before .given-count .result) (now (c .before .before .before .before .before .before .before .before .before .before .before .before .before .before .before .before .before .before .before .before .before .before .before .before .before .before .before .before .before .before .before .before .before .before .before .args .weights))) _ (length (now (c .before .before .before .before .before .before .before .before .before .before .before .before .before .before .before .before .before .before .before .before .before .before .before .before .before .before .before .before .before .before .before .before .before .before .before .args .out-weights))) (c .before .before .before .before .before .before .before .before .before .before .before .before .before .before .before .copy-run3 .ensures) (c .before .before .before .before .before .before .before .before .before .before .before .before .before .before .out-weights .given) (g .1) in
-    meets-moved (c .before .before .before .before .before .before .before .before .before .before .before .before .before .before .before .before .before .before .before .before .before .before .before .before .before .before .before .before .before .before .before .before .before .before .before .args .degree) (c .before .before .before .before .before .before .before .before .before .before .before .before .before .before .before .before .before .before .before .before .before .before .before .before .before .before .before .before .before .before .before .before .before .before .before .args .rational) (length (now (c .before .before .before .before .before .before .before .before .before .before .before .before .before .before .before .before .before .before .before .before .before .before .before .before .before .before .before .before .before .before .before .before .before .before .before .args .points)) / 3) (now (c .before .before .before .before .before .before .before .before .before .before .before .before .before .before .before .before .before .before .before .before .before .before .before .before .before .before .before .before .before .before .before .before .before .before .before .args .inserted)) (length (now (c .before .before .before .before .before .before .before .before .before .before .before .before .before .before .before .before .before .before .before .before .before .before .before .before .before .before .before .before .before .before .before .before .before .before .before .args .out-knots))) _ (length (now (c .before .before .before .before .before .before .before .before .before .before .before .before .before .before .before .before .before .before .before .before .before .before .before .before .before .before .before .before .before .before .before .before .before .before .before .args .out-points))) _ (length (now (c .before .before .before .before .before .before .before .before .before .before .before .before .before .before .before .before .before .before .before .before .before .before .before .before .before .before .before .before .before .before .before .before .before .before .before .args .out-weights))) _ _ _ _ _ _ _ _ _ _ _ (c .before .before .before .before .before .before .before .before .before .before .before .before .before .before .before .before .before .before .before .before .before .before .before .out-knots .given) (c .before .before .before .before .before .before .before .before .before .before .before .before .before .before .before .before .before .before .before .out-points .given) (c .before .before .before .before .before .before .before .before .before .before .before .before .before .before .out-weights .given) (k .0) (p .0) (w .0 ∙ g .0) (c .before .before .before .before .before .before .before .before .insert-all .ensures)
+returns c = out-refused (((length (now (c .before .before .before .before .before .before .before .before .before .before .before .before .before .before .before .before .before .before .args .points)) / 3) + length (now (c .before .before .before .before .before .before .before .before .before .before .before .before .before .before .before .before .before .before .args .inserted))) * 4) (c .before .before .before .before .before .before .before .before .before .before .before .before .before .before .before .before .before .before .args .degree) ((length (now (c .before .before .before .before .before .before .before .before .before .before .before .before .before .before .before .before .before .before .args .points)) / 3) + length (now (c .before .before .before .before .before .before .before .before .before .before .before .before .before .before .before .before .before .before .args .inserted))) (c .before .before .before .before .before .before .before .before .before .before .before .before .before .before .before .before .before .before .args .rational) _ _ _ (length (now (c .before .before .before .before .before .before .before .before .before .before .before .before .before .before .before .before .before .before .args .out-knots))) (length (now (c .before .before .before .before .before .before .before .before .before .before .before .before .before .before .before .before .before .before .args .out-points))) (length (now (c .before .before .before .before .before .before .before .before .before .before .before .before .before .before .before .before .before .before .args .out-weights))) _ _ _ _ _ (goal-is (c .before .before .before .before .before .before .before .before .before .before .before .before .before .before .before .before .before .before .args .degree) (c .before .before .before .before .before .before .before .before .before .before .before .before .before .before .before .before .before .before .args .rational) (length (now (c .before .before .before .before .before .before .before .before .before .before .before .before .before .before .before .before .before .before .args .points)) / 3) (now (c .before .before .before .before .before .before .before .before .before .before .before .before .before .before .before .before .before .before .args .inserted)) (knots-back (((length (now (c .before .before .before .before .before .before .before .before .before .before .before .before .before .before .before .before .before .before .args .points)) / 3) + length (now (c .before .before .before .before .before .before .before .before .before .before .before .before .before .before .before .before .before .before .args .inserted))) * 4) (now (c .before .before .before .before .before .before .before .before .before .before .before .before .before .before .before .before .before .before .args .knots)) (now (c .before .before .before .before .before .before .before .before .before .before .before .before .before .before .before .before .before .before .args .points)) (c .before .before .before .before .before .before .before .before .before .before .before .before .before .before .before .before .before .before .args .rational) (now (c .before .before .before .before .before .before .before .before .before .before .before .before .before .before .before .before .before .before .args .weights)) (now (c .before .before .before .before .before .before .before .before .before .before .before .before .before .before .before .before .before .before .args .work)) _ (c .before .before .before .before .before .before .before .before .lay-into .ensures) (c .before .before .before .before .before .before .before .before .before .before .before .before .before .before .before .before .before .before .args .degree) (length (now (c .before .before .before .before .before .before .before .before .before .before .before .before .before .before .before .before .before .before .args .points)) / 3) (c .before .before .before .before .before .before .before .before .before .before .before .before .before .before .before .before .before .before .pre .0 .knots .long)) (points-back (((length (now (c .before .before .before .before .before .before .before .before .before .before .before .before .before .before .before .before .before .before .args .points)) / 3) + length (now (c .before .before .before .before .before .before .before .before .before .before .before .before .before .before .before .before .before .before .args .inserted))) * 4) (now (c .before .before .before .before .before .before .before .before .before .before .before .before .before .before .before .before .before .before .args .knots)) (now (c .before .before .before .before .before .before .before .before .before .before .before .before .before .before .before .before .before .before .args .points)) (c .before .before .before .before .before .before .before .before .before .before .before .before .before .before .before .before .before .before .args .rational) (now (c .before .before .before .before .before .before .before .before .before .before .before .before .before .before .before .before .before .before .args .weights)) (now (c .before .before .before .before .before .before .before .before .before .before .before .before .before .before .before .before .before .before .args .work)) _ (c .before .before .before .before .before .before .before .before .lay-into .ensures) (thirds (c .before .before .before .before .before .before .before .before .before .before .before .before .before .before .before .before .before .before .pre .0 .triples))) (weights-back (((length (now (c .before .before .before .before .before .before .before .before .before .before .before .before .before .before .before .before .before .before .args .points)) / 3) + length (now (c .before .before .before .before .before .before .before .before .before .before .before .before .before .before .before .before .before .before .args .inserted))) * 4) (now (c .before .before .before .before .before .before .before .before .before .before .before .before .before .before .before .before .before .before .args .knots)) (now (c .before .before .before .before .before .before .before .before .before .before .before .before .before .before .before .before .before .before .args .points)) (c .before .before .before .before .before .before .before .before .before .before .before .before .before .before .before .before .before .before .args .rational) (now (c .before .before .before .before .before .before .before .before .before .before .before .before .before .before .before .before .before .before .args .weights)) (now (c .before .before .before .before .before .before .before .before .before .before .before .before .before .before .before .before .before .before .args .work)) _ (c .before .before .before .before .before .before .before .before .lay-into .ensures) (c .before .before .before .before .before .before .before .before .before .before .before .before .before .before .before .before .before .before .args .rational) refl (c .before .before .before .before .before .before .before .before .before .before .before .before .before .before .before .before .before .before .pre .0 .controls .weights))) (c .before .before .before .before .insert-all .ensures) (c .if1 .taken)
+
+-- src/insert.rt:76:5
+store-curve-requires : tie.Need-store-curve-requires
+store-curve-requires c κs = let q = c .before .before .before .before .before .before .before .before .before .before .before .before .before .before .before .before .before .before .before .before .before .before .pre .1 .1 .1 .1 in let w = c .before .before .before .before .before .before .before .before .before .before .before .work .given in let v = c .before .before .before .before .before .before .before .work2 .given in let x = c .before .before .before .before .before .before .before .before .before .before .before .before .before .before .before .before .before .before .before .before .before .before .pre .1 .0 in ((omega arith, omega arith), (omega arith, (c .before .before .before .before .before .before .before .before .before .before .before .before .before .before .before .before .before .before .before .before .before .before .pre .1 .1 .0, c .before .before .before .before .before .before .before .before .before .before .before .before .before .before .before .before .before .before .before .before .before .before .pre .1 .1 .1 .0)))
+
+-- src/insert.rt:49:1
+same-length-2 : tie.Need-same-length-2
+same-length-2 c = c .before .before .before .before .before .out-knots .given
+
+-- src/insert.rt:49:1
+same-length-3 : tie.Need-same-length-3
+same-length-3 c = c .before .before .before .out-points .given
+
+-- src/insert.rt:49:1
+same-length-4 : tie.Need-same-length-4
+same-length-4 c = c .before .out-weights .given
+
+-- src/insert.rt:49:1
+same-length-5 : tie.Need-same-length-5
+same-length-5 c = c .before .before .before .before .before .before .before .before .before .before .before .before .before .before .work2 .given ∙ c .before .before .before .before .before .before .before .before .before .before .before .before .before .before .before .before .before .before .work .given
+
+-- src/insert.rt:49:1
+returns-2 : tie.Need-returns-2
+returns-2 c = out-formed (((length (now (c .before .before .before .before .before .before .before .before .before .before .before .before .before .before .before .before .before .before .before .before .before .before .before .before .before .before .before .before .before .args .points)) / 3) + length (now (c .before .before .before .before .before .before .before .before .before .before .before .before .before .before .before .before .before .before .before .before .before .before .before .before .before .before .before .before .before .args .inserted))) * 4) (c .before .before .before .before .before .before .before .before .before .before .before .before .before .before .before .before .before .before .before .before .before .before .before .before .before .before .before .before .before .args .degree) ((length (now (c .before .before .before .before .before .before .before .before .before .before .before .before .before .before .before .before .before .before .before .before .before .before .before .before .before .before .before .before .before .args .points)) / 3) + length (now (c .before .before .before .before .before .before .before .before .before .before .before .before .before .before .before .before .before .before .before .before .before .before .before .before .before .before .before .before .before .args .inserted))) (c .before .before .before .before .before .before .before .before .before .before .before .before .before .before .before .before .before .before .before .before .before .before .before .before .before .before .before .before .before .args .rational) _ _ _ (length (now (c .before .before .before .before .before .before .before .before .before .before .before .before .before .before .before .before .before .before .before .before .before .before .before .before .before .before .before .before .before .args .out-knots))) (length (now (c .before .before .before .before .before .before .before .before .before .before .before .before .before .before .before .before .before .before .before .before .before .before .before .before .before .before .before .before .before .args .out-points))) (length (now (c .before .before .before .before .before .before .before .before .before .before .before .before .before .before .before .before .before .before .before .before .before .before .before .before .before .before .before .before .before .args .out-weights))) _ _ _ _ _ (goal-is (c .before .before .before .before .before .before .before .before .before .before .before .before .before .before .before .before .before .before .before .before .before .before .before .before .before .before .before .before .before .args .degree) (c .before .before .before .before .before .before .before .before .before .before .before .before .before .before .before .before .before .before .before .before .before .before .before .before .before .before .before .before .before .args .rational) (length (now (c .before .before .before .before .before .before .before .before .before .before .before .before .before .before .before .before .before .before .before .before .before .before .before .before .before .before .before .before .before .args .points)) / 3) (now (c .before .before .before .before .before .before .before .before .before .before .before .before .before .before .before .before .before .before .before .before .before .before .before .before .before .before .before .before .before .args .inserted)) (knots-back (((length (now (c .before .before .before .before .before .before .before .before .before .before .before .before .before .before .before .before .before .before .before .before .before .before .before .before .before .before .before .before .before .args .points)) / 3) + length (now (c .before .before .before .before .before .before .before .before .before .before .before .before .before .before .before .before .before .before .before .before .before .before .before .before .before .before .before .before .before .args .inserted))) * 4) (now (c .before .before .before .before .before .before .before .before .before .before .before .before .before .before .before .before .before .before .before .before .before .before .before .before .before .before .before .before .before .args .knots)) (now (c .before .before .before .before .before .before .before .before .before .before .before .before .before .before .before .before .before .before .before .before .before .before .before .before .before .before .before .before .before .args .points)) (c .before .before .before .before .before .before .before .before .before .before .before .before .before .before .before .before .before .before .before .before .before .before .before .before .before .before .before .before .before .args .rational) (now (c .before .before .before .before .before .before .before .before .before .before .before .before .before .before .before .before .before .before .before .before .before .before .before .before .before .before .before .before .before .args .weights)) (now (c .before .before .before .before .before .before .before .before .before .before .before .before .before .before .before .before .before .before .before .before .before .before .before .before .before .before .before .before .before .args .work)) _ (c .before .before .before .before .before .before .before .before .before .before .before .before .before .before .before .before .before .before .before .lay-into .ensures) (c .before .before .before .before .before .before .before .before .before .before .before .before .before .before .before .before .before .before .before .before .before .before .before .before .before .before .before .before .before .args .degree) (length (now (c .before .before .before .before .before .before .before .before .before .before .before .before .before .before .before .before .before .before .before .before .before .before .before .before .before .before .before .before .before .args .points)) / 3) (c .before .before .before .before .before .before .before .before .before .before .before .before .before .before .before .before .before .before .before .before .before .before .before .before .before .before .before .before .before .pre .0 .knots .long)) (points-back (((length (now (c .before .before .before .before .before .before .before .before .before .before .before .before .before .before .before .before .before .before .before .before .before .before .before .before .before .before .before .before .before .args .points)) / 3) + length (now (c .before .before .before .before .before .before .before .before .before .before .before .before .before .before .before .before .before .before .before .before .before .before .before .before .before .before .before .before .before .args .inserted))) * 4) (now (c .before .before .before .before .before .before .before .before .before .before .before .before .before .before .before .before .before .before .before .before .before .before .before .before .before .before .before .before .before .args .knots)) (now (c .before .before .before .before .before .before .before .before .before .before .before .before .before .before .before .before .before .before .before .before .before .before .before .before .before .before .before .before .before .args .points)) (c .before .before .before .before .before .before .before .before .before .before .before .before .before .before .before .before .before .before .before .before .before .before .before .before .before .before .before .before .before .args .rational) (now (c .before .before .before .before .before .before .before .before .before .before .before .before .before .before .before .before .before .before .before .before .before .before .before .before .before .before .before .before .before .args .weights)) (now (c .before .before .before .before .before .before .before .before .before .before .before .before .before .before .before .before .before .before .before .before .before .before .before .before .before .before .before .before .before .args .work)) _ (c .before .before .before .before .before .before .before .before .before .before .before .before .before .before .before .before .before .before .before .lay-into .ensures) (thirds (c .before .before .before .before .before .before .before .before .before .before .before .before .before .before .before .before .before .before .before .before .before .before .before .before .before .before .before .before .before .pre .0 .triples))) (weights-back (((length (now (c .before .before .before .before .before .before .before .before .before .before .before .before .before .before .before .before .before .before .before .before .before .before .before .before .before .before .before .before .before .args .points)) / 3) + length (now (c .before .before .before .before .before .before .before .before .before .before .before .before .before .before .before .before .before .before .before .before .before .before .before .before .before .before .before .before .before .args .inserted))) * 4) (now (c .before .before .before .before .before .before .before .before .before .before .before .before .before .before .before .before .before .before .before .before .before .before .before .before .before .before .before .before .before .args .knots)) (now (c .before .before .before .before .before .before .before .before .before .before .before .before .before .before .before .before .before .before .before .before .before .before .before .before .before .before .before .before .before .args .points)) (c .before .before .before .before .before .before .before .before .before .before .before .before .before .before .before .before .before .before .before .before .before .before .before .before .before .before .before .before .before .args .rational) (now (c .before .before .before .before .before .before .before .before .before .before .before .before .before .before .before .before .before .before .before .before .before .before .before .before .before .before .before .before .before .args .weights)) (now (c .before .before .before .before .before .before .before .before .before .before .before .before .before .before .before .before .before .before .before .before .before .before .before .before .before .before .before .before .before .args .work)) _ (c .before .before .before .before .before .before .before .before .before .before .before .before .before .before .before .before .before .before .before .lay-into .ensures) (c .before .before .before .before .before .before .before .before .before .before .before .before .before .before .before .before .before .before .before .before .before .before .before .before .before .before .before .before .before .args .rational) refl (c .before .before .before .before .before .before .before .before .before .before .before .before .before .before .before .before .before .before .before .before .before .before .before .before .before .before .before .before .before .pre .0 .controls .weights))) (c .before .before .before .before .before .before .before .before .before .before .before .before .before .before .before .insert-all .ensures) (c .before .before .before .before .before .before .before .before .before .before .before .if1 .left) (c .before .before .before .before .before .before .store-curve .ensures .0) (c .before .before .before .before .before .before .store-curve .ensures .1 .0) (c .before .before .before .before .before .before .store-curve .ensures .1 .1)
 
 pub insert-into-spec : {M : Type 1} → statement M
 insert-into-spec =
     tie.close
     (tie.spec
-    given-count-requires
-    copy-run-requires
-    copy-run-requires-2
-    slice-aggregate-copy-run
-    copy-run-requires-3
+    add-m
+    mul-a
+    lay-into-requires
     insert-all-requires
     same-length
+    returns
+    store-curve-requires
     same-length-2
     same-length-3
     same-length-4
-    returns)
+    same-length-5
+    returns-2)

@@ -38,10 +38,10 @@ returns c = let k = c .before .before .before .before .before .before .before .b
 insert-into-requires : tie.Need-insert-into-requires
 insert-into-requires c κs = let none : insertStart (c .before .before .before .before .before .before .before .before .before .before .before .before .before .before .before .args .degree) (now (c .before .before .before .before .before .before .before .before .before .before .before .before .before .before .before .args .knots)) (now (c .before .before .before .before .before .before .before .before .before .before .before .before .before .before .before .args .points)) (c .before .before .before .before .before .before .before .before .before .before .before .before .before .before .before .args .rational) (now (c .before .before .before .before .before .before .before .before .before .before .before .before .before .before .before .args .weights)) (now (c .before .before .before .before .before .before .before .before .before .before .before .before .before .before .before .args .inserted)) (length (now (c .before .before .before .before .before .before .before .before .before .before .before .before .before .before .before .args .out-knots))) (length (now (c .before .before .before .before .before .before .before .before .before .before .before .before .before .before .before .args .out-points))) (length (now (c .before .before .before .before .before .before .before .before .before .before .before .before .before .before .before .args .out-weights))) (length (now (c .before .before .before .before .before .before .before .before .before .before .before .before .before .before .before .args .scratch))) .number ≡ 0 = sym (ap (λ (r : Refusal). r .number) (c .before .before .before .before .before .before .insert-start .ensures)) ∙ c .before .before .before .before .if1 .left in
     let o = start-open (c .before .before .before .before .before .before .before .before .before .before .before .before .before .before .before .args .degree) (now (c .before .before .before .before .before .before .before .before .before .before .before .before .before .before .before .args .knots)) (now (c .before .before .before .before .before .before .before .before .before .before .before .before .before .before .before .args .points)) (c .before .before .before .before .before .before .before .before .before .before .before .before .before .before .before .args .rational) (now (c .before .before .before .before .before .before .before .before .before .before .before .before .before .before .before .args .weights)) (now (c .before .before .before .before .before .before .before .before .before .before .before .before .before .before .before .args .inserted)) (length (now (c .before .before .before .before .before .before .before .before .before .before .before .before .before .before .before .args .out-knots))) (length (now (c .before .before .before .before .before .before .before .before .before .before .before .before .before .before .before .args .out-points))) (length (now (c .before .before .before .before .before .before .before .before .before .before .before .before .before .before .before .args .out-weights))) (length (now (c .before .before .before .before .before .before .before .before .before .before .before .before .before .before .before .args .scratch))) none in
-    let h = o .knots-room in
-    let i = o .points-room in
-    let j = o .weights-room in
-    let k = o .scratch-room in
+    let h = o .out .knots in
+    let i = o .out .points in
+    let j = o .out .weights in
+    let k = o .scratch in
     (o .curve, (omega arith, (omega arith, (omega arith, omega arith))))
 
 clear-all-requires-2 : tie.Need-clear-all-requires-2

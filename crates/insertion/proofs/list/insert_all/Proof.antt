@@ -1,83 +1,76 @@
--- `insertion::list::insert_all` meets its contract.
--- Assumes nothing.
-use mathlib.Core.Path.{_∙_, ap}
-use Prim.Native.Nat.{_-_}
+use mathlib.Core.Path.{_≡_, refl, sym, _∙_, ap}
+use mathlib.Core.Path.{_≡_, sym, _∙_, ap}
+use Prim.Native.Nat.{_+_, _-_}
+use native.Mathlib.Omega.{arith}
 use denote.Ref.{now}
-use lib.ListN.{length}
-use borrow.Author.Needs.{needs}
-use Rattle.insertion.proofs.Folds.{InList, list-start, list-room, list-stop, list-more, list-end}
+use lib.ListN.{length, drop, replicate}
 use Rattle.knots.specs.declared.refusal.Refusal.{Refusal}
+use borrow.Author.Needs.{needs}
+use Rattle.insertion.proofs.Folds.{InTurns, turns-start, turns-room, turns-stop, turns-more, turns-end, drop-next, drop-last}
 use Rattle.insertion.proofs.list.insert_all.Statement.{statement}
 use Rattle.insertion.proofs.list.insert_all.Tie as tie
+use Rattle.insertion.proofs.list.insert_all.Reads as reads
+use Rattle.insertion.proofs.list.insert_all.Lts as lts
+use Rattle.insertion.proofs.one.insert_one.Reads as insert-one-reads
+use Rattle.knots.proofs.refusal.refuse.Reads as refuse-reads
 
 abbrev Inv-loop : tie.InvT-loop
-Inv-loop p n rational inserted knots₀ points₀ weights₀ rows₀ i₀ knots points weights rows i = InList p rational n inserted knots₀ points₀ weights₀ rows₀ knots points weights rows i
+Inv-loop p n rational inserted a work₀ i₀ work i = InTurns a p rational n (length inserted) inserted (λ k. drop k inserted) work₀ work i
 
 abbrev μ-loop : tie.MeasureT-loop
-μ-loop p n rational inserted knots₀ points₀ weights₀ rows₀ i₀ knots points weights rows i = length inserted - i
+μ-loop p n rational inserted a work₀ i₀ work i = length inserted - i
 
+-- src/list.rt:27:5
 loop-holds : tie.Need-loop-holds Inv-loop μ-loop
-loop-holds c = let q = c .before .before .before .before .before .pre in
-    list-start (c .before .before .before .before .before .args .p) (c .before .before .before .before .before .args .rational) (c .before .before .before .before .before .args .n) (now (c .before .before .before .before .before .args .inserted)) (now (c .before .before .before .before .before .args .knots)) (now (c .before .before .before .before .before .args .points)) (now (c .before .before .before .before .before .args .weights)) (now (c .before .before .before .before .before .args .rows)) (q .0) (q .1 .0 .1) (q .1 .1 .0 .1) (q .1 .1 .1 .0 .1)
+loop-holds c = turns-start (c .before .before .args .a) (c .before .before .args .p) (c .before .before .args .rational) (c .before .before .args .n) (length (now (c .before .before .args .inserted))) (now (c .before .before .args .inserted)) (λ k. drop k (now (c .before .before .args .inserted))) (now (c .before .before .args .work)) refl (c .before .before .pre .0)
 
+-- src/list.rt:28:17
 mul-t : tie.Need-mul-t Inv-loop μ-loop
 mul-t c = search needs
 
+-- src/list.rt:28:17
 shared-slice-read-t : tie.Need-shared-slice-read-t Inv-loop μ-loop
 shared-slice-read-t c = c .before .loop-test .taken
 
+-- src/list.rt:29:37
 add-insert-one : tie.Need-add-insert-one Inv-loop μ-loop
-add-insert-one c = let q = c .before .before .before .before .before .before .before .before .pre .1 .0 .0 in
-    let t = c .before .loop-test .taken in
-    let g = c .before .before .before .before .before .before .before .before .good in
-    let f = c .before .before .before .before .before .before .before .before .fits in
-    search needs
+add-insert-one c = let q = c .before .before .before .before .before .pre .1 .1 in let t = c .before .loop-test .taken in let g = c .before .before .before .before .before .good in let f = c .before .before .before .before .before .fits in search needs
 
+-- src/list.rt:29:13
 insert-one-requires : tie.Need-insert-one-requires Inv-loop μ-loop
-insert-one-requires c κs = let q = c .before .before .before .before .before .before .before .before .before .before .before .before .pre in
-    list-room (c .before .before .before .before .before .before .before .before .before .before .before .before .args .p) (c .before .before .before .before .before .before .before .before .before .before .before .before .args .rational) (c .before .before .before .before .before .before .before .before .before .before .before .before .args .n) (now (c .before .before .before .before .before .before .before .before .before .before .before .before .args .inserted)) (now (c .before .before .before .before .before .before .before .before .before .before .before .before .args .knots)) (now (c .before .before .before .before .before .before .before .before .before .before .before .before .args .points)) (now (c .before .before .before .before .before .before .before .before .before .before .before .before .args .weights)) (now (c .before .before .before .before .before .before .before .before .before .before .before .before .args .rows)) (c .before .before .before .before .before .before .loop .knots) (c .before .before .before .before .before .before .loop .points) (c .before .before .before .before .before .before .loop .weights) (c .before .before .before .before .before .before .loop .rows) (c .before .before .before .before .before .before .loop .i) (c .before .before .before .before .before .before .loop .inv) (c .before .before .before .before .before .loop-test .taken) (q .1 .0 .0) (q .1 .1 .0 .0) (q .1 .1 .1 .0 .0) (q .1 .1 .1 .1)
+insert-one-requires c κs = turns-room (c .before .before .before .before .before .before .args .a) (c .before .before .before .before .before .before .args .p) (c .before .before .before .before .before .before .args .rational) (c .before .before .before .before .before .before .args .n) (length (now (c .before .before .before .before .before .before .args .inserted))) (now (c .before .before .before .before .before .before .args .inserted)) (λ k. drop k (now (c .before .before .before .before .before .before .args .inserted))) (now (c .before .before .before .before .before .before .args .work)) _ (c .before .before .before .loop .i) (c .before .before .before .loop .inv) (c .before .before .loop-test .taken) (c .before .before .before .before .before .before .pre .1 .0) (c .before .before .before .before .before .before .pre .1 .1)
 
+-- src/list.rt:31:13
 same-length : tie.Need-same-length Inv-loop μ-loop
-same-length c = c .before .before .before .before .before .before .before .before .before .knots .given ∙ c .before .before .before .before .before .before .before .before .before .before .before .before .before .before .before .before .before .loop .inv .long-knots
+same-length c = c .before .before .before .work .given ∙ c .before .before .before .before .before .before .before .before .loop .inv .long
 
-same-length-2 : tie.Need-same-length-2 Inv-loop μ-loop
-same-length-2 c = c .before .before .before .before .before .before .before .points .given ∙ c .before .before .before .before .before .before .before .before .before .before .before .before .before .before .before .before .before .loop .inv .long-points
-
-same-length-3 : tie.Need-same-length-3 Inv-loop μ-loop
-same-length-3 c = c .before .before .before .before .before .weights .given ∙ c .before .before .before .before .before .before .before .before .before .before .before .before .before .before .before .before .before .loop .inv .long-weights
-
-same-length-4 : tie.Need-same-length-4 Inv-loop μ-loop
-same-length-4 c = c .before .before .before .rows .given ∙ c .before .before .before .before .before .before .before .before .before .before .before .before .before .before .before .before .before .loop .inv .long-rows
-
+-- src/list.rt:31:13
 returns : tie.Need-returns Inv-loop μ-loop
-returns c = list-stop (c .before .before .before .before .before .before .before .before .before .before .before .before .before .before .before .before .before .before .before .before .before .before .before .args .p) (c .before .before .before .before .before .before .before .before .before .before .before .before .before .before .before .before .before .before .before .before .before .before .before .args .rational) (c .before .before .before .before .before .before .before .before .before .before .before .before .before .before .before .before .before .before .before .before .before .before .before .args .n) (now (c .before .before .before .before .before .before .before .before .before .before .before .before .before .before .before .before .before .before .before .before .before .before .before .args .inserted)) (now (c .before .before .before .before .before .before .before .before .before .before .before .before .before .before .before .before .before .before .before .before .before .before .before .args .knots)) (now (c .before .before .before .before .before .before .before .before .before .before .before .before .before .before .before .before .before .before .before .before .before .before .before .args .points)) (now (c .before .before .before .before .before .before .before .before .before .before .before .before .before .before .before .before .before .before .before .before .before .before .before .args .weights)) (now (c .before .before .before .before .before .before .before .before .before .before .before .before .before .before .before .before .before .before .before .before .before .before .before .args .rows)) (c .before .before .before .before .before .before .before .before .before .before .before .before .before .before .before .before .before .loop .knots) (c .before .before .before .before .before .before .before .before .before .before .before .before .before .before .before .before .before .loop .points) (c .before .before .before .before .before .before .before .before .before .before .before .before .before .before .before .before .before .loop .weights) (c .before .before .before .before .before .before .before .before .before .before .before .before .before .before .before .before .before .loop .rows) (c .before .before .before .before .before .before .before .before .before .before .before .before .before .before .before .before .before .loop .i) (c .before .before .before .before .before .before .before .before .before .before .before .before .before .before .before .before .before .loop .inv) (c .before .before .before .before .before .before .before .before .before .before .before .before .before .before .before .before .loop-test .taken) _ _ _ (now (c .before .before .before .before .before .before .before .before .before .before .before .before .before .before .before .before .before .before .before .before .before .before .before .args .rows)) _ (c .before .before .before .before .before .before .before .before .before .before .insert-one .ensures) (c .if1 .taken)
+returns c = turns-stop (c .before .before .before .before .before .before .before .before .before .before .before .args .a) (c .before .before .before .before .before .before .before .before .before .before .before .args .p) (c .before .before .before .before .before .before .before .before .before .before .before .args .rational) (c .before .before .before .before .before .before .before .before .before .before .before .args .n) (length (now (c .before .before .before .before .before .before .before .before .before .before .before .args .inserted))) (now (c .before .before .before .before .before .before .before .before .before .before .before .args .inserted)) (λ k. drop k (now (c .before .before .before .before .before .before .before .before .before .before .before .args .inserted))) (now (c .before .before .before .before .before .before .before .before .before .before .before .args .work)) _ (c .before .before .before .before .before .before .before .before .loop .i) (c .before .before .before .before .before .before .before .before .loop .inv) (c .before .before .before .before .before .before .before .loop-test .taken) _ (drop-next (now (c .before .before .before .before .before .before .before .before .before .before .before .args .inserted)) (c .before .before .before .before .before .before .before .before .loop .i) (c .before .before .before .before .before .before .before .loop-test .taken)) _ _ (c .before .before .before .before .insert-one .ensures) (c .if1 .taken)
 
+-- src/list.rt:33:9
 add-i : tie.Need-add-i Inv-loop μ-loop
 add-i c = search needs
 
+-- src/list.rt:27:5
 loop-less : tie.Need-loop-less Inv-loop μ-loop
 loop-less c = search needs
 
+-- src/list.rt:27:5
 loop-again : tie.Need-loop-again Inv-loop μ-loop
-loop-again c = list-more (c .before .before .before .before .before .before .before .before .before .before .before .before .before .before .before .before .before .before .before .before .before .before .before .args .p) (c .before .before .before .before .before .before .before .before .before .before .before .before .before .before .before .before .before .before .before .before .before .before .before .args .rational) (c .before .before .before .before .before .before .before .before .before .before .before .before .before .before .before .before .before .before .before .before .before .before .before .args .n) (now (c .before .before .before .before .before .before .before .before .before .before .before .before .before .before .before .before .before .before .before .before .before .before .before .args .inserted)) (now (c .before .before .before .before .before .before .before .before .before .before .before .before .before .before .before .before .before .before .before .before .before .before .before .args .knots)) (now (c .before .before .before .before .before .before .before .before .before .before .before .before .before .before .before .before .before .before .before .before .before .before .before .args .points)) (now (c .before .before .before .before .before .before .before .before .before .before .before .before .before .before .before .before .before .before .before .before .before .before .before .args .weights)) (now (c .before .before .before .before .before .before .before .before .before .before .before .before .before .before .before .before .before .before .before .before .before .before .before .args .rows)) (c .before .before .before .before .before .before .before .before .before .before .before .before .before .before .before .before .before .loop .knots) (c .before .before .before .before .before .before .before .before .before .before .before .before .before .before .before .before .before .loop .points) (c .before .before .before .before .before .before .before .before .before .before .before .before .before .before .before .before .before .loop .weights) (c .before .before .before .before .before .before .before .before .before .before .before .before .before .before .before .before .before .loop .rows) (c .before .before .before .before .before .before .before .before .before .before .before .before .before .before .before .before .before .loop .i) (c .before .before .before .before .before .before .before .before .before .before .before .before .before .before .before .before .before .loop .inv) (c .before .before .before .before .before .before .before .before .before .before .before .before .before .before .before .before .loop-test .taken) _ _ _ _ _ (c .before .before .before .before .before .before .before .before .before .before .insert-one .ensures) (c .if1 .left) (c .before .before .before .before .before .before .before .before .before .knots .given) (c .before .before .before .before .before .before .before .points .given) (c .before .before .before .before .before .weights .given) (c .before .before .before .rows .given)
+loop-again c = turns-more (c .before .before .before .before .before .before .before .before .before .before .before .args .a) (c .before .before .before .before .before .before .before .before .before .before .before .args .p) (c .before .before .before .before .before .before .before .before .before .before .before .args .rational) (c .before .before .before .before .before .before .before .before .before .before .before .args .n) (length (now (c .before .before .before .before .before .before .before .before .before .before .before .args .inserted))) (now (c .before .before .before .before .before .before .before .before .before .before .before .args .inserted)) (λ k. drop k (now (c .before .before .before .before .before .before .before .before .before .before .before .args .inserted))) (now (c .before .before .before .before .before .before .before .before .before .before .before .args .work)) _ (c .before .before .before .before .before .before .before .before .loop .i) (c .before .before .before .before .before .before .before .before .loop .inv) (c .before .before .before .before .before .before .before .loop-test .taken) _ (drop-next (now (c .before .before .before .before .before .before .before .before .before .before .before .args .inserted)) (c .before .before .before .before .before .before .before .before .loop .i) (c .before .before .before .before .before .before .before .loop-test .taken)) _ _ (c .before .before .before .before .insert-one .ensures) (c .if1 .left) (c .before .before .before .work .given)
 
+-- src/list.rt:35:5
 refuse-requires : tie.Need-refuse-requires Inv-loop μ-loop
 refuse-requires c κs = search needs
 
-same-length-5 : tie.Need-same-length-5 Inv-loop μ-loop
-same-length-5 c = c .before .before .loop .inv .long-knots
+-- src/list.rt:14:1
+same-length-2 : tie.Need-same-length-2 Inv-loop μ-loop
+same-length-2 c = c .before .before .loop .inv .long
 
-same-length-6 : tie.Need-same-length-6 Inv-loop μ-loop
-same-length-6 c = c .before .before .loop .inv .long-points
-
-same-length-7 : tie.Need-same-length-7 Inv-loop μ-loop
-same-length-7 c = c .before .before .loop .inv .long-weights
-
-same-length-8 : tie.Need-same-length-8 Inv-loop μ-loop
-same-length-8 c = c .before .before .loop .inv .long-rows
-
+-- src/list.rt:14:1
 returns-2 : tie.Need-returns-2 Inv-loop μ-loop
-returns-2 c = list-end (c .before .before .before .before .before .before .before .before .args .p) (c .before .before .before .before .before .before .before .before .args .rational) (c .before .before .before .before .before .before .before .before .args .n) (now (c .before .before .before .before .before .before .before .before .args .inserted)) (now (c .before .before .before .before .before .before .before .before .args .knots)) (now (c .before .before .before .before .before .before .before .before .args .points)) (now (c .before .before .before .before .before .before .before .before .args .weights)) (now (c .before .before .before .before .before .before .before .before .args .rows)) (c .before .before .loop .knots) (c .before .before .loop .points) (c .before .before .loop .weights) (c .before .before .loop .rows) (c .before .before .loop .i) (c .before .before .loop .inv) (c .before .loop-test .left) _ (ap (λ (r : Refusal). r .number) (c .refuse .ensures))
+returns-2 c = turns-end (c .before .before .before .before .before .args .a) (c .before .before .before .before .before .args .p) (c .before .before .before .before .before .args .rational) (c .before .before .before .before .before .args .n) (length (now (c .before .before .before .before .before .args .inserted))) (now (c .before .before .before .before .before .args .inserted)) (λ k. drop k (now (c .before .before .before .before .before .args .inserted))) (now (c .before .before .before .before .before .args .work)) _ (c .before .before .loop .i) (c .before .before .loop .inv) (c .before .loop-test .left) (drop-last (now (c .before .before .before .before .before .args .inserted))) _ (ap (λ (r : Refusal). r .number) (c .refuse .ensures))
 
 pub insert-all-spec : {M : Type 1} → statement M
 insert-all-spec =
@@ -91,16 +84,10 @@ insert-all-spec =
     add-insert-one
     insert-one-requires
     same-length
-    same-length-2
-    same-length-3
-    same-length-4
     returns
     add-i
     loop-less
     loop-again
     refuse-requires
-    same-length-5
-    same-length-6
-    same-length-7
-    same-length-8
+    same-length-2
     returns-2)

@@ -1,86 +1,114 @@
--- `insertion::one::insert_one` meets its contract.
--- Assumes nothing.
-use mathlib.Core.Path.{sym, _∙_, ap}
-use Prim.Native.Nat.{_+_, _*_}
+use mathlib.Core.Path.{_≡_, sym, _∙_, ap, subst}
+use mathlib.Core.List.{List}
+use Prim.Native.Nat.{_+_, _-_, _≤_}
+use native.Mathlib.Omega.{arith}
 use denote.Ref.{now}
-use lib.ListN.{take}
-use borrow.Author.Needs.{needs}
-use Rattle.insertion.proofs.Forming.{spot-open, spot-found, insert-early, insert-done}
+use lib.ListN.{length, take, drop, length-take, length-drop}
+use lib.Ieee.{Float}
+use Rattle.doubles.specs.Run.{at}
 use Rattle.knots.specs.declared.refusal.Refusal.{Refusal}
-use Rattle.insertion.specs.Rows.{given}
+use Rattle.insertion.specs.Counts.{multiplicityOf}
+use Rattle.insertion.specs.Insert.{spotRefusal}
+use Rattle.insertion.specs.Work.{knotsFrom, pointsFrom, weightsFrom}
+use Rattle.insertion.proofs.Laying.{slice-is}
+use Rattle.insertion.proofs.Forming.{spot-open, spot-found, insert-early, insert-done, moved-span}
+use borrow.Author.Needs.{needs}
 use Rattle.insertion.proofs.one.insert_one.Statement.{statement}
 use Rattle.insertion.proofs.one.insert_one.Tie as tie
+use Rattle.insertion.proofs.one.insert_one.Reads as reads
+use Rattle.insertion.proofs.one.insert_one.Lts as lts
+use Rattle.insertion.proofs.counts.multiplicity.Reads as multiplicity-reads
+use Rattle.insertion.proofs.one.insert_at.Reads as insert-at-reads
+use Rattle.insertion.proofs.one.spot_refusal.Reads as spot-refusal-reads
+use Rattle.knots.proofs.span.span_of.Reads as span-of-reads
 
-add-m : tie.Need-add-m
-add-m c = search needs
+-- src/one.rt:81:20
+add-end : tie.Need-add-end
+add-end c = search needs
 
-add-m-2 : tie.Need-add-m-2
-add-m-2 c = search needs
+-- src/one.rt:81:20
+add-end-2 : tie.Need-add-end-2
+add-end-2 c = search needs
 
-slice-reshare-prefix-ks : tie.Need-slice-reshare-prefix-ks
-slice-reshare-prefix-ks c = search needs
+-- src/one.rt:81:15
+add-end-3 : tie.Need-add-end-3
+add-end-3 c = search needs
 
-slice-aggregate-ks : tie.Need-slice-aggregate-ks
-slice-aggregate-ks c = search needs
+-- src/one.rt:82:14
+mul-ks : tie.Need-mul-ks
+mul-ks c = search needs
 
+-- src/one.rt:82:14
+sub-ks : tie.Need-sub-ks
+sub-ks c = search needs
+
+-- src/one.rt:82:14
+part-ks-start : tie.Need-part-ks-start
+part-ks-start c = search needs
+
+-- src/one.rt:82:14
+part-ks-end : tie.Need-part-ks-end
+part-ks-end c = search needs
+
+-- src/one.rt:83:9
 multiplicity-requires : tie.Need-multiplicity-requires
 multiplicity-requires c κs = search needs
 
+-- src/one.rt:84:30
 mul-spot-refusal : tie.Need-mul-spot-refusal
 mul-spot-refusal c = search needs
 
+-- src/one.rt:84:30
 shared-slice-read-spot-refusal : tie.Need-shared-slice-read-spot-refusal
 shared-slice-read-spot-refusal c = search needs
 
+-- src/one.rt:84:37
 mul-spot-refusal-2 : tie.Need-mul-spot-refusal-2
 mul-spot-refusal-2 c = search needs
 
+-- src/one.rt:84:37
 shared-slice-read-spot-refusal-2 : tie.Need-shared-slice-read-spot-refusal-2
 shared-slice-read-spot-refusal-2 c = search needs
 
+-- src/one.rt:84:9
 spot-refusal-requires : tie.Need-spot-refusal-requires
 spot-refusal-requires c κs = search needs
 
+-- src/one.rt:86:9
 same-length : tie.Need-same-length
 same-length c = search needs
 
+-- src/one.rt:86:9
 returns : tie.Need-returns
-returns c = insert-early (c .before .before .before .before .before .before .before .before .before .before .before .args .p) (c .before .before .before .before .before .before .before .before .before .before .before .args .n) (take (c .before .before .before .before .before .before .before .before .before .before .before .args .n + c .before .before .before .before .before .before .before .before .before .before .before .args .p + 1) (now (c .before .before .before .before .before .before .before .before .before .before .before .args .knots))) (take (c .before .before .before .before .before .before .before .before .before .before .before .args .n * 3) (now (c .before .before .before .before .before .before .before .before .before .before .before .args .points))) (c .before .before .before .before .before .before .before .before .before .before .before .args .rational) (take (given (c .before .before .before .before .before .before .before .before .before .before .before .args .rational) (c .before .before .before .before .before .before .before .before .before .before .before .args .n)) (now (c .before .before .before .before .before .before .before .before .before .before .before .args .weights))) (c .before .before .before .before .before .before .before .before .before .before .before .args .t) (now (c .before .before .before .before .before .before .before .before .before .before .before .args .knots)) (now (c .before .before .before .before .before .before .before .before .before .before .before .args .points)) (now (c .before .before .before .before .before .before .before .before .before .before .before .args .weights)) _ _ _ _ (c .before .before .before .before .before .before .before .before .before .before .before .args .n) (c .before .before .before .before .before .multiplicity .ensures) _ (c .before .before .spot-refusal .ensures) (c .if1 .taken)
+returns c = insert-early (c .before .before .before .before .before .before .before .before .before .args .p) (c .before .before .before .before .before .before .before .before .before .args .n) (knotsFrom (c .before .before .before .before .before .before .before .before .before .args .a) (c .before .before .before .before .before .before .before .before .before .args .p) (c .before .before .before .before .before .before .before .before .before .args .n) (now (c .before .before .before .before .before .before .before .before .before .args .work))) (pointsFrom (c .before .before .before .before .before .before .before .before .before .args .n) (now (c .before .before .before .before .before .before .before .before .before .args .work))) (c .before .before .before .before .before .before .before .before .before .args .rational) (weightsFrom (c .before .before .before .before .before .before .before .before .before .args .rational) (c .before .before .before .before .before .before .before .before .before .args .n) (now (c .before .before .before .before .before .before .before .before .before .args .work))) (c .before .before .before .before .before .before .before .before .before .args .t) (c .before .before .before .before .before .before .before .before .before .args .a) (now (c .before .before .before .before .before .before .before .before .before .args .work)) _ _ (c .before .before .before .before .before .before .before .before .before .args .n) (c .before .before .before .before .before .multiplicity .ensures ∙ ap (λ (ks : List Float). multiplicityOf ks (c .before .before .before .before .before .before .before .before .before .args .t)) (slice-is (c .before .before .before .before .before .before .before .before .before .args .a) (c .before .before .before .before .before .before .before .before .before .args .n + c .before .before .before .before .before .before .before .before .before .args .p + 1) (now (c .before .before .before .before .before .before .before .before .before .args .work)))) _ (c .before .before .spot-refusal .ensures ∙ ap (λ (ks : List Float). spotRefusal (at ks (c .before .before .before .before .before .before .before .before .before .args .p)) (at ks (c .before .before .before .before .before .before .before .before .before .args .n)) (c .before .before .before .before .before .before .before .before .before .args .t) (c .before .before .before .before .before .before .before .before .before .args .p) (c .before .before .before .before .before .multiplicity .result)) (slice-is (c .before .before .before .before .before .before .before .before .before .args .a) (c .before .before .before .before .before .before .before .before .before .args .n + c .before .before .before .before .before .before .before .before .before .args .p + 1) (now (c .before .before .before .before .before .before .before .before .before .args .work)))) (c .if1 .taken)
 
+-- src/one.rt:88:9
 span-of-requires : tie.Need-span-of-requires
 span-of-requires c κs = search needs
 
+-- src/one.rt:90:5
 insert-at-requires : tie.Need-insert-at-requires
-insert-at-requires c κs = let o = spot-open (c .before .before .before .before .before .before .before .before .before .before .before .before .before .before .before .before .args .p) (c .before .before .before .before .before .before .before .before .before .before .before .before .before .before .before .before .args .n) (take (c .before .before .before .before .before .before .before .before .before .before .before .before .before .before .before .before .args .n + c .before .before .before .before .before .before .before .before .before .before .before .before .before .before .before .before .args .p + 1) (now (c .before .before .before .before .before .before .before .before .before .before .before .before .before .before .before .before .args .knots))) (take (c .before .before .before .before .before .before .before .before .before .before .before .before .before .before .before .before .args .n * 3) (now (c .before .before .before .before .before .before .before .before .before .before .before .before .before .before .before .before .args .points))) (c .before .before .before .before .before .before .before .before .before .before .before .before .before .before .before .before .args .rational) (take (given (c .before .before .before .before .before .before .before .before .before .before .before .before .before .before .before .before .args .rational) (c .before .before .before .before .before .before .before .before .before .before .before .before .before .before .before .before .args .n)) (now (c .before .before .before .before .before .before .before .before .before .before .before .before .before .before .before .before .args .weights))) (c .before .before .before .before .before .before .before .before .before .before .before .before .before .before .before .before .args .t) (c .before .before .before .before .before .before .before .before .before .before .multiplicity .result) (c .before .before .before .before .before .before .before .before .before .before .before .before .before .before .before .before .pre .0) (sym (ap (λ (r : Refusal). r .number) (c .before .before .before .before .before .before .before .spot-refusal .ensures)) ∙ c .before .before .before .before .before .if1 .left) in
-    let s = spot-found (c .before .before .before .before .before .before .before .before .before .before .before .before .before .before .before .before .args .p) (c .before .before .before .before .before .before .before .before .before .before .before .before .before .before .before .before .args .n) (take (c .before .before .before .before .before .before .before .before .before .before .before .before .before .before .before .before .args .n + c .before .before .before .before .before .before .before .before .before .before .before .before .before .before .before .before .args .p + 1) (now (c .before .before .before .before .before .before .before .before .before .before .before .before .before .before .before .before .args .knots))) (take (c .before .before .before .before .before .before .before .before .before .before .before .before .before .before .before .before .args .n * 3) (now (c .before .before .before .before .before .before .before .before .before .before .before .before .before .before .before .before .args .points))) (c .before .before .before .before .before .before .before .before .before .before .before .before .before .before .before .before .args .rational) (take (given (c .before .before .before .before .before .before .before .before .before .before .before .before .before .before .before .before .args .rational) (c .before .before .before .before .before .before .before .before .before .before .before .before .before .before .before .before .args .n)) (now (c .before .before .before .before .before .before .before .before .before .before .before .before .before .before .before .before .args .weights))) (c .before .before .before .before .before .before .before .before .before .before .before .before .before .before .before .before .args .t) (c .before .before .before .before .before .before .before .before .before .before .multiplicity .result) _ (c .before .before .before .before .before .before .before .before .before .before .multiplicity .ensures) (c .before .before .before .before .before .before .before .before .before .before .before .before .before .before .before .before .pre .0) o (c .before .before .before .before .span-of .ensures) in
-    let q = c .before .before .before .before .before .before .before .before .before .before .before .before .before .before .before .before .pre in
-    ((o .room, s .0 .from, s .0 .below), (q .1 .0, (q .1 .1 .0, (q .1 .1 .1 .0, (q .1 .1 .1 .1, s .2)))))
+insert-at-requires c κs = let o = spot-open (c .before .before .before .before .before .before .before .before .before .before .before .args .p) (c .before .before .before .before .before .before .before .before .before .before .before .args .n) (knotsFrom (c .before .before .before .before .before .before .before .before .before .before .before .args .a) (c .before .before .before .before .before .before .before .before .before .before .before .args .p) (c .before .before .before .before .before .before .before .before .before .before .before .args .n) (now (c .before .before .before .before .before .before .before .before .before .before .before .args .work))) (pointsFrom (c .before .before .before .before .before .before .before .before .before .before .before .args .n) (now (c .before .before .before .before .before .before .before .before .before .before .before .args .work))) (c .before .before .before .before .before .before .before .before .before .before .before .args .rational) (weightsFrom (c .before .before .before .before .before .before .before .before .before .before .before .args .rational) (c .before .before .before .before .before .before .before .before .before .before .before .args .n) (now (c .before .before .before .before .before .before .before .before .before .before .before .args .work))) (c .before .before .before .before .before .before .before .before .before .before .before .args .t) _ (c .before .before .before .before .before .before .before .before .before .before .before .pre .0) (sym (ap (λ (r : Refusal). r .number) (c .before .before .before .before .spot-refusal .ensures ∙ ap (λ (ks : List Float). spotRefusal (at ks (c .before .before .before .before .before .before .before .before .before .before .before .args .p)) (at ks (c .before .before .before .before .before .before .before .before .before .before .before .args .n)) (c .before .before .before .before .before .before .before .before .before .before .before .args .t) (c .before .before .before .before .before .before .before .before .before .before .before .args .p) (c .before .before .before .before .before .before .before .multiplicity .result)) (slice-is (c .before .before .before .before .before .before .before .before .before .before .before .args .a) (c .before .before .before .before .before .before .before .before .before .before .before .args .n + c .before .before .before .before .before .before .before .before .before .before .before .args .p + 1) (now (c .before .before .before .before .before .before .before .before .before .before .before .args .work))))) ∙ c .before .before .if1 .left) in let s = spot-found (c .before .before .before .before .before .before .before .before .before .before .before .args .p) (c .before .before .before .before .before .before .before .before .before .before .before .args .n) (knotsFrom (c .before .before .before .before .before .before .before .before .before .before .before .args .a) (c .before .before .before .before .before .before .before .before .before .before .before .args .p) (c .before .before .before .before .before .before .before .before .before .before .before .args .n) (now (c .before .before .before .before .before .before .before .before .before .before .before .args .work))) (pointsFrom (c .before .before .before .before .before .before .before .before .before .before .before .args .n) (now (c .before .before .before .before .before .before .before .before .before .before .before .args .work))) (c .before .before .before .before .before .before .before .before .before .before .before .args .rational) (weightsFrom (c .before .before .before .before .before .before .before .before .before .before .before .args .rational) (c .before .before .before .before .before .before .before .before .before .before .before .args .n) (now (c .before .before .before .before .before .before .before .before .before .before .before .args .work))) (c .before .before .before .before .before .before .before .before .before .before .before .args .t) _ _ (c .before .before .before .before .before .before .before .multiplicity .ensures ∙ ap (λ (ks : List Float). multiplicityOf ks (c .before .before .before .before .before .before .before .before .before .before .before .args .t)) (slice-is (c .before .before .before .before .before .before .before .before .before .before .before .args .a) (c .before .before .before .before .before .before .before .before .before .before .before .args .n + c .before .before .before .before .before .before .before .before .before .before .before .args .p + 1) (now (c .before .before .before .before .before .before .before .before .before .before .before .args .work)))) (c .before .before .before .before .before .before .before .before .before .before .before .pre .0) o (moved-span (slice-is (c .before .before .before .before .before .before .before .before .before .before .before .args .a) (c .before .before .before .before .before .before .before .before .before .before .before .args .n + c .before .before .before .before .before .before .before .before .before .before .before .args .p + 1) (now (c .before .before .before .before .before .before .before .before .before .before .before .args .work))) (c .before .span-of .ensures)) in ((o .room, s .0 .from, s .0 .below), (c .before .before .before .before .before .before .before .before .before .before .before .pre .1, s .2))
 
+-- src/one.rt:69:1
 same-length-2 : tie.Need-same-length-2
 same-length-2 c = search needs
 
-same-length-3 : tie.Need-same-length-3
-same-length-3 c = search needs
-
-same-length-4 : tie.Need-same-length-4
-same-length-4 c = search needs
-
-same-length-5 : tie.Need-same-length-5
-same-length-5 c = search needs
-
+-- src/one.rt:69:1
 returns-2 : tie.Need-returns-2
-returns-2 c = let o = spot-open (c .before .before .before .before .before .before .before .before .before .before .before .before .before .before .before .before .before .before .before .before .before .before .before .before .before .args .p) (c .before .before .before .before .before .before .before .before .before .before .before .before .before .before .before .before .before .before .before .before .before .before .before .before .before .args .n) (take (c .before .before .before .before .before .before .before .before .before .before .before .before .before .before .before .before .before .before .before .before .before .before .before .before .before .args .n + c .before .before .before .before .before .before .before .before .before .before .before .before .before .before .before .before .before .before .before .before .before .before .before .before .before .args .p + 1) (now (c .before .before .before .before .before .before .before .before .before .before .before .before .before .before .before .before .before .before .before .before .before .before .before .before .before .args .knots))) (take (c .before .before .before .before .before .before .before .before .before .before .before .before .before .before .before .before .before .before .before .before .before .before .before .before .before .args .n * 3) (now (c .before .before .before .before .before .before .before .before .before .before .before .before .before .before .before .before .before .before .before .before .before .before .before .before .before .args .points))) (c .before .before .before .before .before .before .before .before .before .before .before .before .before .before .before .before .before .before .before .before .before .before .before .before .before .args .rational) (take (given (c .before .before .before .before .before .before .before .before .before .before .before .before .before .before .before .before .before .before .before .before .before .before .before .before .before .args .rational) (c .before .before .before .before .before .before .before .before .before .before .before .before .before .before .before .before .before .before .before .before .before .before .before .before .before .args .n)) (now (c .before .before .before .before .before .before .before .before .before .before .before .before .before .before .before .before .before .before .before .before .before .before .before .before .before .args .weights))) (c .before .before .before .before .before .before .before .before .before .before .before .before .before .before .before .before .before .before .before .before .before .before .before .before .before .args .t) (c .before .before .before .before .before .before .before .before .before .before .before .before .before .before .before .before .before .before .before .multiplicity .result) (c .before .before .before .before .before .before .before .before .before .before .before .before .before .before .before .before .before .before .before .before .before .before .before .before .before .pre .0) (sym (ap (λ (r : Refusal). r .number) (c .before .before .before .before .before .before .before .before .before .before .before .before .before .before .before .before .spot-refusal .ensures)) ∙ c .before .before .before .before .before .before .before .before .before .before .before .before .before .before .if1 .left) in
-    let s = spot-found (c .before .before .before .before .before .before .before .before .before .before .before .before .before .before .before .before .before .before .before .before .before .before .before .before .before .args .p) (c .before .before .before .before .before .before .before .before .before .before .before .before .before .before .before .before .before .before .before .before .before .before .before .before .before .args .n) (take (c .before .before .before .before .before .before .before .before .before .before .before .before .before .before .before .before .before .before .before .before .before .before .before .before .before .args .n + c .before .before .before .before .before .before .before .before .before .before .before .before .before .before .before .before .before .before .before .before .before .before .before .before .before .args .p + 1) (now (c .before .before .before .before .before .before .before .before .before .before .before .before .before .before .before .before .before .before .before .before .before .before .before .before .before .args .knots))) (take (c .before .before .before .before .before .before .before .before .before .before .before .before .before .before .before .before .before .before .before .before .before .before .before .before .before .args .n * 3) (now (c .before .before .before .before .before .before .before .before .before .before .before .before .before .before .before .before .before .before .before .before .before .before .before .before .before .args .points))) (c .before .before .before .before .before .before .before .before .before .before .before .before .before .before .before .before .before .before .before .before .before .before .before .before .before .args .rational) (take (given (c .before .before .before .before .before .before .before .before .before .before .before .before .before .before .before .before .before .before .before .before .before .before .before .before .before .args .rational) (c .before .before .before .before .before .before .before .before .before .before .before .before .before .before .before .before .before .before .before .before .before .before .before .before .before .args .n)) (now (c .before .before .before .before .before .before .before .before .before .before .before .before .before .before .before .before .before .before .before .before .before .before .before .before .before .args .weights))) (c .before .before .before .before .before .before .before .before .before .before .before .before .before .before .before .before .before .before .before .before .before .before .before .before .before .args .t) (c .before .before .before .before .before .before .before .before .before .before .before .before .before .before .before .before .before .before .before .multiplicity .result) _ (c .before .before .before .before .before .before .before .before .before .before .before .before .before .before .before .before .before .before .before .multiplicity .ensures) (c .before .before .before .before .before .before .before .before .before .before .before .before .before .before .before .before .before .before .before .before .before .before .before .before .before .pre .0) o (c .before .before .before .before .before .before .before .before .before .before .before .before .before .span-of .ensures) in
-    insert-done (c .before .before .before .before .before .before .before .before .before .before .before .before .before .before .before .before .before .before .before .before .before .before .before .before .before .args .p) (c .before .before .before .before .before .before .before .before .before .before .before .before .before .before .before .before .before .before .before .before .before .before .before .before .before .args .n) (take (c .before .before .before .before .before .before .before .before .before .before .before .before .before .before .before .before .before .before .before .before .before .before .before .before .before .args .n + c .before .before .before .before .before .before .before .before .before .before .before .before .before .before .before .before .before .before .before .before .before .before .before .before .before .args .p + 1) (now (c .before .before .before .before .before .before .before .before .before .before .before .before .before .before .before .before .before .before .before .before .before .before .before .before .before .args .knots))) (take (c .before .before .before .before .before .before .before .before .before .before .before .before .before .before .before .before .before .before .before .before .before .before .before .before .before .args .n * 3) (now (c .before .before .before .before .before .before .before .before .before .before .before .before .before .before .before .before .before .before .before .before .before .before .before .before .before .args .points))) (c .before .before .before .before .before .before .before .before .before .before .before .before .before .before .before .before .before .before .before .before .before .before .before .before .before .args .rational) (take (given (c .before .before .before .before .before .before .before .before .before .before .before .before .before .before .before .before .before .before .before .before .before .before .before .before .before .args .rational) (c .before .before .before .before .before .before .before .before .before .before .before .before .before .before .before .before .before .before .before .before .before .before .before .before .before .args .n)) (now (c .before .before .before .before .before .before .before .before .before .before .before .before .before .before .before .before .before .before .before .before .before .before .before .before .before .args .weights))) (c .before .before .before .before .before .before .before .before .before .before .before .before .before .before .before .before .before .before .before .before .before .before .before .before .before .args .t) (now (c .before .before .before .before .before .before .before .before .before .before .before .before .before .before .before .before .before .before .before .before .before .before .before .before .before .args .knots)) (now (c .before .before .before .before .before .before .before .before .before .before .before .before .before .before .before .before .before .before .before .before .before .before .before .before .before .args .points)) (now (c .before .before .before .before .before .before .before .before .before .before .before .before .before .before .before .before .before .before .before .before .before .before .before .before .before .args .weights)) _ _ _ _ _ (c .before .before .before .before .before .before .before .before .before .before .before .before .before .before .before .before .before .before .before .multiplicity .ensures) _ _ (c .before .before .before .before .before .before .before .before .before .before .before .before .before .before .before .before .spot-refusal .ensures) (c .before .before .before .before .before .before .before .before .before .before .before .before .before .before .if1 .left) (s .1) (c .before .before .before .before .before .before .before .before .insert-at .ensures)
+returns-2 c = let o = spot-open (c .before .before .before .before .before .before .before .before .before .before .before .before .before .before .args .p) (c .before .before .before .before .before .before .before .before .before .before .before .before .before .before .args .n) (knotsFrom (c .before .before .before .before .before .before .before .before .before .before .before .before .before .before .args .a) (c .before .before .before .before .before .before .before .before .before .before .before .before .before .before .args .p) (c .before .before .before .before .before .before .before .before .before .before .before .before .before .before .args .n) (now (c .before .before .before .before .before .before .before .before .before .before .before .before .before .before .args .work))) (pointsFrom (c .before .before .before .before .before .before .before .before .before .before .before .before .before .before .args .n) (now (c .before .before .before .before .before .before .before .before .before .before .before .before .before .before .args .work))) (c .before .before .before .before .before .before .before .before .before .before .before .before .before .before .args .rational) (weightsFrom (c .before .before .before .before .before .before .before .before .before .before .before .before .before .before .args .rational) (c .before .before .before .before .before .before .before .before .before .before .before .before .before .before .args .n) (now (c .before .before .before .before .before .before .before .before .before .before .before .before .before .before .args .work))) (c .before .before .before .before .before .before .before .before .before .before .before .before .before .before .args .t) _ (c .before .before .before .before .before .before .before .before .before .before .before .before .before .before .pre .0) (sym (ap (λ (r : Refusal). r .number) (c .before .before .before .before .before .before .before .spot-refusal .ensures ∙ ap (λ (ks : List Float). spotRefusal (at ks (c .before .before .before .before .before .before .before .before .before .before .before .before .before .before .args .p)) (at ks (c .before .before .before .before .before .before .before .before .before .before .before .before .before .before .args .n)) (c .before .before .before .before .before .before .before .before .before .before .before .before .before .before .args .t) (c .before .before .before .before .before .before .before .before .before .before .before .before .before .before .args .p) (c .before .before .before .before .before .before .before .before .before .before .multiplicity .result)) (slice-is (c .before .before .before .before .before .before .before .before .before .before .before .before .before .before .args .a) (c .before .before .before .before .before .before .before .before .before .before .before .before .before .before .args .n + c .before .before .before .before .before .before .before .before .before .before .before .before .before .before .args .p + 1) (now (c .before .before .before .before .before .before .before .before .before .before .before .before .before .before .args .work))))) ∙ c .before .before .before .before .before .if1 .left) in let s = spot-found (c .before .before .before .before .before .before .before .before .before .before .before .before .before .before .args .p) (c .before .before .before .before .before .before .before .before .before .before .before .before .before .before .args .n) (knotsFrom (c .before .before .before .before .before .before .before .before .before .before .before .before .before .before .args .a) (c .before .before .before .before .before .before .before .before .before .before .before .before .before .before .args .p) (c .before .before .before .before .before .before .before .before .before .before .before .before .before .before .args .n) (now (c .before .before .before .before .before .before .before .before .before .before .before .before .before .before .args .work))) (pointsFrom (c .before .before .before .before .before .before .before .before .before .before .before .before .before .before .args .n) (now (c .before .before .before .before .before .before .before .before .before .before .before .before .before .before .args .work))) (c .before .before .before .before .before .before .before .before .before .before .before .before .before .before .args .rational) (weightsFrom (c .before .before .before .before .before .before .before .before .before .before .before .before .before .before .args .rational) (c .before .before .before .before .before .before .before .before .before .before .before .before .before .before .args .n) (now (c .before .before .before .before .before .before .before .before .before .before .before .before .before .before .args .work))) (c .before .before .before .before .before .before .before .before .before .before .before .before .before .before .args .t) _ _ (c .before .before .before .before .before .before .before .before .before .before .multiplicity .ensures ∙ ap (λ (ks : List Float). multiplicityOf ks (c .before .before .before .before .before .before .before .before .before .before .before .before .before .before .args .t)) (slice-is (c .before .before .before .before .before .before .before .before .before .before .before .before .before .before .args .a) (c .before .before .before .before .before .before .before .before .before .before .before .before .before .before .args .n + c .before .before .before .before .before .before .before .before .before .before .before .before .before .before .args .p + 1) (now (c .before .before .before .before .before .before .before .before .before .before .before .before .before .before .args .work)))) (c .before .before .before .before .before .before .before .before .before .before .before .before .before .before .pre .0) o (moved-span (slice-is (c .before .before .before .before .before .before .before .before .before .before .before .before .before .before .args .a) (c .before .before .before .before .before .before .before .before .before .before .before .before .before .before .args .n + c .before .before .before .before .before .before .before .before .before .before .before .before .before .before .args .p + 1) (now (c .before .before .before .before .before .before .before .before .before .before .before .before .before .before .args .work))) (c .before .before .before .before .span-of .ensures)) in insert-done (c .before .before .before .before .before .before .before .before .before .before .before .before .before .before .args .p) (c .before .before .before .before .before .before .before .before .before .before .before .before .before .before .args .n) (knotsFrom (c .before .before .before .before .before .before .before .before .before .before .before .before .before .before .args .a) (c .before .before .before .before .before .before .before .before .before .before .before .before .before .before .args .p) (c .before .before .before .before .before .before .before .before .before .before .before .before .before .before .args .n) (now (c .before .before .before .before .before .before .before .before .before .before .before .before .before .before .args .work))) (pointsFrom (c .before .before .before .before .before .before .before .before .before .before .before .before .before .before .args .n) (now (c .before .before .before .before .before .before .before .before .before .before .before .before .before .before .args .work))) (c .before .before .before .before .before .before .before .before .before .before .before .before .before .before .args .rational) (weightsFrom (c .before .before .before .before .before .before .before .before .before .before .before .before .before .before .args .rational) (c .before .before .before .before .before .before .before .before .before .before .before .before .before .before .args .n) (now (c .before .before .before .before .before .before .before .before .before .before .before .before .before .before .args .work))) (c .before .before .before .before .before .before .before .before .before .before .before .before .before .before .args .t) (c .before .before .before .before .before .before .before .before .before .before .before .before .before .before .args .a) (now (c .before .before .before .before .before .before .before .before .before .before .before .before .before .before .args .work)) _ _ _ (c .before .before .before .before .before .before .before .before .before .before .multiplicity .ensures ∙ ap (λ (ks : List Float). multiplicityOf ks (c .before .before .before .before .before .before .before .before .before .before .before .before .before .before .args .t)) (slice-is (c .before .before .before .before .before .before .before .before .before .before .before .before .before .before .args .a) (c .before .before .before .before .before .before .before .before .before .before .before .before .before .before .args .n + c .before .before .before .before .before .before .before .before .before .before .before .before .before .before .args .p + 1) (now (c .before .before .before .before .before .before .before .before .before .before .before .before .before .before .args .work)))) _ _ (c .before .before .before .before .before .before .before .spot-refusal .ensures ∙ ap (λ (ks : List Float). spotRefusal (at ks (c .before .before .before .before .before .before .before .before .before .before .before .before .before .before .args .p)) (at ks (c .before .before .before .before .before .before .before .before .before .before .before .before .before .before .args .n)) (c .before .before .before .before .before .before .before .before .before .before .before .before .before .before .args .t) (c .before .before .before .before .before .before .before .before .before .before .before .before .before .before .args .p) (c .before .before .before .before .before .before .before .before .before .before .multiplicity .result)) (slice-is (c .before .before .before .before .before .before .before .before .before .before .before .before .before .before .args .a) (c .before .before .before .before .before .before .before .before .before .before .before .before .before .before .args .n + c .before .before .before .before .before .before .before .before .before .before .before .before .before .before .args .p + 1) (now (c .before .before .before .before .before .before .before .before .before .before .before .before .before .before .args .work)))) (c .before .before .before .before .before .if1 .left) (s .1) (c .before .before .insert-at .ensures)
 
 pub insert-one-spec : {M : Type 1} → statement M
 insert-one-spec =
     tie.close
     (tie.spec
-    add-m
-    add-m-2
-    slice-reshare-prefix-ks
-    slice-aggregate-ks
+    add-end
+    add-end-2
+    add-end-3
+    mul-ks
+    sub-ks
+    part-ks-start
+    part-ks-end
     multiplicity-requires
     mul-spot-refusal
     shared-slice-read-spot-refusal
@@ -92,7 +120,4 @@ insert-one-spec =
     span-of-requires
     insert-at-requires
     same-length-2
-    same-length-3
-    same-length-4
-    same-length-5
     returns-2)

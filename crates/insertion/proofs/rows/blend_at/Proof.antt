@@ -1,77 +1,89 @@
--- `insertion::rows::blend_at` meets its contract.
--- Assumes nothing.
-use denote.Ref.{now}
+use borrow.Author.Tests.{le-leb, lt-leb}
+use mathlib.Core.Path.{_∙_, ap}
+use Rattle.insertion.specs.Passes.{blendOne}
+use Rattle.insertion.specs.Control.{blendOf}
 use borrow.Author.Needs.{needs}
-use Rattle.insertion.proofs.RowLoops.{blend-low, blend-mid, blend-high}
 use Rattle.insertion.proofs.rows.blend_at.Statement.{statement}
 use Rattle.insertion.proofs.rows.blend_at.Tie as tie
-use Rattle.insertion.specs.Passes.{rowOf}
+use Rattle.insertion.proofs.rows.blend_at.Reads as reads
+use Rattle.insertion.proofs.rows.blend_at.Lts as lts
+use Rattle.insertion.proofs.control.blend_of.Reads as blend-of-reads
+use Rattle.insertion.proofs.control.share_of.Reads as share-of-reads
 
+-- src/rows.rt:144:13
 sub-if1 : tie.Need-sub-if1
 sub-if1 c = search needs
 
-row-at-requires : tie.Need-row-at-requires
-row-at-requires c κs = search needs
-
+-- src/rows.rt:145:9
 returns : tie.Need-returns
-returns c = blend-low (c .before .before .before .before .before .args .spot .p) (c .before .before .before .before .before .args .spot .k) (c .before .before .before .before .before .args .spot .s) (c .before .before .before .before .before .args .spot .t) (now (c .before .before .before .before .before .args .knots)) (rowOf (now (c .before .before .before .before .before .args .rows))) (c .before .before .before .before .before .args .i) (c .before .if1 .taken) _ (c .row-at .ensures)
+unfolding blendOne
+returns c = simp (le-leb _ _ (c .if1 .taken))
 
-sub-row-at : tie.Need-sub-row-at
-sub-row-at c = search needs
-
-row-at-requires-2 : tie.Need-row-at-requires-2
-row-at-requires-2 c κs = search needs
-
+-- src/rows.rt:147:13
 sub-if2 : tie.Need-sub-if2
 sub-if2 c = search needs
 
-add-end : tie.Need-add-end
-add-end c = search needs
+-- src/rows.rt:148:20
+add-left : tie.Need-add-left
+add-left c = search needs
 
+-- src/rows.rt:149:26
+add-right : tie.Need-add-right
+add-right c = search needs
+
+-- src/rows.rt:149:21
+add-right-2 : tie.Need-add-right-2
+add-right-2 c = search needs
+
+-- src/rows.rt:150:34
 mul-share-of : tie.Need-mul-share-of
 mul-share-of c = search needs
 
+-- src/rows.rt:150:34
 shared-slice-read-share-of : tie.Need-shared-slice-read-share-of
 shared-slice-read-share-of c = search needs
 
+-- src/rows.rt:150:46
 mul-share-of-2 : tie.Need-mul-share-of-2
 mul-share-of-2 c = search needs
 
+-- src/rows.rt:150:46
 shared-slice-read-share-of-2 : tie.Need-shared-slice-read-share-of-2
 shared-slice-read-share-of-2 c = search needs
 
+-- src/rows.rt:150:13
 share-of-requires : tie.Need-share-of-requires
 share-of-requires c κs = search needs
 
-row-at-requires-3 : tie.Need-row-at-requires-3
-row-at-requires-3 c κs = search needs
-
+-- src/rows.rt:151:9
 blend-of-requires : tie.Need-blend-of-requires
 blend-of-requires c κs = search needs
 
+-- src/rows.rt:151:9
 returns-2 : tie.Need-returns-2
-returns-2 c = blend-mid (c .before .before .before .before .before .before .before .before .before .before .before .before .before .args .spot .p) (c .before .before .before .before .before .before .before .before .before .before .before .before .before .args .spot .k) (c .before .before .before .before .before .before .before .before .before .before .before .before .before .args .spot .s) (c .before .before .before .before .before .before .before .before .before .before .before .before .before .args .spot .t) (now (c .before .before .before .before .before .before .before .before .before .before .before .before .before .args .knots)) (rowOf (now (c .before .before .before .before .before .before .before .before .before .before .before .before .before .args .rows))) (c .before .before .before .before .before .before .before .before .before .before .before .before .before .args .i) (c .before .before .before .before .before .before .before .before .before .if1 .left) _ (c .before .before .before .before .before .before .before .before .row-at2 .ensures) (c .before .before .before .before .before .before .if2 .taken) _ (c .before .row-at3 .ensures) _ (c .before .before .share-of .ensures) _ (c .blend-of .ensures)
+unfolding blendOne
+returns-2 c = simp (lt-leb _ _ (c .before .before .before .before .before .before .before .if1 .left), le-leb _ _ (c .before .before .before .before .before .if2 .taken)) (c .blend-of .ensures ∙ ap (blendOf (c .before .before .before .before .before .before .before .before .before .before .args .before) (c .before .before .before .before .before .before .before .before .before .before .args .here)) (c .before .share-of .ensures))
 
+-- src/rows.rt:132:1
 returns-3 : tie.Need-returns-3
-returns-3 c = blend-high (c .before .before .before .before .before .before .before .args .spot .p) (c .before .before .before .before .before .before .before .args .spot .k) (c .before .before .before .before .before .before .before .args .spot .s) (c .before .before .before .before .before .before .before .args .spot .t) (now (c .before .before .before .before .before .before .before .args .knots)) (rowOf (now (c .before .before .before .before .before .before .before .args .rows))) (c .before .before .before .before .before .before .before .args .i) (c .before .before .before .if1 .left) _ (c .before .before .row-at2 .ensures) (c .if2 .left)
+unfolding blendOne
+returns-3 c = simp (lt-leb _ _ (c .before .before .if1 .left), lt-leb _ _ (c .if2 .left))
 
 pub blend-at-spec : {M : Type 1} → statement M
 blend-at-spec =
     tie.close
     (tie.spec
     sub-if1
-    row-at-requires
     returns
-    sub-row-at
-    row-at-requires-2
     sub-if2
-    add-end
+    add-left
+    add-right
+    add-right-2
     mul-share-of
     shared-slice-read-share-of
     mul-share-of-2
     shared-slice-read-share-of-2
     share-of-requires
-    row-at-requires-3
     blend-of-requires
     returns-2
     returns-3)

@@ -1,62 +1,80 @@
--- `insertion::rows::lift_rows` meets its contract.
--- Assumes nothing.
 use mathlib.Core.Path.{_≡_, sym, _∙_, ap}
 use Prim.Native.Nat.{_-_}
 use native.Mathlib.Omega.{arith}
 use denote.Ref.{now}
-use lib.Ieee.{Float}
-use borrow.Author.Needs.{needs}
 use borrow.Author.Tests.{not-true, not-false}
-use Rattle.insertion.specs.Rows.{scaleOf, liftAt, liftAll}
+use Rattle.insertion.specs.Rows.{scaleOf, liftAll}
+use Rattle.insertion.specs.Work.{pointsFrom, weightsFrom}
+use Rattle.insertion.specs.Passes.{liftRow}
 use Rattle.insertion.proofs.RowLoops.{InLift, lift-start, lift-stop, lift-more, lift-end}
+use borrow.Author.Needs.{needs}
 use Rattle.insertion.proofs.rows.lift_rows.Statement.{statement}
 use Rattle.insertion.proofs.rows.lift_rows.Tie as tie
+use Rattle.insertion.proofs.rows.lift_rows.Reads as reads
+use Rattle.insertion.proofs.rows.lift_rows.Lts as lts
+use Rattle.insertion.proofs.control.is_lifted.Reads as is-lifted-reads
+use Rattle.insertion.proofs.rows.lift_row.Reads as lift-row-reads
+use Rattle.insertion.proofs.rows.put_row.Reads as put-row-reads
+use Rattle.insertion.proofs.rows.row_at.Reads as row-at-reads
+use Rattle.insertion.proofs.rows.scale_of.Reads as scale-of-reads
 
 abbrev Inv-loop : tie.InvT-loop
-Inv-loop n o points rational weights rows₀ scale i₀ rows i = (scale ≡ scaleOf rational weights) × InLift (liftAll o points rational weights) n rows₀ rows i
+Inv-loop n o rational rows₀ scale i₀ rows i = (scale ≡ scaleOf rational (weightsFrom rational n rows₀)) × InLift rational (liftAll o (pointsFrom n rows₀) rational (weightsFrom rational n rows₀)) n rows₀ rows i
 
 abbrev μ-loop : tie.MeasureT-loop
-μ-loop n o points rational weights rows₀ scale i₀ rows i = n - i
+μ-loop n o rational rows₀ scale i₀ rows i = n - i
 
+-- src/rows.rt:118:9
 scale-of-requires : tie.Need-scale-of-requires Inv-loop μ-loop
-scale-of-requires c κs = search needs
+scale-of-requires c κs = c .before .before .pre
 
+-- src/rows.rt:120:5
 loop-holds : tie.Need-loop-holds Inv-loop μ-loop
-loop-holds c = (c .scale-of .ensures, lift-start (liftAll (c .before .before .before .before .args .o) (now (c .before .before .before .before .args .points)) (c .before .before .before .before .args .rational) (now (c .before .before .before .before .args .weights))) (c .before .before .before .before .args .n) (now (c .before .before .before .before .args .rows)))
+loop-holds c = (c .scale-of .ensures, lift-start (c .before .before .before .args .rational) (c .before .before .before .args .o) (c .before .before .before .args .n) (now (c .before .before .before .args .rows)))
 
-lift-at-requires : tie.Need-lift-at-requires Inv-loop μ-loop
-lift-at-requires c κs = let U = c .before .loop .inv .1 .upto in
-    let l = c .before .before .before .before .before .before .pre .0 in
-    (omega arith, (λ g. let w = c .before .before .before .before .before .before .pre .1 .0 g in omega arith))
+-- src/rows.rt:121:46
+row-at-requires : tie.Need-row-at-requires Inv-loop μ-loop
+row-at-requires c κs = let t = c .before .loop-test .taken in let p = c .before .before .before .before .before .before .pre in let l = c .before .before .loop .inv .1 .done .long in omega arith
 
+-- src/rows.rt:121:13
+lift-row-requires : tie.Need-lift-row-requires Inv-loop μ-loop
+lift-row-requires c κs = search needs
+
+-- src/rows.rt:122:13
 is-lifted-requires : tie.Need-is-lifted-requires Inv-loop μ-loop
 is-lifted-requires c κs = search needs
 
+-- src/rows.rt:123:13
 same-length : tie.Need-same-length Inv-loop μ-loop
-same-length c = c .before .before .before .before .loop .inv .1 .long
+same-length c = c .before .before .before .before .before .before .loop .inv .1 .done .long
 
+-- src/rows.rt:123:13
 returns : tie.Need-returns Inv-loop μ-loop
-returns c = lift-stop (liftAll (c .before .before .before .before .before .before .before .before .before .args .o) (now (c .before .before .before .before .before .before .before .before .before .args .points)) (c .before .before .before .before .before .before .before .before .before .args .rational) (now (c .before .before .before .before .before .before .before .before .before .args .weights))) (c .before .before .before .before .before .before .before .before .before .args .n) (now (c .before .before .before .before .before .before .before .before .before .args .rows)) (c .before .before .before .before .loop .rows) (c .before .before .before .before .loop .i) (c .before .before .before .before .loop .inv .1) (c .before .before .before .loop-test .taken) _ (c .before .before .lift-at .ensures ∙ ap (λ (m : Float). liftAt m (c .before .before .before .before .before .before .before .before .before .args .o) (now (c .before .before .before .before .before .before .before .before .before .args .points)) (c .before .before .before .before .before .before .before .before .before .args .rational) (now (c .before .before .before .before .before .before .before .before .before .args .weights)) (c .before .before .before .before .loop .i)) (c .before .before .before .before .before .scale-of .ensures)) (sym (c .before .is-lifted .ensures) ∙ not-true _ (c .if1 .taken))
+returns c = lift-stop (c .before .before .before .before .before .before .before .before .before .before .args .rational) (c .before .before .before .before .before .before .before .before .before .before .args .o) (c .before .before .before .before .before .before .before .before .before .before .args .n) (now (c .before .before .before .before .before .before .before .before .before .before .args .rows)) _ (c .before .before .before .before .before .before .loop .i) (c .before .before .before .before .before .before .loop .inv .1) (c .before .before .before .before .before .loop-test .taken) _ (c .before .before .before .before .before .before .loop .inv .0) _ (c .before .before .lift-row .ensures ∙ ap (liftRow _ (c .before .before .before .before .before .before .before .before .before .before .args .o) (c .before .before .before .before .before .before .before .before .before .before .args .rational)) (c .before .before .before .row-at .ensures)) (sym (c .before .is-lifted .ensures) ∙ not-true _ (c .if1 .taken))
 
+-- src/rows.rt:125:9
 put-row-requires : tie.Need-put-row-requires Inv-loop μ-loop
-put-row-requires c κs = let L = c .before .before .before .before .before .loop .inv .1 .long in
-    let l = c .before .before .before .before .before .before .before .before .before .before .pre .1 .1 in
-    omega arith
+put-row-requires c κs = let t = c .before .before .before .before .before .before .loop-test .taken in let p = c .before .before .before .before .before .before .before .before .before .before .before .pre in let l = c .before .before .before .before .before .before .before .loop .inv .1 .done .long in omega arith
 
+-- src/rows.rt:126:9
 add-i : tie.Need-add-i Inv-loop μ-loop
 add-i c = search needs
 
+-- src/rows.rt:120:5
 loop-less : tie.Need-loop-less Inv-loop μ-loop
 loop-less c = search needs
 
+-- src/rows.rt:120:5
 loop-again : tie.Need-loop-again Inv-loop μ-loop
-loop-again c = (c .before .before .before .before .before .before .before .before .loop .inv .0, lift-more (liftAll (c .before .before .before .before .before .before .before .before .before .before .before .before .before .args .o) (now (c .before .before .before .before .before .before .before .before .before .before .before .before .before .args .points)) (c .before .before .before .before .before .before .before .before .before .before .before .before .before .args .rational) (now (c .before .before .before .before .before .before .before .before .before .before .before .before .before .args .weights))) (c .before .before .before .before .before .before .before .before .before .before .before .before .before .args .n) (now (c .before .before .before .before .before .before .before .before .before .before .before .before .before .args .rows)) (c .before .before .before .before .before .before .before .before .loop .rows) (c .before .before .before .before .before .before .before .before .loop .i) (c .before .before .before .before .before .before .before .before .loop .inv .1) (c .before .before .before .before .before .before .before .loop-test .taken) _ (c .before .before .before .before .before .before .lift-at .ensures ∙ ap (λ (m : Float). liftAt m (c .before .before .before .before .before .before .before .before .before .before .before .before .before .args .o) (now (c .before .before .before .before .before .before .before .before .before .before .before .before .before .args .points)) (c .before .before .before .before .before .before .before .before .before .before .before .before .before .args .rational) (now (c .before .before .before .before .before .before .before .before .before .before .before .before .before .args .weights)) (c .before .before .before .before .before .before .before .before .loop .i)) (c .before .before .before .before .before .before .before .before .before .scale-of .ensures)) (c .before .before .before .before .before .before .before .before .before .before .before .before .before .pre .1 .1) (sym (c .before .before .before .before .before .is-lifted .ensures) ∙ not-false _ (c .before .before .before .before .if1 .left)) _ (c .before .before .put-row .ensures))
+loop-again c = (c .before .before .before .before .before .before .before .before .before .before .loop .inv .0, lift-more (c .before .before .before .before .before .before .before .before .before .before .before .before .before .before .args .rational) (c .before .before .before .before .before .before .before .before .before .before .before .before .before .before .args .o) (c .before .before .before .before .before .before .before .before .before .before .before .before .before .before .args .n) (now (c .before .before .before .before .before .before .before .before .before .before .before .before .before .before .args .rows)) _ (c .before .before .before .before .before .before .before .before .before .before .loop .i) (c .before .before .before .before .before .before .before .before .before .before .loop .inv .1) (c .before .before .before .before .before .before .before .before .before .loop-test .taken) _ (c .before .before .before .before .before .before .before .before .before .before .loop .inv .0) _ (c .before .before .before .before .before .before .lift-row .ensures ∙ ap (liftRow _ (c .before .before .before .before .before .before .before .before .before .before .before .before .before .before .args .o) (c .before .before .before .before .before .before .before .before .before .before .before .before .before .before .args .rational)) (c .before .before .before .before .before .before .before .row-at .ensures)) (sym (c .before .before .before .before .before .is-lifted .ensures) ∙ not-false _ (c .before .before .before .before .if1 .left)) _ (c .before .rows .given) (c .before .before .put-row .ensures))
 
+-- src/rows.rt:114:1
 same-length-2 : tie.Need-same-length-2 Inv-loop μ-loop
-same-length-2 c = c .before .loop .inv .1 .long
+same-length-2 c = c .before .loop .inv .1 .done .long
 
+-- src/rows.rt:114:1
 returns-2 : tie.Need-returns-2 Inv-loop μ-loop
-returns-2 c = lift-end (liftAll (c .before .before .before .before .before .before .args .o) (now (c .before .before .before .before .before .before .args .points)) (c .before .before .before .before .before .before .args .rational) (now (c .before .before .before .before .before .before .args .weights))) (c .before .before .before .before .before .before .args .n) (now (c .before .before .before .before .before .before .args .rows)) (c .before .loop .rows) (c .before .loop .i) (c .before .loop .inv .1) (c .loop-test .left)
+returns-2 c = lift-end (c .before .before .before .before .before .args .rational) (c .before .before .before .before .before .args .o) (c .before .before .before .before .before .args .n) (now (c .before .before .before .before .before .args .rows)) _ (c .before .loop .i) (c .before .loop .inv .1) (c .loop-test .left)
 
 pub lift-rows-spec : {M : Type 1} → statement M
 lift-rows-spec =
@@ -66,7 +84,8 @@ lift-rows-spec =
     μ-loop
     scale-of-requires
     loop-holds
-    lift-at-requires
+    row-at-requires
+    lift-row-requires
     is-lifted-requires
     same-length
     returns

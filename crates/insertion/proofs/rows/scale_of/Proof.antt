@@ -1,21 +1,29 @@
--- `insertion::rows::scale_of` meets its contract.
--- Assumes nothing.
 use lib.Ieee.{ofBits}
-use borrow.Author.Needs.{needs}
+use denote.Ref.{now}
+use mathlib.Core.Path.{sym, subst, _≡_}
+use mathlib.Core.Bool.{Bool}
 use Rattle.insertion.specs.Rows.{scaleOf}
+use Rattle.insertion.specs.Work.{weightsFrom}
+use Rattle.insertion.proofs.RowLoops.{scale-weighted, scale-plain}
+use borrow.Author.Needs.{needs}
 use Rattle.insertion.proofs.rows.scale_of.Statement.{statement}
 use Rattle.insertion.proofs.rows.scale_of.Tie as tie
+use Rattle.insertion.proofs.rows.scale_of.Reads as reads
+use Rattle.insertion.proofs.rows.scale_of.Lts as lts
+use Rattle.insertion.proofs.rows.largest_weight.Reads as largest-weight-reads
 
-largest-requires : tie.Need-largest-requires
-largest-requires c κs = search needs
+-- src/rows.rt:98:9
+largest-weight-requires : tie.Need-largest-weight-requires
+largest-weight-requires c κs = search needs
 
+-- src/rows.rt:98:9
 returns : tie.Need-returns
-unfolding scaleOf
-returns c = simp (c .before .if1 .taken) (c .largest .ensures)
+returns c = subst (λ (b : Bool). c .largest-weight .result ≡ scaleOf b (weightsFrom b (c .before .before .before .args .n) (now (c .before .before .before .args .rows)))) (sym (c .before .if1 .taken)) (scale-weighted (c .before .before .before .args .n) (now (c .before .before .before .args .rows)) _ (c .largest-weight .ensures))
 
+-- src/rows.rt:93:1
 returns-2 : tie.Need-returns-2
 unfolding scaleOf ofBits
 returns-2 c = simp (c .if1 .left)
 
 pub scale-of-spec : {M : Type 1} → statement M
-scale-of-spec = tie.close (tie.spec largest-requires returns returns-2)
+scale-of-spec = tie.close (tie.spec largest-weight-requires returns returns-2)

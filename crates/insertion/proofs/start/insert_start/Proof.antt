@@ -1,65 +1,60 @@
--- `insertion::start::insert_start` meets its contract.
--- Assumes nothing.
-use borrow.Author.Needs.{needs}
-use mathlib.Core.Path.{_≡_, refl, sym, _∙_, ap}
-use mathlib.Core.Bool.{true}
-use native.Mathlib.Omega.{arith}
-use denote.Ref.{now}
-use borrow.Author.Tests.{not-true, not-false}
-use Rattle.insertion.specs.Start.{insertStart}
+use mathlib.Core.Path.{sym, _∙_}
 use Rattle.knots.proofs.Refusals.{stop, skip}
-use Rattle.knots.proofs.Curves.{valid-curve, within}
-use Rattle.knots.specs.declared.refusal.Refusal.{Refusal}
-use Rattle.knots.specs.Curve.{curveRefusal}
+use Rattle.insertion.specs.Start.{insertStart}
+use borrow.Author.Needs.{needs}
 use Rattle.insertion.proofs.start.insert_start.Statement.{statement}
 use Rattle.insertion.proofs.start.insert_start.Tie as tie
+use Rattle.insertion.proofs.start.insert_start.Reads as reads
+use Rattle.insertion.proofs.start.insert_start.Lts as lts
+use Rattle.insertion.proofs.start.edit_start.Reads as edit-start-reads
+use Rattle.insertion.proofs.start.out_room.Reads as out-room-reads
+use Rattle.insertion.proofs.start.scratch_room.Reads as scratch-room-reads
+use Rattle.knots.proofs.limits.over_long.Reads as over-long-reads
+use Rattle.knots.proofs.refusal.refuse.Reads as refuse-reads
 
+-- src/start.rt:90:8
 over-long-requires : tie.Need-over-long-requires
 over-long-requires c κs = search needs
 
+-- src/start.rt:91:9
 refuse-requires : tie.Need-refuse-requires
 refuse-requires c κs = search needs
 
+-- src/start.rt:91:9
 returns : tie.Need-returns
 unfolding insertStart
 returns c = simp (sym (c .before .before .over-long .ensures) ∙ c .before .if1 .taken) (c .refuse .ensures)
 
-curve-refusal-requires : tie.Need-curve-refusal-requires
-curve-refusal-requires c κs = search needs
+-- src/start.rt:93:9
+edit-start-requires : tie.Need-edit-start-requires
+edit-start-requires c κs = search needs
 
+-- src/start.rt:95:9
 returns-2 : tie.Need-returns-2
 unfolding insertStart
-returns-2 c = simp (sym (c .before .before .before .before .over-long .ensures) ∙ c .before .before .before .if1 .left, stop (c .before .before .curve-refusal .ensures) (c .if2 .taken)) (c .before .before .curve-refusal .ensures)
+returns-2 c = simp (sym (c .before .before .before .before .over-long .ensures) ∙ c .before .before .before .if1 .left, stop (c .before .before .edit-start .ensures) (c .if2 .taken)) (c .before .before .edit-start .ensures)
 
-clamped-ends-requires : tie.Need-clamped-ends-requires
-clamped-ends-requires c κs = let z : curveRefusal (c .before .before .before .before .before .before .before .before .before .args .degree) (now (c .before .before .before .before .before .before .before .before .before .args .knots)) (now (c .before .before .before .before .before .before .before .before .before .args .points)) (c .before .before .before .before .before .before .before .before .before .args .rational) (now (c .before .before .before .before .before .before .before .before .before .args .weights)) .number ≡ 0 = sym (ap (λ (r : Refusal). r .number) (c .before .before .curve-refusal .ensures)) ∙ c .if2 .left in
-    let v = valid-curve (c .before .before .before .before .before .before .before .before .before .args .degree) (now (c .before .before .before .before .before .before .before .before .before .args .knots)) (now (c .before .before .before .before .before .before .before .before .before .args .points)) (c .before .before .before .before .before .before .before .before .before .args .rational) (now (c .before .before .before .before .before .before .before .before .before .args .weights)) z in
-    let n = v .knots .count in
-    let l = v .knots .long in
-    (n, omega arith)
+-- src/start.rt:97:13
+add-n : tie.Need-add-n
+add-n c = search needs
 
-refuse-requires-2 : tie.Need-refuse-requires-2
-refuse-requires-2 c κs = search needs
+-- src/start.rt:98:9
+out-room-requires : tie.Need-out-room-requires
+out-room-requires c κs = search needs
 
+-- src/start.rt:100:9
 returns-3 : tie.Need-returns-3
 unfolding insertStart
-returns-3 c = simp (sym (c .before .before .before .before .before .before .before .over-long .ensures) ∙ c .before .before .before .before .before .before .if1 .left, skip (c .before .before .before .before .before .curve-refusal .ensures) (c .before .before .before .if2 .left), sym (c .before .before .clamped-ends .ensures) ∙ not-true _ (c .before .if3 .taken)) (c .refuse2 .ensures)
+returns-3 c = simp (sym (c .before .before .before .before .before .before .before .over-long .ensures) ∙ c .before .before .before .before .before .before .if1 .left, skip (c .before .before .before .before .before .edit-start .ensures) (c .before .before .before .if2 .left), stop (c .before .before .out-room .ensures) (c .if3 .taken)) (c .before .before .out-room .ensures)
 
-add-room-for : tie.Need-add-room-for
-add-room-for c = search needs
+-- src/start.rt:102:5
+scratch-room-requires : tie.Need-scratch-room-requires
+scratch-room-requires c κs = search needs
 
-room-for-requires : tie.Need-room-for-requires
-room-for-requires c κs = let z : curveRefusal (c .before .before .before .before .before .before .before .before .before .before .before .args .degree) (now (c .before .before .before .before .before .before .before .before .before .before .before .args .knots)) (now (c .before .before .before .before .before .before .before .before .before .before .before .args .points)) (c .before .before .before .before .before .before .before .before .before .before .before .args .rational) (now (c .before .before .before .before .before .before .before .before .before .before .before .args .weights)) .number ≡ 0 = sym (ap (λ (r : Refusal). r .number) (c .before .before .before .before .curve-refusal .ensures)) ∙ c .before .before .if2 .left in
-    let v = valid-curve (c .before .before .before .before .before .before .before .before .before .before .before .args .degree) (now (c .before .before .before .before .before .before .before .before .before .before .before .args .knots)) (now (c .before .before .before .before .before .before .before .before .before .before .before .args .points)) (c .before .before .before .before .before .before .before .before .before .before .before .args .rational) (now (c .before .before .before .before .before .before .before .before .before .before .before .args .weights)) z in
-    let n = v .knots .count in
-    let l = v .knots .long in
-    let s = v .short .points in
-    let w = within true (now (c .before .before .before .before .before .before .before .before .before .before .before .args .inserted)) (sym (c .before .before .before .before .before .before .over-long .ensures) ∙ c .before .before .before .before .before .if1 .left) refl in
-    (omega arith, omega arith)
-
+-- src/start.rt:76:1
 returns-4 : tie.Need-returns-4
 unfolding insertStart
-returns-4 c = simp (sym (c .before .before .before .before .before .before .before .over-long .ensures) ∙ c .before .before .before .before .before .before .if1 .left, skip (c .before .before .before .before .before .curve-refusal .ensures) (c .before .before .before .if2 .left), sym (c .before .before .clamped-ends .ensures) ∙ not-false _ (c .before .if3 .left)) (c .room-for .ensures)
+returns-4 c = simp (sym (c .before .before .before .before .before .before .before .before .over-long .ensures) ∙ c .before .before .before .before .before .before .before .if1 .left, skip (c .before .before .before .before .before .before .edit-start .ensures) (c .before .before .before .before .if2 .left), skip (c .before .before .before .out-room .ensures) (c .before .if3 .left)) (c .scratch-room .ensures)
 
 pub insert-start-spec : {M : Type 1} → statement M
 insert-start-spec =
@@ -68,11 +63,10 @@ insert-start-spec =
     over-long-requires
     refuse-requires
     returns
-    curve-refusal-requires
+    edit-start-requires
     returns-2
-    clamped-ends-requires
-    refuse-requires-2
+    add-n
+    out-room-requires
     returns-3
-    add-room-for
-    room-for-requires
+    scratch-room-requires
     returns-4)

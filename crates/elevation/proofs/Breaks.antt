@@ -1,0 +1,300 @@
+-- The breaks of a clamped curve: where they lie, how many knots they are, and that they can be made full.
+-- Assumes nothing.
+use Prim.Native.Nat.{ℕ, zero, suc, _+_, _-_, _*_, _≤_, _<_}
+use mathlib.Core.Bool.{Bool, true, false, cond}
+use mathlib.Core.Path.{_≡_, refl, _∙_, ap, subst}
+use mathlib.Core.List.{List, [], _∷_}
+use native.Mathlib.Omega.{arith}
+use native.Mathlib.Nat.{add-zero}
+use lib.ListN.{length, replicate, length-replicate, length-append}
+use lib.Ieee.{Float, lt, eq}
+use lib.Ieee.Scale.{finite}
+use Rattle.doubles.specs.Run.{at}
+use Rattle.doubles.proofs.Tested.{ge-lt-trans, lt-ge-trans}
+use Rattle.knots.specs.Knots.{ValidKnots}
+use Rattle.knots.specs.declared.refusal.Refusal.{Refusal}
+use Rattle.knots.proofs.Valid.{sorted}
+use Rattle.insertion.specs.Counts.{bit, countBelow, multiplicityOf}
+use Rattle.insertion.specs.Rows.{given}
+use Rattle.insertion.specs.Insert.{inside}
+use Rattle.insertion.specs.Fold.{gives, refuses, insertAll}
+use Rattle.insertion.specs.Start.{clampedEnds}
+use Rattle.insertion.proofs.Grown.{count-run}
+use Rattle.insertion.proofs.Counted.{gt-not-eq, lt-not-eq, below-by, eq-finite, count-early, eq-self, eq-same, eq-sym, eq-lt-left, eq-lt-right, multiplicity-most, clamped-low, clamped-high}
+use Rattle.insertion.proofs.Never.{Each, countIn, each-append, each-replicate, each-map, count-append, count-replicate, Made, made, made-multiplicity, Late, late, inside-by, room-more}
+use Rattle.elevation.specs.Breaks.{breaksFrom, breaksOf, isFull, fullCount, missingAll}
+
+-- ---- what holds of each knot that differs from the one before it holds of each break
+pub breaks-each : (P : Float → Type 0) (ks : List Float) (i m : ℕ) → ((j : ℕ) → i ≤ j → j < i + m → eq (at ks (j - 1)) (at ks j) ≡ false → P (at ks j)) → Each P (breaksFrom ks i m)
+unfolding breaksFrom
+breaks-each P ks i zero h = tt
+breaks-each P ks i (suc m) h = go (eq (at ks (i - 1)) (at ks i)) refl (breaks-each P ks (suc i) m (λ j a b. h j (omega arith) (omega arith)))
+  where
+    go : (x : Bool) → eq (at ks (i - 1)) (at ks i) ≡ x → Each P (breaksFrom ks (suc i) m) → Each P (cond x (breaksFrom ks (suc i) m) (at ks i ∷ breaksFrom ks (suc i) m))
+    go true e r = r
+    go false e r = (h i (omega arith) (omega arith) e, r)
+
+-- each number of a list is below all after it
+abbrev pub Rising : List Float → Type 0
+Rising [] = Unit
+Rising (t ∷ ts) = Each (λ u. lt t u ≡ true) ts × Rising ts
+
+each-zip : (P Q : Float → Type 0) (ts : List Float) → Each P ts → Each Q ts → Each (λ t. P t × Q t) ts
+each-zip P Q [] a b = tt
+each-zip P Q (t ∷ ts) a b = ((a .0, b .0), each-zip P Q ts (a .1) (b .1))
+
+-- ---- how many of the m places from i on pass a test
+unfoldable countFrom : (ℕ → Bool) → ℕ → ℕ → ℕ
+countFrom f i zero = 0
+countFrom f i (suc m) = bit (f i) + countFrom f (suc i) m
+
+count-split : (f : ℕ → Bool) (i m : ℕ) → countBelow f (i + m) ≡ countBelow f i + countFrom f i m
+unfolding countBelow countFrom
+count-split f i zero = ap (countBelow f) (add-zero i) ∙ omega arith
+count-split f i (suc m) = let e : i + suc m ≡ suc i + m = omega arith in ap (countBelow f) e ∙ omega (arith, count-split f (suc i) m)
+
+from-none : (f : ℕ → Bool) (i m : ℕ) → ((j : ℕ) → i ≤ j → j < i + m → f j ≡ false) → countFrom f i m ≡ 0
+unfolding countFrom
+from-none f i zero h = refl
+from-none f i (suc m) h = let z : bit (f i) ≡ 0 = ap bit (h i (omega arith) (omega arith)) in omega (arith, from-none f (suc i) m (λ j a b. h j (omega arith) (omega arith)))
+
+from-cong : (f g : ℕ → Bool) (i m : ℕ) → ((j : ℕ) → i ≤ j → j < i + m → f j ≡ g j) → countFrom f i m ≡ countFrom g i m
+unfolding countFrom
+from-cong f g i zero h = refl
+from-cong f g i (suc m) h = let z : bit (f i) ≡ bit (g i) = ap bit (h i (omega arith) (omega arith)) in omega (arith, from-cong f g (suc i) m (λ j a b. h j (omega arith) (omega arith)))
+
+-- how many knots the numbers of a list are
+unfoldable pub timesAll : List Float → List Float → ℕ
+timesAll ks [] = 0
+timesAll ks (t ∷ ts) = multiplicityOf ks t + timesAll ks ts
+
+pub missing-long : (p : ℕ) (ks bs : List Float) → Each (λ t. multiplicityOf ks t ≤ p + 1) bs → length (missingAll p ks bs) + timesAll ks bs ≡ (p + 1) * length bs
+unfolding missingAll timesAll
+missing-long p ks [] h = omega arith
+missing-long p ks (t ∷ ts) h =
+    let a = h .0 in
+    omega (arith, missing-long p ks ts (h .1), length-append (replicate (p + 1 - multiplicityOf ks t) t) (missingAll p ks ts), length-replicate (p + 1 - multiplicityOf ks t) t)
+
+-- the points of a raised curve after its first segment
+unfoldable pub raisedCount : ℕ → List Float → ℕ → List Float → ℕ
+raisedCount p ks e [] = 0
+raisedCount p ks e (t ∷ ts) = e + bit (isFull p ks t) + raisedCount p ks e ts
+
+pub full-most : (p : ℕ) (ks bs : List Float) → fullCount p ks bs ≤ length bs
+unfolding fullCount
+full-most p ks [] = omega arith
+full-most p ks (t ∷ ts) = omega (arith, full-most p ks ts, one (isFull p ks t))
+  where
+    one : (b : Bool) → bit b ≤ 1
+    one true = omega arith
+    one false = omega arith
+
+raised-sum : (p : ℕ) (ks : List Float) (e : ℕ) (bs : List Float) → raisedCount p ks e bs ≡ e * length bs + fullCount p ks bs
+unfolding raisedCount fullCount
+raised-sum p ks e [] = omega arith
+raised-sum p ks e (t ∷ ts) = omega (arith, raised-sum p ks e ts)
+
+pub out-count : (p : ℕ) (ks : List Float) (e : ℕ) (bs : List Float) → (e + 1) + raisedCount p ks e bs ≡ (e + 1) * (length bs + 1) - length bs + fullCount p ks bs
+out-count p ks e bs = omega (arith, raised-sum p ks e bs)
+
+-- ---- what is missing of each break of a list
+pub missing-each : (P : Float → Type 0) (p : ℕ) (ks bs : List Float) → Each P bs → Each P (missingAll p ks bs)
+unfolding missingAll
+missing-each P p ks [] h = tt
+missing-each P p ks (t ∷ ts) h = each-append P (replicate (p + 1 - multiplicityOf ks t) t) (missingAll p ks ts) (each-replicate P (p + 1 - multiplicityOf ks t) t (h .0)) (missing-each P p ks ts (h .1))
+
+missing-count : (f : Float → Bool) (p : ℕ) (ks : List Float) (t : Float) (ts : List Float) → countIn f (missingAll p ks (t ∷ ts)) ≡ (p + 1 - multiplicityOf ks t) * bit (f t) + countIn f (missingAll p ks ts)
+unfolding missingAll
+missing-count f p ks t ts = count-append f (replicate (p + 1 - multiplicityOf ks t) t) (missingAll p ks ts) ∙ ap (λ (m : ℕ). m + countIn f (missingAll p ks ts)) (count-replicate f (p + 1 - multiplicityOf ks t) t)
+
+count-none-in : (f : Float → Bool) (ts : List Float) → Each (λ t. f t ≡ false) ts → countIn f ts ≡ 0
+unfolding countIn
+count-none-in f [] h = refl
+count-none-in f (t ∷ ts) h = let z : bit (f t) ≡ 0 = ap bit (h .0) in omega (arith, count-none-in f ts (h .1))
+
+-- what equals a number equals none after it
+none-after : (t u : Float) → finite t ≡ true → eq t u ≡ true → (p : ℕ) (ks ts : List Float) → Each (λ x. finite x ≡ true) ts → Each (λ x. lt t x ≡ true) ts → countIn (λ x. eq x u) (missingAll p ks ts) ≡ 0
+none-after t u T e p ks ts F R =
+    let U = eq-finite t u T e in
+    count-none-in (λ x. eq x u) (missingAll p ks ts)
+    (missing-each (λ x. eq x u ≡ false) p ks ts
+    (each-map (λ x. (finite x ≡ true) × (lt t x ≡ true)) (λ x. eq x u ≡ false) (λ x h. gt-not-eq x u (h .0) U (eq-lt-left t u T U e x (h .0) (h .1))) ts (each-zip (λ x. finite x ≡ true) (λ x. lt t x ≡ true) ts F R)))
+
+module _ (p n : ℕ) (ks : List Float) (v : ValidKnots p n ks) where
+  -- there is room for it, and with it each is full
+  pub missing-room : (bs : List Float) → Each (λ t. finite t ≡ true) bs → Rising bs → (u : Float) → multiplicityOf ks u + countIn (λ x. eq x u) (missingAll p ks bs) ≤ p + 1
+  missing-room [] F R u = omega (arith, multiplicity-most p n ks v u, count-none-in (λ x. eq x u) (missingAll p ks []) (missing-each (λ x. eq x u ≡ false) p ks [] tt))
+  missing-room (t ∷ ts) F R u =
+      let a = multiplicity-most p n ks v t in
+      rw (missing-count (λ x. eq x u) p ks t ts)
+      (room-more p n ks v t u (F .0) (p + 1 - multiplicityOf ks t) (countIn (λ x. eq x u) (missingAll p ks ts)) (omega arith) (missing-room ts (F .1) (R .1) u) (λ e. none-after t u (F .0) e p ks ts (F .1) (R .0)))
+
+  pub missing-full : (bs : List Float) → Each (λ t. finite t ≡ true) bs → Rising bs → Each (λ u. multiplicityOf ks u + countIn (λ x. eq x u) (missingAll p ks bs) ≡ p + 1) bs
+  missing-full [] F R = tt
+  missing-full (t ∷ ts) F R =
+      let a = multiplicity-most p n ks v t in (
+        rw (missing-count (λ x. eq x t) p ks t ts, eq-self t (F .0), none-after t t (F .0) (eq-self t (F .0)) p ks ts (F .1) (R .0)) (omega arith),
+        each-map (λ u. (lt t u ≡ true) × (multiplicityOf ks u + countIn (λ x. eq x u) (missingAll p ks ts) ≡ p + 1)) (λ u. multiplicityOf ks u + countIn (λ x. eq x u) (missingAll p ks (t ∷ ts)) ≡ p + 1)
+            (λ u h. let k = h .1 in rw (missing-count (λ x. eq x u) p ks t ts, lt-not-eq t u (h .0)) (omega arith)) ts
+            (each-zip (λ u. lt t u ≡ true) (λ u. multiplicityOf ks u + countIn (λ x. eq x u) (missingAll p ks ts) ≡ p + 1) ts (R .0) (missing-full ts (F .1) (R .1))),
+      )
+
+-- what a break is
+pub record IsBreak (p n : ℕ) (ks : List Float) (t : Float) : Type 0 where
+  pub number : finite t ≡ true
+  pub low : lt (at ks p) t ≡ true
+  pub high : lt t (at ks n) ≡ true
+  pub present : 1 ≤ multiplicityOf ks t
+  pub most : multiplicityOf ks t ≤ p + 1
+
+module _ (p n : ℕ) (ks : List Float) (v : ValidKnots p n ks) where
+  fins : (j : ℕ) → j < n → finite (at ks j) ≡ true
+  fins j l = let L = v .long in v .finites j (omega arith)
+
+  -- the knot before a start is below it
+  start-above : (i : ℕ) → i < n → eq (at ks (i - 1)) (at ks i) ≡ false → lt (at ks (i - 1)) (at ks i) ≡ true
+  start-above i l e = let L = v .long in below-by (at ks (i - 1)) (at ks i) (fins (i - 1) (omega arith)) (fins i l) e (sorted p n ks v (i - 1) i (omega arith) (omega arith))
+
+  -- and so is every one before it
+  start-past : (i j : ℕ) → i < j → j < n → eq (at ks (j - 1)) (at ks j) ≡ false → lt (at ks i) (at ks j) ≡ true
+  start-past i j a l e =
+      let L = v .long in
+      ge-lt-trans (at ks i) (at ks (j - 1)) (at ks j) (fins i (omega arith)) (sorted p n ks v i (j - 1) (omega arith) (omega arith)) (start-above j l e)
+
+  pub breaks-rise : (i m : ℕ) → i + m ≤ n → Rising (breaksFrom ks i m)
+  unfolding breaksFrom
+  breaks-rise i zero l = tt
+  breaks-rise i (suc m) l = go (eq (at ks (i - 1)) (at ks i)) (breaks-rise (suc i) m (omega arith))
+    where
+      go : (x : Bool) → Rising (breaksFrom ks (suc i) m) → Rising (cond x (breaksFrom ks (suc i) m) (at ks i ∷ breaksFrom ks (suc i) m))
+      go true r = r
+      go false r = (breaks-each (λ u. lt (at ks i) u ≡ true) ks (suc i) m (λ j a b e. start-past i j (omega arith) (omega arith) e), r)
+
+  pub distinct : Rising (breaksOf p n ks)
+  unfolding breaksOf
+  distinct = let C = v .count in breaks-rise (p + 1) (n - (p + 1)) (omega arith)
+
+  module _ (c : clampedEnds p n ks ≡ true) where
+    -- no inner knot equals an end
+    above-low : (j : ℕ) → p < j → j < length ks → lt (at ks p) (at ks j) ≡ true
+    above-low j a l =
+        let C = v .count in
+        let P = fins p (omega arith) in
+        let Z = fins 0 (omega arith) in
+        let J = v .finites j l in
+        eq-lt-left (at ks 0) (at ks p) Z P (clamped-low p n ks v c 0 (omega arith)) (at ks j) J
+        (lt-ge-trans (at ks 0) (at ks (0 + (p + 1))) (at ks j) J (v .multiplicity 0 (omega arith)) (sorted p n ks v (0 + (p + 1)) j (omega arith) l))
+
+    below-high : (i : ℕ) → i < n → lt (at ks i) (at ks n) ≡ true
+    below-high i l =
+        let L = v .long in
+        let N = v .finites n (omega arith) in
+        let E = v .finites (n + p) (omega arith) in
+        let I = fins i l in
+        let e : n - 1 + (p + 1) ≡ n + p = omega arith in
+        let m : lt (at ks (n - 1)) (at ks (n + p)) ≡ true = subst (λ (j : ℕ). lt (at ks (n - 1)) (at ks j) ≡ true) e (v .multiplicity (n - 1) (omega arith)) in
+        eq-lt-right (at ks (n + p)) (at ks n) E N (clamped-high p n ks v c (n + p) (omega arith) (omega arith)) (at ks i) I
+        (ge-lt-trans (at ks i) (at ks (n - 1)) (at ks (n + p)) I (sorted p n ks v i (n - 1) (omega arith) (omega arith)) m)
+
+    knot-break : (j : ℕ) → p < j → j < n → IsBreak p n ks (at ks j)
+    unfolding multiplicityOf
+    knot-break j a b =
+        let L = v .long in
+        record {
+          number = fins j b;
+          low = above-low j a (omega arith);
+          high = below-high j b;
+          present = count-run (λ i. eq (at ks i) (at ks j)) j 1 (length ks) (omega arith) (λ i x y. let e : j ≡ i = omega arith in subst (λ (k : ℕ). eq (at ks k) (at ks j) ≡ true) e (eq-self (at ks j) (fins j b)));
+          most = multiplicity-most p n ks v (at ks j);
+        }
+
+    pub breaks-are : Each (IsBreak p n ks) (breaksOf p n ks)
+    unfolding breaksOf
+    breaks-are = let C = v .count in breaks-each (IsBreak p n ks) ks (p + 1) (n - (p + 1)) (λ j a b e. knot-break j (omega arith) (omega arith))
+
+    -- a break stands where it starts and then on
+    start-times : (i m : ℕ) → p < i → i + suc m ≡ n → eq (at ks (i - 1)) (at ks i) ≡ false → multiplicityOf ks (at ks i) ≡ suc (countFrom (λ j. eq (at ks j) (at ks i)) (suc i) m)
+    unfolding multiplicityOf countFrom
+    start-times i m a q e =
+        let L = v .long in
+        let l : length ks ≡ i + suc m + (p + 1) = omega arith in
+        let I = fins i (omega arith) in
+        let before : countBelow f i ≤ 0 = count-early f 0 i (λ j x y. lt-not-eq (at ks j) (at ks i) (start-past j i y (omega arith) e)) in
+        let behind : countFrom f (i + suc m) (p + 1) ≡ 0 = from-none f (i + suc m) (p + 1) (λ j x y.
+        let J = v .finites j (omega arith) in
+        gt-not-eq (at ks j) (at ks i) J I (lt-ge-trans (at ks i) (at ks n) (at ks j) J (below-high i (omega arith)) (sorted p n ks v n j (omega arith) (omega arith)))) in
+        let here : bit (eq (at ks i) (at ks i)) ≡ 1 = ap bit (eq-self (at ks i) I) in
+        ap (countBelow f) l ∙ omega (arith, count-split f (i + suc m) (p + 1), count-split f i (suc m))
+      where
+        f : ℕ → Bool
+        f j = eq (at ks j) (at ks i)
+
+    -- the knots from i on are those of the breaks from i on, and those that still equal the knot before i
+    walk : (i m : ℕ) → p < i → i + m ≡ n → timesAll ks (breaksFrom ks i m) + countFrom (λ j. eq (at ks j) (at ks (i - 1))) i m ≡ m
+    unfolding breaksFrom timesAll countFrom
+    walk i zero a q = omega arith
+    walk i (suc m) a q =
+        let e : suc i - 1 ≡ i = omega arith in
+        go (eq (at ks (i - 1)) (at ks i)) refl (subst (λ (k : ℕ). timesAll ks (breaksFrom ks (suc i) m) + countFrom (λ j. eq (at ks j) (at ks k)) (suc i) m ≡ m) e (walk (suc i) m (omega arith) (omega arith)))
+      where
+        go : (x : Bool) → eq (at ks (i - 1)) (at ks i) ≡ x → timesAll ks (breaksFrom ks (suc i) m) + countFrom (λ j. eq (at ks j) (at ks i)) (suc i) m ≡ m
+            → timesAll ks (cond x (breaksFrom ks (suc i) m) (at ks i ∷ breaksFrom ks (suc i) m)) + countFrom (λ j. eq (at ks j) (at ks (i - 1))) i (suc m) ≡ suc m
+        go true e r =
+            let X = fins (i - 1) (omega arith) in
+            let Y = fins i (omega arith) in
+            let one : bit (eq (at ks i) (at ks (i - 1))) ≡ 1 = ap bit (eq-sym (at ks (i - 1)) (at ks i) X Y e) in
+            omega (arith, from-cong (λ j. eq (at ks j) (at ks (i - 1))) (λ j. eq (at ks j) (at ks i)) (suc i) m (λ j x y. eq-same (at ks (i - 1)) (at ks i) X Y e (at ks j) (fins j (omega arith))))
+        go false e r =
+            let L = v .long in
+            let none = from-none (λ j. eq (at ks j) (at ks (i - 1))) i (suc m) (λ j x y.
+            let J = fins j (omega arith) in
+            gt-not-eq (at ks j) (at ks (i - 1)) J (fins (i - 1) (omega arith)) (lt-ge-trans (at ks (i - 1)) (at ks i) (at ks j) J (start-above i (omega arith) e) (sorted p n ks v i j x (omega arith)))) in
+            omega (arith, start-times i m a q e, none)
+
+    -- every inner knot is one of a break
+    pub breaks-times : timesAll ks (breaksOf p n ks) + (p + 1) ≡ n
+    unfolding breaksOf
+    breaks-times =
+        let C = v .count in
+        let L = v .long in
+        let e : p + 1 - 1 ≡ p = omega arith in
+        let w = subst (λ (k : ℕ). timesAll ks (breaksFrom ks (p + 1) (n - (p + 1))) + countFrom (λ j. eq (at ks j) (at ks k)) (p + 1) (n - (p + 1)) ≡ n - (p + 1)) e (walk (p + 1) (n - (p + 1)) (omega arith) (omega arith)) in
+        let none = from-none (λ j. eq (at ks j) (at ks p)) (p + 1) (n - (p + 1)) (λ j x y. gt-not-eq (at ks j) (at ks p) (fins j (omega arith)) (fins p (omega arith)) (above-low j (omega arith) (omega arith))) in
+        omega arith
+
+    pub extracted-count : n + length (missingAll p ks (breaksOf p n ks)) ≡ (p + 1) * (length (breaksOf p n ks) + 1)
+    extracted-count =
+        omega (arith, breaks-times, missing-long p ks (breaksOf p n ks) (each-map (IsBreak p n ks) (λ t. multiplicityOf ks t ≤ p + 1) (λ t b. b .most) (breaksOf p n ks) breaks-are))
+
+    -- ---- the extraction: every break made full
+    breaks-finite : Each (λ t. finite t ≡ true) (breaksOf p n ks)
+    breaks-finite = each-map (IsBreak p n ks) (λ t. finite t ≡ true) (λ t b. b .number) (breaksOf p n ks) breaks-are
+
+    module _ (g : Bool) (ps ws : List Float) where
+      pub extraction-late : (r : Refusal) → insertAll p g n ks ps ws (missingAll p ks (breaksOf p n ks)) ≡ refuses r → Late r
+      extraction-late r =
+          let L = v .long in
+          let P = v .finites p (omega arith) in
+          let N = v .finites n (omega arith) in
+          late p g n ks ps ws (missingAll p ks (breaksOf p n ks)) r v
+          (missing-each (λ t. inside (at ks p) (at ks n) t ≡ true) p ks (breaksOf p n ks)
+          (each-map (IsBreak p n ks) (λ t. inside (at ks p) (at ks n) t ≡ true) (λ t b. inside-by (at ks p) (at ks n) t P N (b .number) (b .low) (b .high)) (breaksOf p n ks) breaks-are))
+          (missing-room p n ks v (breaksOf p n ks) breaks-finite distinct)
+
+      module _ (ks' ps' ws' : List Float) (e : insertAll p g n ks ps ws (missingAll p ks (breaksOf p n ks)) ≡ gives ks' ps' ws') where
+        pub extraction : Made p g n ks ps ws (missingAll p ks (breaksOf p n ks)) ks' ps' ws'
+        extraction = made p g n ks ps ws (missingAll p ks (breaksOf p n ks)) ks' ps' ws' v e
+
+        pub extraction-full : Each (λ t. multiplicityOf ks' t ≡ p + 1) (breaksOf p n ks)
+        extraction-full =
+            each-map (λ t. multiplicityOf ks t + countIn (λ x. eq x t) (missingAll p ks (breaksOf p n ks)) ≡ p + 1) (λ t. multiplicityOf ks' t ≡ p + 1)
+            (λ t h. made-multiplicity p g n ks ps ws (missingAll p ks (breaksOf p n ks)) ks' ps' ws' v extraction t ∙ h) (breaksOf p n ks) (missing-full p n ks v (breaksOf p n ks) breaks-finite distinct)
+
+        pub extraction-valid : ValidKnots p ((p + 1) * (length (breaksOf p n ks) + 1)) ks'
+        extraction-valid = subst (λ (m : ℕ). ValidKnots p m ks') extracted-count (extraction .valid)
+
+        pub extraction-points : length ps ≡ n * 3 → length ps' ≡ (p + 1) * (length (breaksOf p n ks) + 1) * 3
+        extraction-points h = extraction .points h ∙ ap (λ (m : ℕ). m * 3) extracted-count
+
+        pub extraction-weights : length ws ≡ given g n → length ws' ≡ given g ((p + 1) * (length (breaksOf p n ks) + 1))
+        extraction-weights h = extraction .weights h ∙ ap (given g) extracted-count

@@ -1,0 +1,64 @@
+use Prim.Native.Nat.{_-_}
+use native.Mathlib.Omega.{arith}
+use denote.Ref.{now}
+use Rattle.insertion.proofs.RowLoops.{InLay, lay-start, lay-more, lay-end}
+use borrow.Author.Needs.{needs}
+use Rattle.insertion.proofs.lay.lay_rows.Statement.{statement}
+use Rattle.insertion.proofs.lay.lay_rows.Tie as tie
+use Rattle.insertion.proofs.lay.lay_rows.Reads as reads
+use Rattle.insertion.proofs.lay.lay_rows.Lts as lts
+use Rattle.insertion.proofs.lay.given_row.Reads as given-row-reads
+use Rattle.insertion.proofs.rows.put_row.Reads as put-row-reads
+
+abbrev Inv-loop : tie.InvT-loop
+Inv-loop n points rational weights rows₀ i₀ rows i = InLay n points rational weights rows₀ rows i
+
+abbrev μ-loop : tie.MeasureT-loop
+μ-loop n points rational weights rows₀ i₀ rows i = n - i
+
+-- src/lay.rt:49:5
+loop-holds : tie.Need-loop-holds Inv-loop μ-loop
+loop-holds c = lay-start (c .before .before .before .args .n) (now (c .before .before .before .args .points)) (c .before .before .before .args .rational) (now (c .before .before .before .args .weights)) (now (c .before .before .before .args .rows))
+
+-- src/lay.rt:50:36
+given-row-requires : tie.Need-given-row-requires Inv-loop μ-loop
+given-row-requires c κs = let t = c .before .loop-test .taken in let l = c .before .before .before .before .before .before .pre .0 in (omega arith, (λ g. let w = c .before .before .before .before .before .before .pre .1 .0 g in omega arith))
+
+-- src/lay.rt:50:9
+put-row-requires : tie.Need-put-row-requires Inv-loop μ-loop
+put-row-requires c κs = let t = c .before .before .loop-test .taken in let l = c .before .before .before .before .before .before .before .pre .1 .1 in let L = c .before .before .before .loop .inv .done .long in omega arith
+
+-- src/lay.rt:51:9
+add-i : tie.Need-add-i Inv-loop μ-loop
+add-i c = search needs
+
+-- src/lay.rt:49:5
+loop-less : tie.Need-loop-less Inv-loop μ-loop
+loop-less c = search needs
+
+-- src/lay.rt:49:5
+loop-again : tie.Need-loop-again Inv-loop μ-loop
+loop-again c = lay-more (c .before .before .before .before .before .before .before .before .before .before .args .n) (now (c .before .before .before .before .before .before .before .before .before .before .args .points)) (c .before .before .before .before .before .before .before .before .before .before .args .rational) (now (c .before .before .before .before .before .before .before .before .before .before .args .weights)) (now (c .before .before .before .before .before .before .before .before .before .before .args .rows)) _ (c .before .before .before .before .before .before .loop .i) (c .before .before .before .before .before .before .loop .inv) (c .before .before .before .before .before .loop-test .taken) _ (c .before .before .before .given-row .ensures) _ (c .before .rows .given) (c .before .before .put-row .ensures)
+
+-- src/lay.rt:42:1
+same-length : tie.Need-same-length Inv-loop μ-loop
+same-length c = c .before .loop .inv .done .long
+
+-- src/lay.rt:42:1
+returns : tie.Need-returns Inv-loop μ-loop
+returns c = lay-end (c .before .before .before .before .before .args .n) (now (c .before .before .before .before .before .args .points)) (c .before .before .before .before .before .args .rational) (now (c .before .before .before .before .before .args .weights)) (now (c .before .before .before .before .before .args .rows)) _ (c .before .loop .i) (c .before .loop .inv) (c .loop-test .left)
+
+pub lay-rows-spec : {M : Type 1} → statement M
+lay-rows-spec =
+    tie.close
+    (tie.spec
+    Inv-loop
+    μ-loop
+    loop-holds
+    given-row-requires
+    put-row-requires
+    add-i
+    loop-less
+    loop-again
+    same-length
+    returns)

@@ -1,0 +1,84 @@
+use mathlib.Core.Path.{_≡_, refl, sym, _∙_, ap}
+use Rattle.insertion.proofs.Folds.{InTurns, turns-start, turns-room, turns-stop, turns-more, turns-end, more-first, more-next, more-last}
+use mathlib.Core.Path.{_≡_, sym, _∙_, ap}
+use Prim.Native.Nat.{_+_, _-_}
+use native.Mathlib.Omega.{arith}
+use denote.Ref.{now}
+use lib.ListN.{length, drop, replicate}
+use Rattle.knots.specs.declared.refusal.Refusal.{Refusal}
+use borrow.Author.Needs.{needs}
+use Rattle.insertion.proofs.Folds.{InTurns, turns-start, turns-room, turns-stop, turns-more, turns-end, more-next, more-last}
+use Rattle.insertion.proofs.list.insert_many.Statement.{statement}
+use Rattle.insertion.proofs.list.insert_many.Tie as tie
+use Rattle.insertion.proofs.list.insert_many.Reads as reads
+use Rattle.insertion.proofs.list.insert_many.Lts as lts
+use Rattle.insertion.proofs.one.insert_one.Reads as insert-one-reads
+use Rattle.knots.proofs.refusal.refuse.Reads as refuse-reads
+
+abbrev Inv-loop : tie.InvT-loop
+Inv-loop p n rational t m a work₀ i₀ work i = InTurns a p rational n m (replicate m t) (λ k. replicate (m - k) t) work₀ work i
+
+abbrev μ-loop : tie.MeasureT-loop
+μ-loop p n rational t m a work₀ i₀ work i = m - i
+
+-- src/list.rt:53:5
+loop-holds : tie.Need-loop-holds Inv-loop μ-loop
+loop-holds c = turns-start (c .before .args .a) (c .before .args .p) (c .before .args .rational) (c .before .args .n) (c .before .args .m) (replicate (c .before .args .m) (c .before .args .t)) (λ k. replicate (c .before .args .m - k) (c .before .args .t)) (now (c .before .args .work)) (more-first (c .before .args .t) (c .before .args .m)) (c .before .pre .0)
+
+-- src/list.rt:54:37
+add-insert-one : tie.Need-add-insert-one Inv-loop μ-loop
+add-insert-one c = let q = c .before .before .before .pre .1 .1 in let t = c .loop-test .taken in let g = c .before .before .before .good in let f = c .before .before .before .fits in search needs
+
+-- src/list.rt:54:13
+insert-one-requires : tie.Need-insert-one-requires Inv-loop μ-loop
+insert-one-requires c κs = turns-room (c .before .before .before .before .args .a) (c .before .before .before .before .args .p) (c .before .before .before .before .args .rational) (c .before .before .before .before .args .n) (c .before .before .before .before .args .m) (replicate (c .before .before .before .before .args .m) (c .before .before .before .before .args .t)) (λ k. replicate (c .before .before .before .before .args .m - k) (c .before .before .before .before .args .t)) (now (c .before .before .before .before .args .work)) _ (c .before .before .loop .i) (c .before .before .loop .inv) (c .before .loop-test .taken) (c .before .before .before .before .pre .1 .0) (c .before .before .before .before .pre .1 .1)
+
+-- src/list.rt:56:13
+same-length : tie.Need-same-length Inv-loop μ-loop
+same-length c = c .before .before .before .work .given ∙ c .before .before .before .before .before .before .before .loop .inv .long
+
+-- src/list.rt:56:13
+returns : tie.Need-returns Inv-loop μ-loop
+returns c = turns-stop (c .before .before .before .before .before .before .before .before .before .args .a) (c .before .before .before .before .before .before .before .before .before .args .p) (c .before .before .before .before .before .before .before .before .before .args .rational) (c .before .before .before .before .before .before .before .before .before .args .n) (c .before .before .before .before .before .before .before .before .before .args .m) (replicate (c .before .before .before .before .before .before .before .before .before .args .m) (c .before .before .before .before .before .before .before .before .before .args .t)) (λ k. replicate (c .before .before .before .before .before .before .before .before .before .args .m - k) (c .before .before .before .before .before .before .before .before .before .args .t)) (now (c .before .before .before .before .before .before .before .before .before .args .work)) _ (c .before .before .before .before .before .before .before .loop .i) (c .before .before .before .before .before .before .before .loop .inv) (c .before .before .before .before .before .before .loop-test .taken) (c .before .before .before .before .before .before .before .before .before .args .t) (more-next (c .before .before .before .before .before .before .before .before .before .args .t) (c .before .before .before .before .before .before .before .before .before .args .m) (c .before .before .before .before .before .before .before .loop .i) (c .before .before .before .before .before .before .loop-test .taken)) _ _ (c .before .before .before .before .insert-one .ensures) (c .if1 .taken)
+
+-- src/list.rt:58:9
+add-i : tie.Need-add-i Inv-loop μ-loop
+add-i c = search needs
+
+-- src/list.rt:53:5
+loop-less : tie.Need-loop-less Inv-loop μ-loop
+loop-less c = search needs
+
+-- src/list.rt:53:5
+loop-again : tie.Need-loop-again Inv-loop μ-loop
+loop-again c = turns-more (c .before .before .before .before .before .before .before .before .before .args .a) (c .before .before .before .before .before .before .before .before .before .args .p) (c .before .before .before .before .before .before .before .before .before .args .rational) (c .before .before .before .before .before .before .before .before .before .args .n) (c .before .before .before .before .before .before .before .before .before .args .m) (replicate (c .before .before .before .before .before .before .before .before .before .args .m) (c .before .before .before .before .before .before .before .before .before .args .t)) (λ k. replicate (c .before .before .before .before .before .before .before .before .before .args .m - k) (c .before .before .before .before .before .before .before .before .before .args .t)) (now (c .before .before .before .before .before .before .before .before .before .args .work)) _ (c .before .before .before .before .before .before .before .loop .i) (c .before .before .before .before .before .before .before .loop .inv) (c .before .before .before .before .before .before .loop-test .taken) (c .before .before .before .before .before .before .before .before .before .args .t) (more-next (c .before .before .before .before .before .before .before .before .before .args .t) (c .before .before .before .before .before .before .before .before .before .args .m) (c .before .before .before .before .before .before .before .loop .i) (c .before .before .before .before .before .before .loop-test .taken)) _ _ (c .before .before .before .before .insert-one .ensures) (c .if1 .left) (c .before .before .before .work .given)
+
+-- src/list.rt:60:5
+refuse-requires : tie.Need-refuse-requires Inv-loop μ-loop
+refuse-requires c κs = search needs
+
+-- src/list.rt:39:1
+same-length-2 : tie.Need-same-length-2 Inv-loop μ-loop
+same-length-2 c = c .before .before .loop .inv .long
+
+-- src/list.rt:39:1
+returns-2 : tie.Need-returns-2 Inv-loop μ-loop
+returns-2 c = turns-end (c .before .before .before .before .args .a) (c .before .before .before .before .args .p) (c .before .before .before .before .args .rational) (c .before .before .before .before .args .n) (c .before .before .before .before .args .m) (replicate (c .before .before .before .before .args .m) (c .before .before .before .before .args .t)) (λ k. replicate (c .before .before .before .before .args .m - k) (c .before .before .before .before .args .t)) (now (c .before .before .before .before .args .work)) _ (c .before .before .loop .i) (c .before .before .loop .inv) (c .before .loop-test .left) (more-last (c .before .before .before .before .args .t) (c .before .before .before .before .args .m)) _ (ap (λ (r : Refusal). r .number) (c .refuse .ensures))
+
+pub insert-many-spec : {M : Type 1} → statement M
+insert-many-spec =
+    tie.close
+    (tie.spec
+    Inv-loop
+    μ-loop
+    loop-holds
+    add-insert-one
+    insert-one-requires
+    same-length
+    returns
+    add-i
+    loop-less
+    loop-again
+    refuse-requires
+    same-length-2
+    returns-2)
