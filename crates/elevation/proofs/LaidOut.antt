@@ -33,7 +33,7 @@ module _ (a : ℕ) (d ks ps : List Float) (g : Bool) (ws : List Float) (p n : �
   count : countOf ps ≡ n
   count = omega arith
 
-  row-place : (j : ℕ) → j < n * 4 → at (laid a d ks ps g ws) j ≡ rowNumber ps g ws j
+  row-place : (j : ℕ) → j < n * 4 → at (laid a d ks ps g ws) j ≡ rowNumber ps g ws (at d j) j
   unfolding laidAt
   row-place j l = let c = count in place j (omega arith) ∙ simp (lt-ltb j (countOf ps * 4) (omega arith))
 
@@ -57,11 +57,11 @@ module _ (a : ℕ) (d ks ps : List Float) (g : Bool) (ws : List Float) (p n : �
   pub points-laid : pointsFrom n (laid a d ks ps g ws) ≡ ps
   unfolding rowNumber
   points-laid =
-      tabulate-cong (n * 3) _ (at ps) (λ j l. row-place (j / 3 * 4 + j % 3) (omega arith) ∙ number j l)
+      tabulate-cong (n * 3) _ (at ps) (λ j l. row-place (j / 3 * 4 + j % 3) (omega arith) ∙ number _ j l)
       ∙ (ap (λ (m : ℕ). tabulate m (at ps)) (sym P) ∙ tabulate-at ps)
     where
-      number : (j : ℕ) → j < n * 3 → rowNumber ps g ws (j / 3 * 4 + j % 3) ≡ at ps j
-      number j l =
+      number : (x : Float) (j : ℕ) → j < n * 3 → rowNumber ps g ws x (j / 3 * 4 + j % 3) ≡ at ps j
+      number x j l =
           let q : (j / 3 * 4 + j % 3) / 4 * 3 + (j / 3 * 4 + j % 3) % 4 ≡ j = omega arith in
           simp (ne-eqb ((j / 3 * 4 + j % 3) % 4) 3 (λ e. omega arith)) (ap (at ps) q)
 
@@ -69,13 +69,13 @@ module _ (a : ℕ) (d ks ps : List Float) (g : Bool) (ws : List Float) (p n : �
   unfolding rowNumber
   weights-laid = go g refl
     where
-      number : g ≡ true → (j : ℕ) → j < n → rowNumber ps g ws (j * 4 + 3) ≡ at ws j
-      number e j l =
+      number : g ≡ true → (x : Float) (j : ℕ) → j < n → rowNumber ps g ws x (j * 4 + 3) ≡ at ws j
+      number e x j l =
           let q : (j * 4 + 3) / 4 ≡ j = omega arith in
           simp (eq-eqb ((j * 4 + 3) % 4) 3 (omega arith), e) (ap (at ws) q)
 
       go : (b : Bool) → g ≡ b → tabulate (given b n) (λ i. at (laid a d ks ps g ws) (i * 4 + 3)) ≡ givenOf b ws
       go true e =
-          tabulate-cong n _ (at ws) (λ j l. row-place (j * 4 + 3) (omega arith) ∙ number e j l)
+          tabulate-cong n _ (at ws) (λ j l. row-place (j * 4 + 3) (omega arith) ∙ number e _ j l)
           ∙ (ap (λ (m : ℕ). tabulate m (at ws)) (sym (W e)) ∙ tabulate-at ws)
       go false e = refl

@@ -7,6 +7,7 @@ pub mod KnotWalks
 pub mod Putting
 pub mod Joining
 pub mod Limits
+pub mod Opened
 pub mod Inserting
 pub mod LaidOut
 pub mod Extracting

@@ -14,10 +14,9 @@ use lib.Dec.{leb, eqb}
 use lib.Ieee.{Float}
 use Rattle.basis.proofs.Cases.{lt-or-ge}
 use Rattle.insertion.specs.Control.{blendOf}
-use Rattle.insertion.specs.Passes.{rowOf}
 use Rattle.insertion.specs.declared.control.Control.{Control}
 use Rattle.elevation.specs.Raise.{raiseShare, raiseOnce, raiseTimes}
-use Rattle.elevation.specs.Passes.{Holds}
+use Rattle.elevation.specs.Passes.{controlIn, Holds}
 use Rattle.elevation.proofs.RowStores.{four, four-long, row-same, row-other}
 
 -- ---- one control
@@ -55,15 +54,15 @@ times-cong p (suc m) f h e i l = raise-cong (p + m) (raiseTimes p m f) (raiseTim
 pub record InRaise (d : ℕ) (r₀ r₁ : List Float) (i : ℕ) : Type 0 where
   pub upto : i ≤ d
   pub long : length r₁ ≡ length r₀
-  pub above : (j : ℕ) → i < j → j ≤ d → rowOf r₁ j ≡ raiseOnce d (rowOf r₀) j
-  pub below : (j : ℕ) → j ≤ i → rowOf r₁ j ≡ rowOf r₀ j
+  pub above : (j : ℕ) → i < j → j ≤ d → controlIn r₁ j ≡ raiseOnce d (controlIn r₀) j
+  pub below : (j : ℕ) → j ≤ i → controlIn r₁ j ≡ controlIn r₀ j
 
 module _ (d : ℕ) (r₀ : List Float) (room : d * 4 + 7 < length r₀) where
   pub raise-start : InRaise d r₀ r₀ d
   raise-start = record { upto = omega arith; long = refl; above = λ j l u. absurd (omega arith); below = λ j l. refl }
 
   module _ (r₁ : List Float) (i : ℕ) (I : InRaise d r₀ r₁ i) where
-    pub raise-more : 0 < i → (q : Control) → q ≡ raiseOnce d (rowOf r₁) i → (r₂ : List Float) → r₂ ≡ four r₁ (i * 4) (q .x) (q .y) (q .z) (q .w) → InRaise d r₀ r₂ (i - 1)
+    pub raise-more : 0 < i → (q : Control) → q ≡ raiseOnce d (controlIn r₁) i → (r₂ : List Float) → r₂ ≡ four r₁ (i * 4) (q .x) (q .y) (q .z) (q .w) → InRaise d r₀ r₂ (i - 1)
     unfolding raiseOnce
     raise-more l q Q r₂ E =
         let U = I .upto in
@@ -72,46 +71,46 @@ module _ (d : ℕ) (r₀ : List Float) (room : d * 4 + 7 < length r₀) where
           upto = omega arith;
           long = ap length E ∙ (four-long r₁ (i * 4) (q .x) (q .y) (q .z) (q .w) ∙ L);
           above = λ j a u. ⊎-elim
-              (λ (b : i < j). ap (λ (xs : List Float). rowOf xs j) E ∙ (row-other r₁ i q j (λ e. omega arith) ∙ I .above j b u))
+              (λ (b : i < j). ap (λ (xs : List Float). controlIn xs j) E ∙ (row-other r₁ i q j (λ e. omega arith) ∙ I .above j b u))
               (λ (b : j ≤ i).
               let e : j ≡ i = omega arith in
-              subst (λ (k : ℕ). rowOf r₂ k ≡ raiseOnce d (rowOf r₀) k) (sym e)
-              (ap (λ (xs : List Float). rowOf xs i) E ∙ (row-same r₁ i q (omega arith) ∙ (Q ∙ same))))
+              subst (λ (k : ℕ). controlIn r₂ k ≡ raiseOnce d (controlIn r₀) k) (sym e)
+              (ap (λ (xs : List Float). controlIn xs i) E ∙ (row-same r₁ i q (omega arith) ∙ (Q ∙ same))))
               (lt-or-ge i j);
-          below = λ j a. ap (λ (xs : List Float). rowOf xs j) E ∙ (row-other r₁ i q j (λ e. omega arith) ∙ I .below j (omega arith));
+          below = λ j a. ap (λ (xs : List Float). controlIn xs j) E ∙ (row-other r₁ i q j (λ e. omega arith) ∙ I .below j (omega arith));
         }
       where
-        same : raiseOnce d (rowOf r₁) i ≡ raiseOnce d (rowOf r₀) i
+        same : raiseOnce d (controlIn r₁) i ≡ raiseOnce d (controlIn r₀) i
         same =
             let U = I .upto in
             simp (ne-eqb i 0 (λ e. omega arith), le-leb i d U) (ap₂ (λ (x y : Control). blendOf x y (raiseShare d i)) (I .below i (omega arith)) (I .below (i - 1) (omega arith)))
 
     -- and the last is the old last
-    pub raise-end : i ≤ 0 → (q : Control) → q ≡ rowOf r₀ d → (r₂ : List Float) → r₂ ≡ four r₁ ((d + 1) * 4) (q .x) (q .y) (q .z) (q .w) → Holds (raiseOnce d (rowOf r₀)) (d + 2) (length r₀) r₂
+    pub raise-end : i ≤ 0 → (q : Control) → q ≡ controlIn r₀ d → (r₂ : List Float) → r₂ ≡ four r₁ ((d + 1) * 4) (q .x) (q .y) (q .z) (q .w) → Holds (raiseOnce d (controlIn r₀)) (d + 2) (length r₀) r₂
     raise-end z q Q r₂ E =
         let L = I .long in
         record {
           long = ap length E ∙ (four-long r₁ ((d + 1) * 4) (q .x) (q .y) (q .z) (q .w) ∙ L);
-          rows = λ j l. ap (λ (xs : List Float). rowOf xs j) E ∙ go j l (lt-or-ge i j) (lt-or-ge d j);
+          rows = λ j l. ap (λ (xs : List Float). controlIn xs j) E ∙ go j l (lt-or-ge i j) (lt-or-ge d j);
         }
       where
-        go : (j : ℕ) → j < d + 2 → (i < j) ⊎ (j ≤ i) → (d < j) ⊎ (j ≤ d) → rowOf (four r₁ ((d + 1) * 4) (q .x) (q .y) (q .z) (q .w)) j ≡ raiseOnce d (rowOf r₀) j
+        go : (j : ℕ) → j < d + 2 → (i < j) ⊎ (j ≤ i) → (d < j) ⊎ (j ≤ d) → controlIn (four r₁ ((d + 1) * 4) (q .x) (q .y) (q .z) (q .w)) j ≡ raiseOnce d (controlIn r₀) j
         go j l b (inl c) =
             let L = I .long in
             let e : j ≡ d + 1 = omega arith in
-            subst (λ (k : ℕ). rowOf (four r₁ ((d + 1) * 4) (q .x) (q .y) (q .z) (q .w)) k ≡ raiseOnce d (rowOf r₀) k) (sym e)
-            (row-same r₁ (d + 1) q (omega arith) ∙ (Q ∙ raise-last d (rowOf r₀)))
+            subst (λ (k : ℕ). controlIn (four r₁ ((d + 1) * 4) (q .x) (q .y) (q .z) (q .w)) k ≡ raiseOnce d (controlIn r₀) k) (sym e)
+            (row-same r₁ (d + 1) q (omega arith) ∙ (Q ∙ raise-last d (controlIn r₀)))
         go j l (inl b) (inr c) = row-other r₁ (d + 1) q j (λ e. omega arith) ∙ I .above j b c
         go j l (inr b) (inr c) =
             let e : j ≡ 0 = omega arith in
             row-other r₁ (d + 1) q j (λ x. omega arith)
-            ∙ subst (λ (k : ℕ). rowOf r₁ k ≡ raiseOnce d (rowOf r₀) k) (sym e) (I .below 0 (omega arith) ∙ raise-first d (rowOf r₀))
+            ∙ subst (λ (k : ℕ). controlIn r₁ k ≡ raiseOnce d (controlIn r₀) k) (sym e) (I .below 0 (omega arith) ∙ raise-first d (controlIn r₀))
 
 -- ---- the loop over the degrees
 pub record InTimes (p e : ℕ) (r₀ r₁ : List Float) (d : ℕ) : Type 0 where
   pub from : p ≤ d
   pub upto : d ≤ e
-  pub holds : Holds (raiseTimes p (d - p) (rowOf r₀)) (d + 1) (length r₀) r₁
+  pub holds : Holds (raiseTimes p (d - p) (controlIn r₀)) (d + 1) (length r₀) r₁
 
 module _ (p e : ℕ) (r₀ : List Float) where
   pub times-start : p ≤ e → InTimes p e r₀ r₀ p
@@ -119,14 +118,14 @@ module _ (p e : ℕ) (r₀ : List Float) where
   times-start l = record {
     from = omega arith;
     upto = l;
-    holds = let z : 0 ≡ p - p = omega arith in subst (λ (m : ℕ). Holds (raiseTimes p m (rowOf r₀)) (p + 1) (length r₀) r₀) z none;
+    holds = let z : 0 ≡ p - p = omega arith in subst (λ (m : ℕ). Holds (raiseTimes p m (controlIn r₀)) (p + 1) (length r₀) r₀) z none;
   }
     where
-      none : Holds (raiseTimes p 0 (rowOf r₀)) (p + 1) (length r₀) r₀
+      none : Holds (raiseTimes p 0 (controlIn r₀)) (p + 1) (length r₀) r₀
       none = record { long = refl; rows = λ i b. refl }
 
   module _ (r₁ : List Float) (d : ℕ) (I : InTimes p e r₀ r₁ d) where
-    pub times-more : d < e → (r₂ : List Float) → Holds (raiseOnce d (rowOf r₁)) (d + 2) (length r₁) r₂ → InTimes p e r₀ r₂ (d + 1)
+    pub times-more : d < e → (r₂ : List Float) → Holds (raiseOnce d (controlIn r₁)) (d + 2) (length r₁) r₂ → InTimes p e r₀ r₂ (d + 1)
     unfolding raiseTimes
     times-more l r₂ H =
         let F = I .from in
@@ -134,21 +133,21 @@ module _ (p e : ℕ) (r₀ : List Float) where
         record {
           from = omega arith;
           upto = omega arith;
-          holds = subst (λ (m : ℕ). Holds (raiseTimes p m (rowOf r₀)) (d + 1 + 1) (length r₀) r₂) z next;
+          holds = subst (λ (m : ℕ). Holds (raiseTimes p m (controlIn r₀)) (d + 1 + 1) (length r₀) r₂) z next;
         }
       where
-        next : Holds (raiseTimes p (suc (d - p)) (rowOf r₀)) (d + 1 + 1) (length r₀) r₂
+        next : Holds (raiseTimes p (suc (d - p)) (controlIn r₀)) (d + 1 + 1) (length r₀) r₂
         next =
             let F = I .from in
             let z : d ≡ p + (d - p) = omega arith in
             record {
               long = H .long ∙ I .holds .long;
-              rows = λ i b. H .rows i (omega arith) ∙ (raise-cong d (rowOf r₁) (raiseTimes p (d - p) (rowOf r₀)) (I .holds .rows) i
-                  ∙ ap (λ (k : ℕ). raiseOnce k (raiseTimes p (d - p) (rowOf r₀)) i) z);
+              rows = λ i b. H .rows i (omega arith) ∙ (raise-cong d (controlIn r₁) (raiseTimes p (d - p) (controlIn r₀)) (I .holds .rows) i
+                  ∙ ap (λ (k : ℕ). raiseOnce k (raiseTimes p (d - p) (controlIn r₀)) i) z);
             }
 
-    pub times-end : e ≤ d → Holds (raiseTimes p (e - p) (rowOf r₀)) (e + 1) (length r₀) r₁
-    times-end l = let U = I .upto in let z : d ≡ e = omega arith in subst (λ (k : ℕ). Holds (raiseTimes p (k - p) (rowOf r₀)) (k + 1) (length r₀) r₁) z (I .holds)
+    pub times-end : e ≤ d → Holds (raiseTimes p (e - p) (controlIn r₀)) (e + 1) (length r₀) r₁
+    times-end l = let U = I .upto in let z : d ≡ e = omega arith in subst (λ (k : ℕ). Holds (raiseTimes p (k - p) (controlIn r₀)) (k + 1) (length r₀) r₁) z (I .holds)
 
 -- ---- controls stored one by one
 module _ (h : ℕ → Control) (l : ℕ) where
@@ -160,7 +159,7 @@ module _ (h : ℕ → Control) (l : ℕ) where
       let L = I .long in
       record {
         long = ap length E ∙ (four-long r₁ (i * 4) (q .x) (q .y) (q .z) (q .w) ∙ L);
-        rows = below-more (λ j. rowOf r₂ j ≡ h j) i
-            (λ j k. ap (λ (xs : List Float). rowOf xs j) E ∙ (row-other r₁ i q j (λ e. omega arith) ∙ I .rows j k))
-            (ap (λ (xs : List Float). rowOf xs i) E ∙ (row-same r₁ i q (omega arith) ∙ Q));
+        rows = below-more (λ j. controlIn r₂ j ≡ h j) i
+            (λ j k. ap (λ (xs : List Float). controlIn xs j) E ∙ (row-other r₁ i q j (λ e. omega arith) ∙ I .rows j k))
+            (ap (λ (xs : List Float). controlIn xs i) E ∙ (row-same r₁ i q (omega arith) ∙ Q));
       }

@@ -8,8 +8,8 @@ use lib.ListN.{length, set, length-set}
 use lib.Seq.{getD-set-same, getD-set-other}
 use lib.Ieee.{Float, nan}
 use Rattle.doubles.specs.Run.{at}
-use Rattle.insertion.specs.Passes.{rowOf}
 use Rattle.insertion.specs.declared.control.Control.{Control}
+use Rattle.elevation.specs.Passes.{controlIn}
 
 abbrev pub four : List Float → ℕ → Float → Float → Float → Float → List Float
 four xs a x y z w = set (set (set (set xs a x) (a + 1) y) (a + 2) z) (a + 3) w
@@ -54,12 +54,12 @@ module _ (xs : List Float) (i : ℕ) (q : Control) where
   abbrev stored : List Float
   stored = four xs (i * 4) (q .x) (q .y) (q .z) (q .w)
 
-  pub row-same : i * 4 + 3 < length xs → rowOf stored i ≡ q
+  pub row-same : i * 4 + 3 < length xs → controlIn stored i ≡ q
   row-same l =
       control-is _ _ _ _ (q .x) (q .y) (q .z) (q .w) (first xs (i * 4) (q .x) (q .y) (q .z) (q .w) l) (second xs (i * 4) (q .x) (q .y) (q .z) (q .w) l)
       (third xs (i * 4) (q .x) (q .y) (q .z) (q .w) l) (fourth xs (i * 4) (q .x) (q .y) (q .z) (q .w) l)
 
-  pub row-other : (j : ℕ) → (j ≡ i → ⊥) → rowOf stored j ≡ rowOf xs j
+  pub row-other : (j : ℕ) → (j ≡ i → ⊥) → controlIn stored j ≡ controlIn xs j
   row-other j h =
       control-is _ _ _ _ (at xs (j * 4)) (at xs (j * 4 + 1)) (at xs (j * 4 + 2)) (at xs (j * 4 + 3))
       (o (j * 4) (λ e. h (omega arith)) (λ e. absurd (omega arith)) (λ e. absurd (omega arith)) (λ e. h (omega arith)))

@@ -11,13 +11,16 @@ use Rattle.evaluate.specs.declared.vector.Vector.{Vector}
 use Rattle.knots.specs.declared.refusal.Refusal.{Refusal}
 use Rattle.insertion.specs.Fold.{Outcome, gives, refuses}
 use Rattle.insertion.specs.Work.{knotsFrom, pointsFrom, weightsFrom}
-use Rattle.insertion.specs.Passes.{rowOf}
 use Rattle.insertion.specs.Rows.{given}
 use Rattle.insertion.specs.Whole.{givenOf}
 use Rattle.insertion.specs.declared.control.Control.{Control}
 use Rattle.elevation.specs.Breaks.{breaksFrom, fullCount}
 use Rattle.elevation.specs.Raise.{raiseOnce, raiseTimes}
 use Rattle.elevation.specs.Elevate.{allBlended, pointsOf, weightsOf}
+
+-- control i of a run of four numbers each
+abbrev pub controlIn : List Float → ℕ → Control
+controlIn xs i = record { x = at xs (i * 4); y = at xs (i * 4 + 1); z = at xs (i * 4 + 2); w = at xs (i * 4 + 3) }
 
 -- a run d with l over it from place a on
 unfoldable pub over : ℕ → List Float → List Float → List Float
@@ -26,7 +29,7 @@ over a l d = take a d ++ (l ++ drop (a + length l) d)
 -- the first m controls of a run are those of h
 pub record Holds (h : ℕ → Control) (m l : ℕ) (xs : List Float) : Type 0 where
   pub long : length xs ≡ l
-  pub rows : (i : ℕ) → i < m → rowOf xs i ≡ h i
+  pub rows : (i : ℕ) → i < m → controlIn xs i ≡ h i
 
 -- place k is a break, or the end n
 pub record AtBreak (ks : List Float) (n k : ℕ) : Type 0 where

@@ -1,48 +1,37 @@
 -- What `elevate_degree` answers and leaves in the lent runs: a curve of degree p, knots ks, points ps and, where g is true, weights ws, raised to degree e.
 -- Assumes nothing.
-use Prim.Native.Nat.{ℕ, _+_, _*_}
+use Prim.Native.Nat.{ℕ}
 use mathlib.Core.Bool.{Bool, not, cond, _&&_}
 use mathlib.Core.Path.{_≡_}
 use mathlib.Core.List.{List}
 use lib.Dec.{eqb, ltb}
 use lib.Ieee.{Float}
-use Rattle.knots.specs.Refusal.{refuse, orElse, degree-lowered, ends-unclamped, elevation-high}
+use Rattle.knots.specs.Refusal.{refuse, orElse, degree-lowered, elevation-high}
 use Rattle.knots.specs.Clear.{zeros}
-use Rattle.knots.specs.Curve.{countOf, curveRefusal}
+use Rattle.knots.specs.Curve.{countOf}
 use Rattle.knots.specs.declared.refusal.Refusal.{Refusal}
-use Rattle.evaluate.specs.Shape.{roomRefusal}
-use Rattle.insertion.specs.Rows.{given}
 use Rattle.insertion.specs.Fold.{Outcome, gives, refuses}
-use Rattle.insertion.specs.Start.{clampedEnds}
+use Rattle.insertion.specs.Start.{editStart, outRoom, scratchRoom}
 use Rattle.insertion.specs.Whole.{givenOf, answerOf, knotsIn, pointsIn, weightsIn}
 use Rattle.insertion.specs.declared.answer.EditAnswer.{EditAnswer}
 use Rattle.elevation.specs.Breaks.{breaksOf}
 use Rattle.elevation.specs.Elevate.{extractedCount, raisedCount, raiseAll}
 
--- 30: runs of a, b, c and d numbers for the knots, points and weights of n points of degree e; and scratch, for a curve of degree p and m points
-unfoldable pub raiseRoom : ℕ → ℕ → Bool → ℕ → ℕ → ℕ → ℕ → ℕ → ℕ → Refusal
-raiseRoom e n g p m a b c d =
-    orElse (roomRefusal a (n + e + 1))
-    (orElse (roomRefusal b (n * 3))
-    (orElse (roomRefusal c (given g n)) (roomRefusal d (10 * m + 2 * (p + 1)))))
-
 -- the points of the answer, of a curve of n points
 unfoldable pub elevatedCount : ℕ → ℕ → ℕ → List Float → ℕ
 elevatedCount p e n ks = cond (eqb e p) n (raisedCount p e ks (breaksOf p n ks))
 
--- 16, 18, 30
+-- 16, 18, 30 for the lent runs
 unfoldable pub raiseStart : ℕ → ℕ → ℕ → List Float → Bool → ℕ → ℕ → ℕ → ℕ → Refusal
 raiseStart p e n ks g a b c d =
     cond (ltb e p) (refuse degree-lowered)
     (cond (not (eqb e p) && ltb 64 e) (refuse elevation-high)
-    (raiseRoom e (elevatedCount p e n ks) g p (extractedCount p (breaksOf p n ks)) a b c d))
+    (orElse (outRoom e (elevatedCount p e n ks) g a b c) (scratchRoom p (extractedCount p (breaksOf p n ks)) d)))
 
 module _ (p : ℕ) (ks ps : List Float) (g : Bool) (ws : List Float) (e : ℕ) (a b c d : ℕ) where
   -- the curve's refusal, 17, 16, 18, 30
   unfoldable pub elevateStart : Refusal
-  elevateStart =
-      orElse (curveRefusal p ks ps g ws)
-      (cond (not (clampedEnds p (countOf ps) ks)) (refuse ends-unclamped) (raiseStart p e (countOf ps) ks g a b c d))
+  elevateStart = orElse (editStart p ks ps g ws) (raiseStart p e (countOf ps) ks g a b c d)
 
   -- a refusal before anything is formed; a copy; or the raised curve
   unfoldable pub elevateOutcome : Outcome

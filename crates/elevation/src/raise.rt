@@ -8,9 +8,8 @@ ghost use Prim.Native.Nat.{_+_, _-_, _*_, _<_, _≤_};
 ghost use lib.ListN.{length};
 ghost use lib.IntN.{pos};
 ghost use lib.Ieee.{binary64, ofInt};
-ghost use Rattle.insertion.specs.Passes.{rowOf};
 ghost use Rattle.elevation.specs.Raise.{raiseShare, raiseOnce, raiseTimes};
-ghost use Rattle.elevation.specs.Passes.{Holds};
+ghost use Rattle.elevation.specs.Passes.{controlIn, Holds};
 
 // A degree as a double.
 fn as_double(i: usize) -> f64
@@ -32,7 +31,7 @@ fn raise_share(d: usize, i: usize) -> f64
 fn raise_at(d: usize, i: usize, rows: &[f64]) -> Control
     requires { ⌜ (d < 64) × (0 < i) × (i ≤ d) ⌝ }
     requires { ⌜ i * 4 + 3 < length (now rows) ⌝ }
-    ensures { λ r. ⌜ r ≡ raiseOnce d (rowOf (now (rows .entry))) i ⌝ }
+    ensures { λ r. ⌜ r ≡ raiseOnce d (controlIn (now (rows .entry))) i ⌝ }
 {
     let s = raise_share(d, i);
     let before = row_at(rows, i - 1);
@@ -43,7 +42,7 @@ fn raise_at(d: usize, i: usize, rows: &[f64]) -> Control
 fn raise_once(d: usize, rows: &mut [f64])
     requires { ⌜ d < 64 ⌝ }
     requires { ⌜ d * 4 + 7 < length (now rows) ⌝ }
-    ensures { λ _. ⌜ Holds (raiseOnce d (rowOf (now (rows .entry)))) (d + 2) (length (now (rows .entry))) (now (rows .exit)) ⌝ }
+    ensures { λ _. ⌜ Holds (raiseOnce d (controlIn (now (rows .entry)))) (d + 2) (length (now (rows .entry))) (now (rows .exit)) ⌝ }
 {
     let end = row_at(rows, d);
     let mut i = d;
@@ -59,7 +58,7 @@ fn raise_once(d: usize, rows: &mut [f64])
 pub fn raise_rows(p: usize, e: usize, rows: &mut [f64])
     requires { ⌜ (p ≤ e) × (e ≤ 64) ⌝ }
     requires { ⌜ e * 4 + 3 < length (now rows) ⌝ }
-    ensures { λ _. ⌜ Holds (raiseTimes p (e - p) (rowOf (now (rows .entry)))) (e + 1) (length (now (rows .entry))) (now (rows .exit)) ⌝ }
+    ensures { λ _. ⌜ Holds (raiseTimes p (e - p) (controlIn (now (rows .entry)))) (e + 1) (length (now (rows .entry))) (now (rows .exit)) ⌝ }
 {
     let mut d = p;
     while d < e {

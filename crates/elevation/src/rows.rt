@@ -9,13 +9,33 @@ ghost use Rattle.insertion.specs.Passes.{rowOf};
 ghost use Rattle.insertion.specs.Whole.{givenOf};
 ghost use Rattle.insertion.specs.Rows.{given};
 ghost use Rattle.elevation.specs.Elevate.{three};
-ghost use Rattle.elevation.specs.Passes.{over};
+ghost use Rattle.elevation.specs.Passes.{controlIn, over};
 ghost use mathlib.Core.List.{_∷_, []};
+
+// Row i of a run in which a curve without weights leaves the fourth numbers.
+pub fn work_row(rational: bool, rows: &[f64], i: usize) -> Control
+    requires { ⌜ i * 4 + 3 < length (now rows) ⌝ }
+    ensures { λ r. ⌜ r ≡ rowOf rational (now (rows .entry)) i ⌝ }
+{
+    let at = i * 4;
+    let x = rows[at];
+    let y = rows[at + 1];
+    let z = rows[at + 2];
+    if rational {
+        return Control {
+            x,
+            y,
+            z,
+            w: rows[at + 3],
+        };
+    }
+    Control { x, y, z, w: 1.0 }
+}
 
 // Control i of a run.
 pub fn row_at(rows: &[f64], i: usize) -> Control
     requires { ⌜ i * 4 + 3 < length (now rows) ⌝ }
-    ensures { λ r. ⌜ r ≡ rowOf (now (rows .entry)) i ⌝ }
+    ensures { λ r. ⌜ r ≡ controlIn (now (rows .entry)) i ⌝ }
 {
     let at = i * 4;
     Control {

@@ -4,6 +4,7 @@ use crate::rows::put_point;
 use crate::rows::put_row;
 use crate::rows::put_weight;
 use crate::rows::row_at;
+use crate::rows::work_row;
 use crate::walk::is_full;
 use crate::walk::more;
 use crate::walk::next_break;
@@ -20,17 +21,17 @@ ghost use Rattle.insertion.specs.Passes.{rowOf};
 ghost use Rattle.elevation.specs.Breaks.{breaksOf};
 ghost use Rattle.elevation.specs.Raise.{raiseTimes};
 ghost use Rattle.elevation.specs.Elevate.{extractedCount, raisedCount, controlsOf, addedBy, keptFrom, keptAll};
-ghost use Rattle.elevation.specs.Passes.{Holds, Put};
+ghost use Rattle.elevation.specs.Passes.{controlIn, Holds, Put};
 
 // m controls from control `first` on go to the front of another run.
-fn load_rows(first: usize, m: usize, from: &[f64], rows: &mut [f64])
+fn load_rows(rational: bool, first: usize, m: usize, from: &[f64], rows: &mut [f64])
     requires { ⌜ (first + m) * 4 ≤ length (now from) ⌝ }
     requires { ⌜ m * 4 ≤ length (now rows) ⌝ }
-    ensures { λ _. ⌜ Holds (λ i. rowOf (now (from .entry)) (first + i)) m (length (now (rows .entry))) (now (rows .exit)) ⌝ }
+    ensures { λ _. ⌜ Holds (λ i. rowOf rational (now (from .entry)) (first + i)) m (length (now (rows .entry))) (now (rows .exit)) ⌝ }
 {
     let mut i = 0usize;
     while i < m {
-        let q = row_at(from, first + i);
+        let q = work_row(rational, from, first + i);
         put_row(rows, i, q);
         i += 1;
     }
@@ -50,7 +51,7 @@ fn put_rows(
     requires { ⌜ (first + m) * 4 ≤ length (now rows) ⌝ }
     requires { ⌜ (place + m) * 3 ≤ length (now points) ⌝ }
     requires { ⌜ given rational (place + m) ≤ length (now weights) ⌝ }
-    ensures { λ r. ⌜ Put o rational (controlsOf (rowOf (now (rows .entry))) first m) place (now (points .entry)) (now (weights .entry)) (now (points .exit)) (now (weights .exit)) r ⌝ }
+    ensures { λ r. ⌜ Put o rational (controlsOf (controlIn (now (rows .entry))) first m) place (now (points .entry)) (now (weights .entry)) (now (points .exit)) (now (weights .exit)) r ⌝ }
 {
     let mut i = 0usize;
     while i < m {
@@ -83,10 +84,10 @@ fn put_segment(
     requires { ⌜ (first + (p + 1)) * 4 ≤ length (now work) ⌝ }
     requires { ⌜ (place + (e + bit full)) * 3 ≤ length (now points) ⌝ }
     requires { ⌜ given rational (place + (e + bit full)) ≤ length (now weights) ⌝ }
-    ensures { λ r. ⌜ Put o rational (controlsOf (raiseTimes p (e - p) (λ i. rowOf (now (work .entry)) (first + i))) (bit (not full)) (e + bit full)) place (now (points .entry)) (now (weights .entry)) (now (points .exit)) (now (weights .exit)) r ⌝ }
+    ensures { λ r. ⌜ Put o rational (controlsOf (raiseTimes p (e - p) (λ i. rowOf rational (now (work .entry)) (first + i))) (bit (not full)) (e + bit full)) place (now (points .entry)) (now (weights .entry)) (now (points .exit)) (now (weights .exit)) r ⌝ }
 {
     let mut rows = [0.0; 260];
-    load_rows(first, p + 1, work, &mut rows);
+    load_rows(rational, first, p + 1, work, &mut rows);
     raise_rows(p, e, &mut rows);
     let skipped = more(0, !full);
     let m = more(e, full);
@@ -109,7 +110,7 @@ fn put_rest(
     requires { ⌜ extractedCount p (breaksOf p n (now knots)) * 4 ≤ length (now work) ⌝ }
     requires { ⌜ raisedCount p e (now knots) (breaksOf p n (now knots)) * 3 ≤ length (now points) ⌝ }
     requires { ⌜ given rational (raisedCount p e (now knots) (breaksOf p n (now knots))) ≤ length (now weights) ⌝ }
-    ensures { λ r. ⌜ Put o rational (keptFrom p e (now (knots .entry)) (rowOf (now (work .entry))) 1 (breaksOf p n (now (knots .entry)))) (e + 1) (now (points .entry)) (now (weights .entry)) (now (points .exit)) (now (weights .exit)) r ⌝ }
+    ensures { λ r. ⌜ Put o rational (keptFrom p e (now (knots .entry)) (rowOf rational (now (work .entry))) 1 (breaksOf p n (now (knots .entry)))) (e + 1) (now (points .entry)) (now (weights .entry)) (now (points .exit)) (now (weights .exit)) r ⌝ }
 {
     let mut place = e + 1;
     let mut j = 1usize;
@@ -143,7 +144,7 @@ pub fn put_segments(
     requires { ⌜ extractedCount p (breaksOf p n (now knots)) * 4 ≤ length (now work) ⌝ }
     requires { ⌜ raisedCount p e (now knots) (breaksOf p n (now knots)) * 3 ≤ length (now points) ⌝ }
     requires { ⌜ given rational (raisedCount p e (now knots) (breaksOf p n (now knots))) ≤ length (now weights) ⌝ }
-    ensures { λ r. ⌜ Put o rational (keptAll p e (now (knots .entry)) (rowOf (now (work .entry))) (breaksOf p n (now (knots .entry)))) 0 (now (points .entry)) (now (weights .entry)) (now (points .exit)) (now (weights .exit)) r ⌝ }
+    ensures { λ r. ⌜ Put o rational (keptAll p e (now (knots .entry)) (rowOf rational (now (work .entry))) (breaksOf p n (now (knots .entry)))) 0 (now (points .entry)) (now (weights .entry)) (now (points .exit)) (now (weights .exit)) r ⌝ }
 {
     if !put_segment(p, e, 0, true, work, o, rational, 0, points, weights) {
         return false;

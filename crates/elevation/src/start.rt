@@ -1,54 +1,23 @@
 // The refusals of an elevation before anything is formed.
 use crate::walk::count_breaks;
-use evaluate::shape::room_refusal;
+use insertion::start::edit_start;
+use insertion::start::out_room;
+use insertion::start::scratch_room;
 use knots::refusal::Refusal;
 use knots::refusal::refuse;
 ghost use mathlib.Core.Path.{_≡_};
-ghost use mathlib.Core.Bool.{not, cond, _&&_};
+ghost use mathlib.Core.Bool.{not, _&&_};
 ghost use Prim.Native.Nat.{_+_, _-_, _*_, _<_, _≤_};
 ghost use lib.ListN.{length};
 ghost use lib.Dec.{eqb, ltb};
 ghost use Rattle.insertion.specs.Rows.{given};
-ghost use Rattle.elevation.specs.Breaks.{breaksOf};
-ghost use Rattle.elevation.specs.Elevate.{extractedCount, raisedCount};
-ghost use Rattle.elevation.specs.Whole.{raiseRoom, elevatedCount, raiseStart};
+ghost use Rattle.elevation.specs.Whole.{elevatedCount, raiseStart, elevateStart};
 
 // How many weights n points have.
 pub fn given_count(rational: bool, n: usize) -> usize
     ensures { λ r. ⌜ r ≡ given rational n ⌝ }
 {
     if rational { n } else { 0 }
-}
-
-// 30 for lent runs of a, b, c and d numbers: knots, points and weights of n points of degree e, and scratch for m points of degree p.
-fn raise_room(
-    e: usize,
-    n: usize,
-    rational: bool,
-    p: usize,
-    m: usize,
-    a: usize,
-    b: usize,
-    c: usize,
-    d: usize,
-) -> Refusal
-    requires { ⌜ (e ≤ 1048576) × (n ≤ 1099511627776) ⌝ }
-    requires { ⌜ (p ≤ 1048576) × (m ≤ 1099511627776) ⌝ }
-    ensures { λ r. ⌜ r ≡ raiseRoom e n rational p m a b c d ⌝ }
-{
-    let first = room_refusal(a, n + e + 1);
-    if first.number != 0 {
-        return first;
-    }
-    let second = room_refusal(b, n * 3);
-    if second.number != 0 {
-        return second;
-    }
-    let third = room_refusal(c, given_count(rational, n));
-    if third.number != 0 {
-        return third;
-    }
-    room_refusal(d, 10 * m + 2 * (p + 1))
 }
 
 // The points of a raised curve with so many breaks, of which so many are full.
@@ -83,7 +52,7 @@ pub fn elevated_count(p: usize, e: usize, n: usize, knots: &[f64]) -> usize
 }
 
 // 16, 18, 30 for the lent runs.
-pub fn raise_start(
+fn raise_start(
     p: usize,
     e: usize,
     n: usize,
@@ -106,5 +75,41 @@ pub fn raise_start(
     let count = elevated_count(p, e, n, knots);
     let met = count_breaks(p, n, knots);
     let extracted = (p + 1) * (met.breaks + 1);
-    raise_room(e, count, rational, p, extracted, a, b, c, d)
+    let room = out_room(e, count, rational, a, b, c);
+    if room.number != 0 {
+        return room;
+    }
+    scratch_room(p, extracted, d)
+}
+
+// The curve's refusal, 17, then 16, 18, 30 for the lent runs.
+pub fn elevate_start(
+    degree: usize,
+    knots: &[f64],
+    points: &[f64],
+    rational: bool,
+    weights: &[f64],
+    raised: usize,
+    a: usize,
+    b: usize,
+    c: usize,
+    d: usize,
+) -> Refusal
+    ensures { λ r. ⌜ r ≡ elevateStart degree (now (knots .entry)) (now (points .entry)) rational (now (weights .entry)) raised a b c d ⌝ }
+{
+    let early = edit_start(degree, knots, points, rational, weights);
+    if early.number != 0 {
+        return early;
+    }
+    raise_start(
+        degree,
+        raised,
+        points.len() / 3,
+        knots,
+        rational,
+        a,
+        b,
+        c,
+        d,
+    )
 }

@@ -1,7 +1,7 @@
 -- `elevation::raise::raise_at` meets its contract.
 -- Assumes nothing.
 use denote.Ref.{now}
-use Rattle.insertion.specs.Passes.{rowOf}
+use Rattle.elevation.specs.Passes.{controlIn}
 use Rattle.elevation.proofs.Raising.{raise-mid}
 use borrow.Author.Needs.{needs}
 use Rattle.elevation.proofs.raise.raise_at.Statement.{statement}
@@ -23,7 +23,7 @@ blend-of-requires : tie.Need-blend-of-requires
 blend-of-requires c κs = search needs
 
 returns : tie.Need-returns
-returns c = raise-mid (c .before .before .before .before .before .args .d) (rowOf (now (c .before .before .before .before .before .args .rows))) (c .before .before .before .before .before .args .i) (c .before .before .before .before .before .pre .0 .1) (c .before .before .before .before .before .pre .0 .2) _ _ _ _ (c .before .row-at2 .ensures) (c .before .before .row-at .ensures) (c .before .before .before .raise-share .ensures) (c .blend-of .ensures)
+returns c = raise-mid (c .before .before .before .before .before .args .d) (controlIn (now (c .before .before .before .before .before .args .rows))) (c .before .before .before .before .before .args .i) (c .before .before .before .before .before .pre .0 .1) (c .before .before .before .before .before .pre .0 .2) _ _ _ _ (c .before .row-at2 .ensures) (c .before .before .row-at .ensures) (c .before .before .before .raise-share .ensures) (c .blend-of .ensures)
 
 pub raise-at-spec : {M : Type 1} → statement M
 raise-at-spec =

@@ -1,12 +1,13 @@
 -- `elevation::start::raise_start` meets its contract.
 -- Assumes nothing.
-use native.Mathlib.Omega.{arith}
-use Prim.Native.Nat.{ℕ, _≤_}
-use mathlib.Core.Path.{sym, _∙_, ap₂, subst}
+use Prim.Native.Nat.{ℕ}
+use mathlib.Core.Path.{sym, _∙_, ap}
 use denote.Ref.{now}
 use borrow.Author.Tests.{lt-ltb, le-ltb}
-use Rattle.elevation.specs.Whole.{raiseRoom, raiseStart}
-use Rattle.elevation.proofs.Limits.{not-high, breaks-small, extracted-small, raised-small, extracted-is}
+use Rattle.knots.proofs.Refusals.{stop, skip}
+use Rattle.insertion.specs.Start.{outRoom, scratchRoom}
+use Rattle.elevation.specs.Whole.{raiseStart}
+use Rattle.elevation.proofs.Limits.{not-high, breaks-small, extracted-small, extracted-is}
 use borrow.Author.Needs.{needs}
 use Rattle.elevation.proofs.start.raise_start.Statement.{statement}
 use Rattle.elevation.proofs.start.raise_start.Tie as tie
@@ -43,12 +44,19 @@ add-extracted-2 c = let w = breaks-small (c .before .before .before .before .bef
 mul-extracted : tie.Need-mul-extracted
 mul-extracted c = let w = breaks-small (c .before .before .before .before .before .before .before .args .p) (c .before .before .before .before .before .before .before .args .n) (now (c .before .before .before .before .before .before .before .args .knots)) (c .before .before .before .before .before .before .before .pre .0) (c .before .before .before .before .before .before .before .pre .2) in let x = c .before .count-breaks .ensures .breaks in let m = extracted-small (c .before .before .before .before .before .before .before .args .p) (c .before .before .before .before .before .before .before .args .n) (now (c .before .before .before .before .before .before .before .args .knots)) (c .before .before .before .before .before .before .before .pre .0) (c .before .before .before .before .before .before .before .pre .2) (c .before .count-breaks .result .breaks) (c .before .count-breaks .ensures .breaks) in search needs
 
-raise-room-requires : tie.Need-raise-room-requires
-raise-room-requires c κs = let w = breaks-small (c .before .before .before .before .before .before .before .args .p) (c .before .before .before .before .before .before .before .args .n) (now (c .before .before .before .before .before .before .before .args .knots)) (c .before .before .before .before .before .before .before .pre .0) (c .before .before .before .before .before .before .before .pre .2) in let x = c .before .count-breaks .ensures .breaks in let m = extracted-small (c .before .before .before .before .before .before .before .args .p) (c .before .before .before .before .before .before .before .args .n) (now (c .before .before .before .before .before .before .before .args .knots)) (c .before .before .before .before .before .before .before .pre .0) (c .before .before .before .before .before .before .before .pre .2) (c .before .count-breaks .result .breaks) (c .before .count-breaks .ensures .breaks) in let r = raised-small (c .before .before .before .before .before .before .before .args .p) (c .before .before .before .before .before .before .before .args .n) (now (c .before .before .before .before .before .before .before .args .knots)) (c .before .before .before .before .before .before .before .pre .0) (c .before .before .before .before .before .before .before .pre .2) (c .before .before .before .before .before .before .before .args .e) (not-high (c .before .before .before .before .before .before .before .args .p) (c .before .before .before .before .before .before .before .args .e) (sym (c .before .before .before .before .is-high .ensures) ∙ c .before .before .before .if2 .left)) in ((r .1, subst (λ (k : ℕ). k ≤ 1099511627776) (sym (c .before .before .elevated-count .ensures)) (r .0)), (omega arith, m))
+out-room-requires : tie.Need-out-room-requires
+out-room-requires c κs = search needs
 
 returns-3 : tie.Need-returns-3
 unfolding raiseStart
-returns-3 c = simp (le-ltb (c .before .before .before .before .before .before .before .before .args .e) (c .before .before .before .before .before .before .before .before .args .p) (c .before .before .before .before .before .before .if1 .left), sym (c .before .before .before .before .before .is-high .ensures) ∙ c .before .before .before .before .if2 .left) (c .raise-room .ensures ∙ ap₂ (λ (x y : ℕ). raiseRoom (c .before .before .before .before .before .before .before .before .args .e) x (c .before .before .before .before .before .before .before .before .args .rational) (c .before .before .before .before .before .before .before .before .args .p) y (c .before .before .before .before .before .before .before .before .args .a) (c .before .before .before .before .before .before .before .before .args .b) (c .before .before .before .before .before .before .before .before .args .c) (c .before .before .before .before .before .before .before .before .args .d)) (c .before .before .before .elevated-count .ensures) (extracted-is (c .before .before .before .before .before .before .before .before .args .p) (c .before .before .before .before .before .before .before .before .args .n) (now (c .before .before .before .before .before .before .before .before .args .knots)) (c .before .before .before .before .before .before .before .before .pre .0) (c .before .before .before .before .before .before .before .before .pre .2) _ _ (c .before .before .count-breaks .ensures)))
+returns-3 c = simp (le-ltb (c .before .before .before .before .before .before .before .before .before .before .args .e) (c .before .before .before .before .before .before .before .before .before .before .args .p) (c .before .before .before .before .before .before .before .before .if1 .left), sym (c .before .before .before .before .before .before .before .is-high .ensures) ∙ c .before .before .before .before .before .before .if2 .left, stop (c .before .before .out-room .ensures ∙ ap (λ (k : ℕ). outRoom (c .before .before .before .before .before .before .before .before .before .before .args .e) k (c .before .before .before .before .before .before .before .before .before .before .args .rational) (c .before .before .before .before .before .before .before .before .before .before .args .a) (c .before .before .before .before .before .before .before .before .before .before .args .b) (c .before .before .before .before .before .before .before .before .before .before .args .c)) (c .before .before .before .before .before .elevated-count .ensures)) (c .if3 .taken)) (c .before .before .out-room .ensures ∙ ap (λ (k : ℕ). outRoom (c .before .before .before .before .before .before .before .before .before .before .args .e) k (c .before .before .before .before .before .before .before .before .before .before .args .rational) (c .before .before .before .before .before .before .before .before .before .before .args .a) (c .before .before .before .before .before .before .before .before .before .before .args .b) (c .before .before .before .before .before .before .before .before .before .before .args .c)) (c .before .before .before .before .before .elevated-count .ensures))
+
+scratch-room-requires : tie.Need-scratch-room-requires
+scratch-room-requires c κs = search needs
+
+returns-4 : tie.Need-returns-4
+unfolding raiseStart
+returns-4 c = simp (le-ltb (c .before .before .before .before .before .before .before .before .before .before .before .args .e) (c .before .before .before .before .before .before .before .before .before .before .before .args .p) (c .before .before .before .before .before .before .before .before .before .if1 .left), sym (c .before .before .before .before .before .before .before .before .is-high .ensures) ∙ c .before .before .before .before .before .before .before .if2 .left, skip (c .before .before .before .out-room .ensures ∙ ap (λ (k : ℕ). outRoom (c .before .before .before .before .before .before .before .before .before .before .before .args .e) k (c .before .before .before .before .before .before .before .before .before .before .before .args .rational) (c .before .before .before .before .before .before .before .before .before .before .before .args .a) (c .before .before .before .before .before .before .before .before .before .before .before .args .b) (c .before .before .before .before .before .before .before .before .before .before .before .args .c)) (c .before .before .before .before .before .before .elevated-count .ensures)) (c .before .if3 .left)) (c .scratch-room .ensures ∙ ap (λ (k : ℕ). scratchRoom (c .before .before .before .before .before .before .before .before .before .before .before .args .p) k (c .before .before .before .before .before .before .before .before .before .before .before .args .d)) (extracted-is (c .before .before .before .before .before .before .before .before .before .before .before .args .p) (c .before .before .before .before .before .before .before .before .before .before .before .args .n) (now (c .before .before .before .before .before .before .before .before .before .before .before .args .knots)) (c .before .before .before .before .before .before .before .before .before .before .before .pre .0) (c .before .before .before .before .before .before .before .before .before .before .before .pre .2) _ _ (c .before .before .before .before .before .count-breaks .ensures)))
 
 pub raise-start-spec : {M : Type 1} → statement M
 raise-start-spec =
@@ -64,5 +72,7 @@ raise-start-spec =
     add-extracted
     add-extracted-2
     mul-extracted
-    raise-room-requires
-    returns-3)
+    out-room-requires
+    returns-3
+    scratch-room-requires
+    returns-4)
