@@ -6,6 +6,7 @@ pub mod BreakWalks
 pub mod KnotWalks
 pub mod Putting
 pub mod Joining
+pub mod JoinedCurve
 pub mod Limits
 pub mod Opened
 pub mod Inserting

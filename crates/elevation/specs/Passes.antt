@@ -1,13 +1,15 @@
 -- What the passes of the code promise each other. The contract of `elevate_degree` names none of it.
 -- Assumes nothing.
 use Prim.Native.Nat.{ℕ, _+_, _-_, _*_, _≤_, _<_}
-use mathlib.Core.Bool.{Bool, true}
+use mathlib.Core.Bool.{Bool, true, not, cond}
 use mathlib.Core.Path.{_≡_}
 use mathlib.Core.List.{List, _∷_, _++_}
 use lib.ListN.{length, take, drop}
 use lib.Ieee.{Float}
 use Rattle.doubles.specs.Run.{at}
 use Rattle.evaluate.specs.declared.vector.Vector.{Vector}
+use Rattle.knots.specs.Refusal.{refuse, edit-bad}
+use Rattle.knots.specs.Curve.{formedRefusal}
 use Rattle.knots.specs.declared.refusal.Refusal.{Refusal}
 use Rattle.insertion.specs.Fold.{Outcome, gives, refuses}
 use Rattle.insertion.specs.Work.{knotsFrom, pointsFrom, weightsFrom}
@@ -16,7 +18,7 @@ use Rattle.insertion.specs.Whole.{givenOf}
 use Rattle.insertion.specs.declared.control.Control.{Control}
 use Rattle.elevation.specs.Breaks.{breaksFrom, fullCount}
 use Rattle.elevation.specs.Raise.{raiseOnce, raiseTimes}
-use Rattle.elevation.specs.Elevate.{allBlended, pointsOf, weightsOf}
+use Rattle.elevation.specs.Elevate.{raisedCount, raisedKnots, keptAll, allBlended, pointsOf, weightsOf}
 
 -- control i of a run of four numbers each
 abbrev pub controlIn : List Float → ℕ → Control
@@ -57,3 +59,16 @@ pub record Put (o : Vector) (g : Bool) (l : List Control) (i : ℕ) (p₀ w₀ p
   pub answer : r ≡ allBlended l
   pub points : r ≡ true → p₁ ≡ over (i * 3) (pointsOf o l) p₀
   pub weights : r ≡ true → w₁ ≡ over (given g i) (givenOf g (weightsOf l)) w₀
+
+-- 20, and 1 to 10 of the curve that is formed of controls h relative to o. Where there is no refusal, it stands at the front of three runs
+module _ (p e n : ℕ) (ks bs : List Float) (g : Bool) (h : ℕ → Control) (o : Vector) where
+  unfoldable pub joinRefusal : Refusal
+  joinRefusal =
+      cond (not (allBlended (keptAll p e ks h bs))) (refuse edit-bad)
+      (formedRefusal e (raisedCount p e ks bs) (raisedKnots p e n ks bs) (pointsOf o (keptAll p e ks h bs)) g (givenOf g (weightsOf (keptAll p e ks h bs))))
+
+  pub record Joined (k₀ p₀ w₀ k₁ p₁ w₁ : List Float) (r : Refusal) : Type 0 where
+    pub refusal : r ≡ joinRefusal
+    pub knots : r .number ≡ 0 → k₁ ≡ over 0 (raisedKnots p e n ks bs) k₀
+    pub points : r .number ≡ 0 → p₁ ≡ over 0 (pointsOf o (keptAll p e ks h bs)) p₀
+    pub weights : r .number ≡ 0 → w₁ ≡ over 0 (givenOf g (weightsOf (keptAll p e ks h bs))) w₀
