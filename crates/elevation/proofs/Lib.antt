@@ -12,4 +12,5 @@ pub mod Opened
 pub mod Inserting
 pub mod LaidOut
 pub mod Extracting
+pub mod RaisedCurve
 pub mod Worked
