@@ -113,7 +113,9 @@ module _ (p e n : ℕ) (l : p ≤ e) (ks ps : List Float) (g : Bool) (ws bs : Li
       raise-end z Z X Y =
           let q : goal ≡ gives (raisedKnots p e n ks bs) (raisedPoints p e n ks bs g P W) (raisedWeights p e n ks bs g P W) = made ∙ simp (skip refusal-is z) in
           rw q
-          ((z
-          , over-zeros a (raisedKnots p e n ks bs) k₀ k₁ Z (moved .knots z)
-          , over-zeros b (raisedPoints p e n ks bs g P W) p₀ p₁ X (moved .points z)
-          , over-zeros c (raisedWeights p e n ks bs g P W) w₀ w₁ Y (moved .weights z)))
+          ((
+            z,
+            over-zeros a (raisedKnots p e n ks bs) k₀ k₁ Z (moved .knots z),
+            over-zeros b (raisedPoints p e n ks bs g P W) p₀ p₁ X (moved .points z),
+            over-zeros c (raisedWeights p e n ks bs g P W) w₀ w₁ Y (moved .weights z),
+          ))

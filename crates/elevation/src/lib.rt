@@ -1,4 +1,5 @@
 // A curve's degree is raised, in lent runs.
+mod copy;
 mod join;
 mod put_knots;
 mod raise;
