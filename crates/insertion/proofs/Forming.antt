@@ -29,12 +29,12 @@ use Rattle.basis.proofs.Cases.{lt-or-ge}
 use Rattle.evaluate.specs.Controls.{pointOf, finiteVector}
 use Rattle.evaluate.specs.declared.vector.Vector.{Vector}
 use Rattle.evaluate.proofs.IsoCurves.{Within, span-found}
-use Rattle.insertion.specs.Control.{isLifted, isBlended, shareOf, blendOf, lowerOf}
+use Rattle.insertion.specs.Control.{vectorOf, isLifted, isBlended, shareOf, blendOf, lowerOf}
 use Rattle.insertion.specs.Counts.{multiplicityOf}
 use Rattle.insertion.specs.Rows.{liftAll, blendAt, axis, lowerAt, weightIn, given}
 use Rattle.insertion.specs.Insert.{knotAt, moreKnots, inside, spotRefusal, lifted, blended, morePoints, moreWeights, formRefusal, insertedKnots, insertedPoints, insertedWeights, insertRefusal}
 use Rattle.insertion.specs.Work.{knotsFrom, pointsFrom, weightsFrom}
-use Rattle.insertion.specs.Passes.{rowOf, keptRow, stored, vectorOf, Untouched, Outside, lowerRefusal, LiftDone, LowerDone, Holds, Formed, Inserted}
+use Rattle.insertion.specs.Passes.{rowOf, keptRow, stored, Untouched, Outside, lowerRefusal, LiftDone, LowerDone, Holds, Formed, Inserted}
 use Rattle.insertion.specs.declared.control.Control.{Control}
 use Rattle.insertion.proofs.Grown.{grown-valid, controls-left}
 use Rattle.insertion.proofs.RowLoops.{rows-same, row-axis, row-point, knot-from}

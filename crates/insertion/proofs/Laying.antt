@@ -24,7 +24,8 @@ use Rattle.evaluate.proofs.Overlays.{store-none, store-more}
 use Rattle.insertion.specs.Rows.{given, axis}
 use Rattle.insertion.specs.Fold.{Outcome, gives, refuses, insertAll}
 use Rattle.insertion.specs.Work.{knotsFrom, pointsFrom, weightsFrom}
-use Rattle.insertion.specs.Passes.{rowOf, vectorOf, givenRow, Untouched, RowsLaid, KnotsLaid, CurveIn, ListMeets, OutMeets}
+use Rattle.insertion.specs.Control.{vectorOf}
+use Rattle.insertion.specs.Passes.{rowOf, givenRow, Untouched, RowsLaid, KnotsLaid, CurveIn, ListMeets, OutMeets}
 use Rattle.insertion.specs.declared.control.Control.{Control}
 use Rattle.insertion.proofs.Storing.{tabulate-at, tabulate-cong, copied}
 use Rattle.insertion.proofs.RowLoops.{rows-same, row-axis}
@@ -142,18 +143,18 @@ curve-in a ks ps g ws w₀ w₁ w₂ l R K = record {
 }
 
 -- ---- what is read from a run in which a curve stands
+pub given-axis : (ps : List Float) (g : Bool) (ws : List Float) (j i c : ℕ) → j ≡ i * 3 + c → c < 3 → axis c (vectorOf (givenRow ps g ws i)) ≡ at ps j
+given-axis ps g ws j i zero e l = let z : i * 3 ≡ j = omega arith in ap (at ps) z
+given-axis ps g ws j i (suc zero) e l = ap (at ps) (sym e)
+given-axis ps g ws j i (suc (suc zero)) e l = ap (at ps) (sym e)
+given-axis ps g ws j i (suc (suc (suc c))) e l = absurd (omega arith)
+
 module _ (a : ℕ) (ks ps : List Float) (g : Bool) (ws w₀ w₁ : List Float) (C : CurveIn a ks ps g ws w₀ w₁) where
   pub points-back : length ps ≡ countOf ps * 3 → pointsFrom (countOf ps) w₁ ≡ ps
   points-back L =
       tabulate-cong (countOf ps * 3) (λ j. at w₁ (j / 3 * 4 + j % 3)) (at ps)
-      (λ j b. row-axis g (countOf ps) w₁ (j / 3) (j % 3) (omega arith) ∙ (ap (λ (q : Control). axis (j % 3) (vectorOf q)) (C .rows (j / 3) (omega arith)) ∙ coordinate j (j / 3) (j % 3) (omega arith) (omega arith)))
+      (λ j b. row-axis g (countOf ps) w₁ (j / 3) (j % 3) (omega arith) ∙ (ap (λ (q : Control). axis (j % 3) (vectorOf q)) (C .rows (j / 3) (omega arith)) ∙ given-axis ps g ws j (j / 3) (j % 3) (omega arith) (omega arith)))
       ∙ (ap (λ (n : ℕ). tabulate n (at ps)) (sym L) ∙ tabulate-at ps)
-    where
-      coordinate : (j i c : ℕ) → j ≡ i * 3 + c → c < 3 → axis c (vectorOf (givenRow ps g ws i)) ≡ at ps j
-      coordinate j i zero e l = let z : i * 3 ≡ j = omega arith in ap (at ps) z
-      coordinate j i (suc zero) e l = ap (at ps) (sym e)
-      coordinate j i (suc (suc zero)) e l = ap (at ps) (sym e)
-      coordinate j i (suc (suc (suc c))) e l = absurd (omega arith)
 
   pub weights-back : (b : Bool) → b ≡ g → (b ≡ true → length ws ≡ countOf ps) → weightsFrom b (countOf ps) w₁ ≡ cond b ws (tabulate 0 (at ws))
   weights-back true e L =

@@ -3,6 +3,7 @@ pub mod Tested
 pub mod Storing
 pub mod RowLoops
 pub mod Laying
+pub mod Laid
 pub mod Grown
 pub mod Counted
 pub mod Forming
@@ -10,6 +11,7 @@ pub mod Folds
 pub mod Domain
 pub mod Never
 pub mod Starting
+pub mod Working
 pub mod Outcomes
 pub mod Textbook
 pub mod Worked

@@ -22,14 +22,14 @@ use Rattle.knots.proofs.Below.{all-none, all-more, all-fails, all-stops, all-en
 use Rattle.basis.proofs.Whole.{length-tabulate, at-tabulate}
 use Rattle.evaluate.specs.Controls.{pointOf, weightOf, larger, largestFrom, finiteVector}
 use Rattle.evaluate.specs.declared.vector.Vector.{Vector}
-use Rattle.insertion.specs.Control.{liftOf, isLifted, isBlended, shareOf, blendOf, lowerOf}
+use Rattle.insertion.specs.Control.{vectorOf, liftOf, isLifted, isBlended, shareOf, blendOf, lowerOf}
 use Rattle.insertion.specs.Counts.{largestOf}
 use Rattle.insertion.specs.Rows.{scaleOf, liftAt, liftAll, blendAt, axis}
 use Rattle.insertion.specs.Work.{knotsFrom, pointsFrom, weightsFrom}
-use Rattle.insertion.specs.Passes.{rowOf, keptRow, givenRow, stored, vectorOf, liftRow, blendOne, Untouched, RowPut, RowsLaid, lowerRefusal, LiftDone, LowerDone}
+use Rattle.insertion.specs.Passes.{rowOf, keptRow, givenRow, stored, liftRow, blendOne, Untouched, RowPut, RowsLaid, lowerRefusal, LiftDone, LowerDone}
 use Rattle.insertion.specs.declared.control.Control.{Control}
 
-control-is : (x y z w x' y' z' w' : Float) → x ≡ x' → y ≡ y' → z ≡ z' → w ≡ w'
+pub control-is : (x y z w x' y' z' w' : Float) → x ≡ x' → y ≡ y' → z ≡ z' → w ≡ w'
     → _≡_ {A = Control} (record { x = x; y = y; z = z; w = w }) (record { x = x'; y = y'; z = z'; w = w' })
 control-is x y z w x' y' z' w' a b c d = rw (a, b, c, d)
 
@@ -144,7 +144,7 @@ module _ (g : Bool) (n : ℕ) (xs : List Float) where
   row-axis i (suc (suc zero)) l = refl
   row-axis i (suc (suc (suc c))) l = absurd (omega arith)
 
-  point-at : (i c : ℕ) → i < n → c < 3 → at (pointsFrom n xs) (i * 3 + c) ≡ at xs (i * 4 + c)
+  pub point-at : (i c : ℕ) → i < n → c < 3 → at (pointsFrom n xs) (i * 3 + c) ≡ at xs (i * 4 + c)
   point-at i c l b =
       let e : (i * 3 + c) / 3 * 4 + (i * 3 + c) % 3 ≡ i * 4 + c = omega arith in
       at-tabulate (n * 3) (λ j. at xs (j / 3 * 4 + j % 3)) (i * 3 + c) (omega arith) ∙ ap (at xs) e

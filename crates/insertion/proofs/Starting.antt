@@ -64,11 +64,11 @@ module _ (p : ℕ) (ks ps : List Float) (g : Bool) (ws : List Float) where
       clamped true e = refl
       clamped false e = absurd (omega arith)
 
-room-none : (a n : ℕ) → n ≤ a → roomRefusal a n ≡ accepted
+pub room-none : (a n : ℕ) → n ≤ a → roomRefusal a n ≡ accepted
 unfolding roomRefusal
 room-none a n l = simp (le-ltb a n l)
 
-room-short : (a n : ℕ) → a < n → roomRefusal a n ≡ refuse too-long
+pub room-short : (a n : ℕ) → a < n → roomRefusal a n ≡ refuse too-long
 unfolding roomRefusal
 room-short a n l = simp (lt-ltb a n l)
 

@@ -41,3 +41,7 @@ lowerOf o q = record {
   y = add binary64 (o .y) (div binary64 (q .y) (q .w));
   z = add binary64 (o .z) (div binary64 (q .z) (q .w));
 }
+
+-- its first three numbers
+abbrev pub vectorOf : Control → Vector
+vectorOf q = record { x = q .x; y = q .y; z = q .z }

@@ -17,7 +17,7 @@ use Rattle.knots.specs.declared.refusal.Refusal.{Refusal}
 use Rattle.evaluate.specs.Controls.{finiteVector}
 use Rattle.evaluate.specs.Lent.{padded}
 use Rattle.evaluate.specs.declared.vector.Vector.{Vector}
-use Rattle.insertion.specs.Control.{liftOf, isLifted, isBlended, shareOf, blendOf, lowerOf}
+use Rattle.insertion.specs.Control.{vectorOf, liftOf, isLifted, isBlended, shareOf, blendOf, lowerOf}
 use Rattle.insertion.specs.Insert.{moreKnots, morePoints, moreWeights, formRefusal, insertedKnots, insertedPoints, insertedWeights, insertRefusal}
 use Rattle.insertion.specs.Fold.{Outcome, gives, refuses}
 use Rattle.insertion.specs.Work.{knotsFrom, pointsFrom, weightsFrom}
@@ -33,12 +33,9 @@ keptRow v w = record { x = v .x; y = v .y; z = v .z; w = w }
 abbrev pub givenRow : List Float → Bool → List Float → ℕ → Control
 givenRow ps g ws i = record { x = at ps (i * 3); y = at ps (i * 3 + 1); z = at ps (i * 3 + 2); w = cond g (at ws i) one+ }
 
--- what of a row is stored, and its point
+-- what of a row is stored
 abbrev pub stored : Bool → Control → Control
 stored g q = record { x = q .x; y = q .y; z = q .z; w = cond g (q .w) one+ }
-
-abbrev pub vectorOf : Control → Vector
-vectorOf q = record { x = q .x; y = q .y; z = q .z }
 
 -- a row's control, relative to o, its weight over the scale m
 abbrev pub liftRow : Float → Vector → Bool → Control → Control

@@ -3,21 +3,25 @@
 use Prim.Native.Nat.{ℕ, _+_, _-_, _*_, _/_, _%_}
 use mathlib.Core.Bool.{Bool, cond, _&&_}
 use mathlib.Core.Path.{_≡_}
-use mathlib.Core.List.{List, _++_}
+use mathlib.Core.List.{List}
 use lib.ListN.{length, take, drop, replicate}
 use lib.Dec.{leb, ltb, eqb}
 use lib.Ieee.{Float}
 use Rattle.doubles.specs.Run.{at}
-use Rattle.knots.specs.Refusal.{accepted, orElse}
+use Rattle.knots.specs.Below.{allBelow}
+use Rattle.knots.specs.Refusal.{refuse, accepted, orElse, control-bad}
 use Rattle.knots.specs.Clear.{zeros}
 use Rattle.knots.specs.Knots.{knotRefusal}
 use Rattle.knots.specs.Curve.{countOf}
 use Rattle.knots.specs.declared.refusal.Refusal.{Refusal}
 use Rattle.basis.specs.Basis.{tabulate}
-use Rattle.evaluate.specs.Controls.{coordinate}
+use Rattle.evaluate.specs.Controls.{coordinate, pointOf}
 use Rattle.evaluate.specs.Shape.{roomRefusal}
-use Rattle.insertion.specs.Rows.{given}
+use Rattle.insertion.specs.Control.{vectorOf, isLifted}
+use Rattle.insertion.specs.Rows.{liftAll, axis, given}
+use Rattle.insertion.specs.Start.{outRoom}
 use Rattle.insertion.specs.Fold.{Outcome, gives, refuses, insertAll}
+use Rattle.insertion.specs.declared.control.Control.{Control}
 
 -- number j of the rows of points ps and weights ws; where none are given, x stands for the weight
 unfoldable pub rowNumber : List Float → Bool → List Float → Float → ℕ → Float
@@ -45,18 +49,21 @@ weightsFrom g n xs = tabulate (given g n) (λ i. at xs (i * 4 + 3))
 unfoldable pub workRoom : ℕ → ℕ → ℕ → ℕ → Refusal
 workRoom n m a l = orElse (roomRefusal a (n * 4)) (roomRefusal l (a + m))
 
--- ---- a curve is laid into a run of l numbers
+-- ---- a curve is laid into a run of l numbers, +0.0 elsewhere
 unfoldable pub layRefusal : List Float → List Float → Bool → List Float → ℕ → ℕ → Refusal
 layRefusal ks ps g ws a l = orElse (roomRefusal (length ws) (given g (countOf ps))) (workRoom (countOf ps) (length ks) a l)
 
+unfoldable pub layOutcome : List Float → List Float → Bool → List Float → ℕ → ℕ → Outcome
+layOutcome ks ps g ws a l = cond (eqb (layRefusal ks ps g ws a l .number) 0) (gives ks ps ws) (refuses (layRefusal ks ps g ws a l))
+
 -- ---- the knot t is inserted m times into the curve of degree p and n points that stands in a run xs
-module _ (p n : ℕ) (g : Bool) (t : Float) (m a : ℕ) (xs : List Float) where
+module _ (p n m a : ℕ) (xs : List Float) where
   -- 30, and 1 to 7 of the knots that stand there
   unfoldable pub timesStart : Refusal
   timesStart = orElse (workRoom (n + m) (n + m + p + 1) a (length xs)) (knotRefusal p n (knotsFrom a p n xs))
 
-  unfoldable pub timesOutcome : Outcome
-  timesOutcome =
+  unfoldable pub timesOutcome : Bool → Float → Outcome
+  timesOutcome g t =
       cond (eqb (timesStart .number) 0) (insertAll p g n (knotsFrom a p n xs) (pointsFrom n xs) (weightsFrom g n xs) (replicate m t)) (refuses timesStart)
 
 -- the refusal of an outcome, and the run that it leaves
@@ -67,3 +74,23 @@ refusalOf (refuses r) = r
 abbrev pub workIn : ℕ → Bool → List Float → Outcome → List Float
 workIn a g xs (gives ks ps ws) = laid a xs ks ps g ws
 workIn a g xs (refuses r) = zeros (length xs)
+
+-- ---- the rows of n points in a run xs become controls, relative to the first point, all weights over the largest
+module _ (n : ℕ) (g : Bool) (xs : List Float) where
+  abbrev pub controls : ℕ → Control
+  controls = liftAll (pointOf (pointsFrom n xs) 0) (pointsFrom n xs) g (weightsFrom g n xs)
+
+  -- 30, 19
+  unfoldable pub liftRefusal : Refusal
+  liftRefusal = orElse (roomRefusal (length xs) (n * 4)) (cond (allBelow (λ i. isLifted (controls i)) n) accepted (refuse control-bad))
+
+  unfoldable pub controlAt : ℕ → Float
+  controlAt j =
+      cond (ltb j (n * 4)) (cond (eqb (j % 4) 3) (cond g (controls (j / 4) .w) (at xs j)) (axis (j % 4) (vectorOf (controls (j / 4))))) (at xs j)
+
+  unfoldable pub liftedRun : List Float
+  liftedRun = cond (eqb (liftRefusal .number) 0) (tabulate (length xs) controlAt) (zeros (length xs))
+
+-- ---- the curve of m points from row f and knot f on, in a run of l numbers, goes to outputs of b, c and d numbers: 30
+unfoldable pub takeRefusal : ℕ → ℕ → ℕ → Bool → ℕ → ℕ → ℕ → ℕ → ℕ → Refusal
+takeRefusal p m f g a l b c d = orElse (workRoom (f + m) (f + m + p + 1) a l) (outRoom p m g b c d)

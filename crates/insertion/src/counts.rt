@@ -1,6 +1,6 @@
 // What is found by a walk over one run.
 ghost use mathlib.Core.Path.{_≡_};
-ghost use Prim.Native.Nat.{_+_, _<_};
+ghost use Prim.Native.Nat.{_+_, _-_, _<_};
 ghost use Rattle.evaluate.specs.Controls.{larger};
 ghost use Rattle.insertion.specs.Counts.{bit, multiplicityOf, allEqual};
 
@@ -23,6 +23,14 @@ pub fn multiplicity(knots: &[f64], t: f64) -> usize
         i += 1;
     }
     n
+}
+
+// How often t is missing for it to stand as many times as is asked.
+pub fn missing(times: usize, knots: &[f64], t: f64) -> usize
+    ensures { λ r. ⌜ r ≡ times - multiplicityOf (now (knots .entry)) t ⌝ }
+{
+    let n = multiplicity(knots, t);
+    if n < times { times - n } else { 0 }
 }
 
 // The larger of two, and the first where neither is.

@@ -1,14 +1,12 @@
 // Knots inserted into a curve: the public call.
 use crate::answer::EditAnswer;
-use crate::lay::lay_knots;
-use crate::lay::lay_rows;
+use crate::lay::lay_into;
 use crate::lay::store_curve;
 use crate::list::insert_all;
 use crate::start::insert_start;
 use knots::clear::clear;
 use knots::refusal::Refusal;
 ghost use mathlib.Core.Path.{_≡_};
-ghost use mathlib.Core.Bool.{true};
 ghost use Prim.Native.Nat.{_+_, _*_, _/_, _≤_};
 ghost use lib.ListN.{length};
 ghost use Rattle.knots.specs.Clear.{zeros};
@@ -16,7 +14,7 @@ ghost use Rattle.knots.specs.Curve.{ValidCurve};
 ghost use Rattle.insertion.specs.Rows.{given};
 ghost use Rattle.insertion.specs.Fold.{insertAll};
 ghost use Rattle.insertion.specs.Whole.{givenOf, InsertMeets};
-ghost use Rattle.insertion.specs.Passes.{CurveIn, OutMeets};
+ghost use Rattle.insertion.specs.Passes.{OutMeets};
 
 // Every lent run at once: what a refusal leaves.
 fn clear_all(knots: &mut [f64], points: &mut [f64], weights: &mut [f64], rows: &mut [f64])
@@ -26,23 +24,6 @@ fn clear_all(knots: &mut [f64], points: &mut [f64], weights: &mut [f64], rows: &
     clear(points);
     clear(weights);
     clear(rows);
-}
-
-// The curve goes into scratch, its knots to place a.
-fn lay_into(
-    knots: &[f64],
-    points: &[f64],
-    rational: bool,
-    weights: &[f64],
-    a: usize,
-    work: &mut [f64],
-)
-    requires { ⌜ (rational ≡ true → length (now points) / 3 ≤ length (now weights)) ⌝ }
-    requires { ⌜ (length (now points) / 3 * 4 ≤ a) × (a + length (now knots) ≤ length (now work)) ⌝ }
-    ensures { λ _. ⌜ CurveIn a (now (knots .entry)) (now (points .entry)) rational (now (weights .entry)) (now (work .entry)) (now (work .exit)) ⌝ }
-{
-    lay_rows(points.len() / 3, points, rational, weights, work);
-    lay_knots(knots, a, work);
 }
 
 // The curve goes into scratch, the knots are inserted there, and what is formed goes to the outputs.

@@ -9,13 +9,14 @@ use evaluate::vector::Vector;
 ghost use mathlib.Core.Path.{_≡_};
 ghost use mathlib.Core.Bool.{true, cond};
 ghost use mathlib.Core.List.{_++_};
-ghost use Prim.Native.Nat.{_+_, _*_, _<_, _≤_};
+ghost use Prim.Native.Nat.{_+_, _*_, _/_, _<_, _≤_};
 ghost use lib.ListN.{length, drop, set};
 ghost use Rattle.basis.specs.Basis.{tabulate};
 ghost use Rattle.insertion.specs.Rows.{given};
 ghost use Rattle.evaluate.specs.Lent.{padded};
 ghost use Rattle.insertion.specs.Work.{knotsFrom, pointsFrom, weightsFrom};
-ghost use Rattle.insertion.specs.Passes.{givenRow, vectorOf, RowsLaid, KnotsLaid};
+ghost use Rattle.insertion.specs.Control.{vectorOf};
+ghost use Rattle.insertion.specs.Passes.{givenRow, RowsLaid, KnotsLaid, CurveIn};
 
 // Point i of two runs with its weight.
 fn given_row(points: &[f64], rational: bool, weights: &[f64], i: usize) -> Control
@@ -63,6 +64,23 @@ pub fn lay_knots(knots: &[f64], a: usize, work: &mut [f64])
         work[at] = knots[i];
         i += 1;
     }
+}
+
+// A curve goes into a run, its knots to place a.
+pub fn lay_into(
+    knots: &[f64],
+    points: &[f64],
+    rational: bool,
+    weights: &[f64],
+    a: usize,
+    work: &mut [f64],
+)
+    requires { ⌜ (rational ≡ true → length (now points) / 3 ≤ length (now weights)) ⌝ }
+    requires { ⌜ (length (now points) / 3 * 4 ≤ a) × (a + length (now knots) ≤ length (now work)) ⌝ }
+    ensures { λ _. ⌜ CurveIn a (now (knots .entry)) (now (points .entry)) rational (now (weights .entry)) (now (work .entry)) (now (work .exit)) ⌝ }
+{
+    lay_rows(points.len() / 3, points, rational, weights, work);
+    lay_knots(knots, a, work);
 }
 
 fn put_point(points: &mut [f64], i: usize, v: Vector)

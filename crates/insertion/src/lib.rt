@@ -9,3 +9,4 @@ mod one;
 mod rows;
 mod runs;
 pub mod start;
+pub mod work;

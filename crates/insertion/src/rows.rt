@@ -20,7 +20,8 @@ ghost use Rattle.evaluate.specs.Controls.{largestFrom};
 ghost use Rattle.doubles.specs.Value.{zero+};
 ghost use Rattle.insertion.specs.Rows.{scaleOf, liftAll, blendAt};
 ghost use Rattle.insertion.specs.Work.{knotsFrom, pointsFrom, weightsFrom};
-ghost use Rattle.insertion.specs.Passes.{rowOf, vectorOf, liftRow, blendOne, keptRow, RowPut, LiftDone, LowerDone};
+ghost use Rattle.insertion.specs.Control.{vectorOf};
+ghost use Rattle.insertion.specs.Passes.{rowOf, liftRow, blendOne, keptRow, RowPut, LiftDone, LowerDone};
 
 // Where a knot goes: the degree, the knot t, the last place k whose knot is at most t, and how many knots equal t.
 pub struct Spot {

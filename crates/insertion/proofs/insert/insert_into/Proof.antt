@@ -9,11 +9,6 @@ use Rattle.insertion.proofs.Laying.{knots-back, points-back, weights-ba
 use borrow.Author.Needs.{needs}
 use Rattle.insertion.proofs.insert.insert_into.Statement.{statement}
 use Rattle.insertion.proofs.insert.insert_into.Tie as tie
-use Rattle.insertion.proofs.insert.insert_into.Reads as reads
-use Rattle.insertion.proofs.insert.insert_into.Lts as lts
-use Rattle.insertion.proofs.insert.lay_into.Reads as lay-into-reads
-use Rattle.insertion.proofs.lay.store_curve.Reads as store-curve-reads
-use Rattle.insertion.proofs.list.insert_all.Reads as insert-all-reads
 
 -- src/insert.rt:69:13
 add-m : tie.Need-add-m

@@ -2,8 +2,6 @@ use lib.Ieee.{ofBits}
 use borrow.Author.Needs.{needs}
 use Rattle.insertion.proofs.lay.given_row.Statement.{statement}
 use Rattle.insertion.proofs.lay.given_row.Tie as tie
-use Rattle.insertion.proofs.lay.given_row.Reads as reads
-use Rattle.insertion.proofs.lay.given_row.Lts as lts
 
 -- src/lay.rt:26:14
 mul-at : tie.Need-mul-at

@@ -6,8 +6,6 @@ use Rattle.insertion.proofs.Laying.{InKnots, knots-start, knots-more, k
 use borrow.Author.Needs.{needs}
 use Rattle.insertion.proofs.lay.lay_knots.Statement.{statement}
 use Rattle.insertion.proofs.lay.lay_knots.Tie as tie
-use Rattle.insertion.proofs.lay.lay_knots.Reads as reads
-use Rattle.insertion.proofs.lay.lay_knots.Lts as lts
 
 abbrev Inv-loop : tie.InvT-loop
 Inv-loop knots a work₀ i₀ work i = InKnots a knots work₀ work i

@@ -5,10 +5,6 @@ use Rattle.insertion.proofs.RowLoops.{InLay, lay-start, lay-more, lay-e
 use borrow.Author.Needs.{needs}
 use Rattle.insertion.proofs.lay.lay_rows.Statement.{statement}
 use Rattle.insertion.proofs.lay.lay_rows.Tie as tie
-use Rattle.insertion.proofs.lay.lay_rows.Reads as reads
-use Rattle.insertion.proofs.lay.lay_rows.Lts as lts
-use Rattle.insertion.proofs.lay.given_row.Reads as given-row-reads
-use Rattle.insertion.proofs.rows.put_row.Reads as put-row-reads
 
 abbrev Inv-loop : tie.InvT-loop
 Inv-loop n points rational weights rows₀ i₀ rows i = InLay n points rational weights rows₀ rows i

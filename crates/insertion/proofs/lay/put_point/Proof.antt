@@ -5,8 +5,6 @@ use denote.Ref.{now}
 use borrow.Author.Needs.{needs}
 use Rattle.insertion.proofs.lay.put_point.Statement.{statement}
 use Rattle.insertion.proofs.lay.put_point.Tie as tie
-use Rattle.insertion.proofs.lay.put_point.Reads as reads
-use Rattle.insertion.proofs.lay.put_point.Lts as lts
 
 -- src/lay.rt:72:14
 mul-at : tie.Need-mul-at

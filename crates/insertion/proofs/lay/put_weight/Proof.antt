@@ -1,8 +1,6 @@
 use borrow.Author.Needs.{needs}
 use Rattle.insertion.proofs.lay.put_weight.Statement.{statement}
 use Rattle.insertion.proofs.lay.put_weight.Tie as tie
-use Rattle.insertion.proofs.lay.put_weight.Reads as reads
-use Rattle.insertion.proofs.lay.put_weight.Lts as lts
 
 -- src/lay.rt:84:9
 mul-weights : tie.Need-mul-weights

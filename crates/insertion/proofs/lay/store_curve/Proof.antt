@@ -11,12 +11,6 @@ use Rattle.insertion.proofs.Laying.{slice-is, points-stored, weights-st
 use borrow.Author.Needs.{needs}
 use Rattle.insertion.proofs.lay.store_curve.Statement.{statement}
 use Rattle.insertion.proofs.lay.store_curve.Tie as tie
-use Rattle.insertion.proofs.lay.store_curve.Reads as reads
-use Rattle.insertion.proofs.lay.store_curve.Lts as lts
-use Rattle.insertion.proofs.lay.given_count.Reads as given-count-reads
-use Rattle.insertion.proofs.lay.take_rows.Reads as take-rows-reads
-use Rattle.insertion.proofs.runs.clear_from.Reads as clear-from-reads
-use Rattle.insertion.proofs.runs.copy_run.Reads as copy-run-reads
 
 -- src/lay.rt:132:16
 add-from : tie.Need-add-from

@@ -6,12 +6,6 @@ use Rattle.insertion.proofs.Laying.{InTake, take-start, take-more, take
 use borrow.Author.Needs.{needs}
 use Rattle.insertion.proofs.lay.take_rows.Statement.{statement}
 use Rattle.insertion.proofs.lay.take_rows.Tie as tie
-use Rattle.insertion.proofs.lay.take_rows.Reads as reads
-use Rattle.insertion.proofs.lay.take_rows.Lts as lts
-use Rattle.insertion.proofs.lay.put_point.Reads as put-point-reads
-use Rattle.insertion.proofs.lay.put_weight.Reads as put-weight-reads
-use Rattle.insertion.proofs.rows.row_at.Reads as row-at-reads
-use Rattle.insertion.proofs.rows.vector_of.Reads as vector-of-reads
 
 abbrev Inv-loop : tie.InvT-loop
 Inv-loop n rational rows points₀ weights₀ i₀ points weights i = InTake rational n rows points₀ weights₀ points weights i

@@ -9,10 +9,6 @@ use borrow.Author.Needs.{needs}
 use Rattle.insertion.proofs.Folds.{InTurns, turns-start, turns-room, turns-stop, turns-more, turns-end, drop-next, drop-last}
 use Rattle.insertion.proofs.list.insert_all.Statement.{statement}
 use Rattle.insertion.proofs.list.insert_all.Tie as tie
-use Rattle.insertion.proofs.list.insert_all.Reads as reads
-use Rattle.insertion.proofs.list.insert_all.Lts as lts
-use Rattle.insertion.proofs.one.insert_one.Reads as insert-one-reads
-use Rattle.knots.proofs.refusal.refuse.Reads as refuse-reads
 
 abbrev Inv-loop : tie.InvT-loop
 Inv-loop p n rational inserted a work₀ i₀ work i = InTurns a p rational n (length inserted) inserted (λ k. drop k inserted) work₀ work i

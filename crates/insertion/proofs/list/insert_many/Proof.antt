@@ -10,10 +10,6 @@ use borrow.Author.Needs.{needs}
 use Rattle.insertion.proofs.Folds.{InTurns, turns-start, turns-room, turns-stop, turns-more, turns-end, more-next, more-last}
 use Rattle.insertion.proofs.list.insert_many.Statement.{statement}
 use Rattle.insertion.proofs.list.insert_many.Tie as tie
-use Rattle.insertion.proofs.list.insert_many.Reads as reads
-use Rattle.insertion.proofs.list.insert_many.Lts as lts
-use Rattle.insertion.proofs.one.insert_one.Reads as insert-one-reads
-use Rattle.knots.proofs.refusal.refuse.Reads as refuse-reads
 
 abbrev Inv-loop : tie.InvT-loop
 Inv-loop p n rational t m a work₀ i₀ work i = InTurns a p rational n m (replicate m t) (λ k. replicate (m - k) t) work₀ work i

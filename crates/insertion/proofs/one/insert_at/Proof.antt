@@ -4,19 +4,12 @@ use native.Mathlib.Omega.{arith}
 use denote.Ref.{now}
 use lib.ListN.{length}
 use borrow.Author.Tests.{not-true, not-false}
-use Rattle.insertion.specs.Passes.{vectorOf}
+use Rattle.insertion.specs.Control.{vectorOf}
+use Rattle.insertion.specs.Passes.{}
 use Rattle.insertion.proofs.Forming.{form-19, form-late, form-end}
 use borrow.Author.Needs.{needs}
 use Rattle.insertion.proofs.one.insert_at.Statement.{statement}
 use Rattle.insertion.proofs.one.insert_at.Tie as tie
-use Rattle.insertion.proofs.one.insert_at.Reads as reads
-use Rattle.insertion.proofs.one.insert_at.Lts as lts
-use Rattle.insertion.proofs.rows.lift_rows.Reads as lift-rows-reads
-use Rattle.insertion.proofs.rows.lower_rows.Reads as lower-rows-reads
-use Rattle.insertion.proofs.rows.row_at.Reads as row-at-reads
-use Rattle.insertion.proofs.rows.vector_of.Reads as vector-of-reads
-use Rattle.insertion.proofs.runs.put_knot.Reads as put-knot-reads
-use Rattle.knots.proofs.refusal.refuse.Reads as refuse-reads
 
 -- src/one.rt:54:23
 row-at-requires : tie.Need-row-at-requires

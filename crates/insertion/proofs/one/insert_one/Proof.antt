@@ -15,12 +15,6 @@ use Rattle.insertion.proofs.Forming.{spot-open, spot-found, insert-earl
 use borrow.Author.Needs.{needs}
 use Rattle.insertion.proofs.one.insert_one.Statement.{statement}
 use Rattle.insertion.proofs.one.insert_one.Tie as tie
-use Rattle.insertion.proofs.one.insert_one.Reads as reads
-use Rattle.insertion.proofs.one.insert_one.Lts as lts
-use Rattle.insertion.proofs.counts.multiplicity.Reads as multiplicity-reads
-use Rattle.insertion.proofs.one.insert_at.Reads as insert-at-reads
-use Rattle.insertion.proofs.one.spot_refusal.Reads as spot-refusal-reads
-use Rattle.knots.proofs.span.span_of.Reads as span-of-reads
 
 -- src/one.rt:81:20
 add-end : tie.Need-add-end

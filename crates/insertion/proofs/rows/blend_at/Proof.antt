@@ -5,10 +5,6 @@ use Rattle.insertion.specs.Control.{blendOf}
 use borrow.Author.Needs.{needs}
 use Rattle.insertion.proofs.rows.blend_at.Statement.{statement}
 use Rattle.insertion.proofs.rows.blend_at.Tie as tie
-use Rattle.insertion.proofs.rows.blend_at.Reads as reads
-use Rattle.insertion.proofs.rows.blend_at.Lts as lts
-use Rattle.insertion.proofs.control.blend_of.Reads as blend-of-reads
-use Rattle.insertion.proofs.control.share_of.Reads as share-of-reads
 
 -- src/rows.rt:144:13
 sub-if1 : tie.Need-sub-if1

@@ -10,9 +10,6 @@ use lib.Ieee.{ofBits}
 use borrow.Author.Needs.{needs}
 use Rattle.insertion.proofs.rows.largest_weight.Statement.{statement}
 use Rattle.insertion.proofs.rows.largest_weight.Tie as tie
-use Rattle.insertion.proofs.rows.largest_weight.Reads as reads
-use Rattle.insertion.proofs.rows.largest_weight.Lts as lts
-use Rattle.insertion.proofs.counts.larger_of.Reads as larger-of-reads
 
 abbrev Inv-loop : tie.InvT-loop
 Inv-loop n rows a₀ i₀ a i = (a ≡ largestFrom zero+ (λ k. at rows (k * 4 + 3)) i) × (i ≤ n)

@@ -6,10 +6,6 @@ use Rattle.doubles.specs.Value.{one+}
 use borrow.Author.Needs.{needs}
 use Rattle.insertion.proofs.rows.lift_row.Statement.{statement}
 use Rattle.insertion.proofs.rows.lift_row.Tie as tie
-use Rattle.insertion.proofs.rows.lift_row.Reads as reads
-use Rattle.insertion.proofs.rows.lift_row.Lts as lts
-use Rattle.insertion.proofs.control.lift_of.Reads as lift-of-reads
-use Rattle.insertion.proofs.rows.vector_of.Reads as vector-of-reads
 
 -- src/rows.rt:108:27
 vector-of-requires : tie.Need-vector-of-requires

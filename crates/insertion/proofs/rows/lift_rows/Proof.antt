@@ -10,13 +10,6 @@ use Rattle.insertion.proofs.RowLoops.{InLift, lift-start, lift-stop, li
 use borrow.Author.Needs.{needs}
 use Rattle.insertion.proofs.rows.lift_rows.Statement.{statement}
 use Rattle.insertion.proofs.rows.lift_rows.Tie as tie
-use Rattle.insertion.proofs.rows.lift_rows.Reads as reads
-use Rattle.insertion.proofs.rows.lift_rows.Lts as lts
-use Rattle.insertion.proofs.control.is_lifted.Reads as is-lifted-reads
-use Rattle.insertion.proofs.rows.lift_row.Reads as lift-row-reads
-use Rattle.insertion.proofs.rows.put_row.Reads as put-row-reads
-use Rattle.insertion.proofs.rows.row_at.Reads as row-at-reads
-use Rattle.insertion.proofs.rows.scale_of.Reads as scale-of-reads
 
 abbrev Inv-loop : tie.InvT-loop
 Inv-loop n o rational rows₀ scale i₀ rows i = (scale ≡ scaleOf rational (weightsFrom rational n rows₀)) × InLift rational (liftAll o (pointsFrom n rows₀) rational (weightsFrom rational n rows₀)) n rows₀ rows i

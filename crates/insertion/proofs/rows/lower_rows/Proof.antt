@@ -10,17 +10,6 @@ use Rattle.insertion.proofs.RowLoops.{InLower, lower-start, lower-stop,
 use borrow.Author.Needs.{needs}
 use Rattle.insertion.proofs.rows.lower_rows.Statement.{statement}
 use Rattle.insertion.proofs.rows.lower_rows.Tie as tie
-use Rattle.insertion.proofs.rows.lower_rows.Reads as reads
-use Rattle.insertion.proofs.rows.lower_rows.Lts as lts
-use Rattle.evaluate.proofs.vector.finite_vector.Reads as finite-vector-reads
-use Rattle.insertion.proofs.control.is_blended.Reads as is-blended-reads
-use Rattle.insertion.proofs.control.lower_of.Reads as lower-of-reads
-use Rattle.insertion.proofs.rows.blend_at.Reads as blend-at-reads
-use Rattle.insertion.proofs.rows.both.Reads as both-reads
-use Rattle.insertion.proofs.rows.kept_row.Reads as kept-row-reads
-use Rattle.insertion.proofs.rows.put_row.Reads as put-row-reads
-use Rattle.insertion.proofs.rows.row_at.Reads as row-at-reads
-use Rattle.knots.proofs.refusal.refuse.Reads as refuse-reads
 
 abbrev Inv-loop : tie.InvT-loop
 Inv-loop spot n a o rational rows₀ fine₀ before₀ i₀ rows fine before i = InLower o rational (blendAt (spot .p) (spot .k) (spot .s) (spot .t) (knotsFrom a (spot .p) n rows₀) (rowOf rational rows₀)) (n + 1) rows₀ rows fine before i

@@ -7,8 +7,6 @@ use Rattle.insertion.proofs.RowLoops.{put-plain, put-weighted}
 use borrow.Author.Needs.{needs}
 use Rattle.insertion.proofs.rows.put_row.Statement.{statement}
 use Rattle.insertion.proofs.rows.put_row.Tie as tie
-use Rattle.insertion.proofs.rows.put_row.Reads as reads
-use Rattle.insertion.proofs.rows.put_row.Lts as lts
 
 -- src/rows.rt:57:14
 mul-at : tie.Need-mul-at

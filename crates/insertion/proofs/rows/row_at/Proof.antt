@@ -2,8 +2,6 @@ use lib.Ieee.{ofBits}
 use borrow.Author.Needs.{needs}
 use Rattle.insertion.proofs.rows.row_at.Statement.{statement}
 use Rattle.insertion.proofs.rows.row_at.Tie as tie
-use Rattle.insertion.proofs.rows.row_at.Reads as reads
-use Rattle.insertion.proofs.rows.row_at.Lts as lts
 
 -- src/rows.rt:38:14
 mul-at : tie.Need-mul-at

@@ -8,9 +8,6 @@ use Rattle.insertion.proofs.RowLoops.{scale-weighted, scale-plain}
 use borrow.Author.Needs.{needs}
 use Rattle.insertion.proofs.rows.scale_of.Statement.{statement}
 use Rattle.insertion.proofs.rows.scale_of.Tie as tie
-use Rattle.insertion.proofs.rows.scale_of.Reads as reads
-use Rattle.insertion.proofs.rows.scale_of.Lts as lts
-use Rattle.insertion.proofs.rows.largest_weight.Reads as largest-weight-reads
 
 -- src/rows.rt:98:9
 largest-weight-requires : tie.Need-largest-weight-requires

@@ -10,11 +10,6 @@ use Rattle.insertion.proofs.Starting.{edit-early, edit-17, edit-none}
 use borrow.Author.Needs.{needs}
 use Rattle.insertion.proofs.start.edit_start.Statement.{statement}
 use Rattle.insertion.proofs.start.edit_start.Tie as tie
-use Rattle.insertion.proofs.start.edit_start.Reads as reads
-use Rattle.insertion.proofs.start.edit_start.Lts as lts
-use Rattle.insertion.proofs.start.clamped_ends.Reads as clamped-ends-reads
-use Rattle.knots.proofs.curve.curve_refusal.Reads as curve-refusal-reads
-use Rattle.knots.proofs.refusal.refuse.Reads as refuse-reads
 
 -- src/start.rt:36:9
 curve-refusal-requires : tie.Need-curve-refusal-requires

@@ -4,13 +4,6 @@ use Rattle.insertion.specs.Start.{insertStart}
 use borrow.Author.Needs.{needs}
 use Rattle.insertion.proofs.start.insert_start.Statement.{statement}
 use Rattle.insertion.proofs.start.insert_start.Tie as tie
-use Rattle.insertion.proofs.start.insert_start.Reads as reads
-use Rattle.insertion.proofs.start.insert_start.Lts as lts
-use Rattle.insertion.proofs.start.edit_start.Reads as edit-start-reads
-use Rattle.insertion.proofs.start.out_room.Reads as out-room-reads
-use Rattle.insertion.proofs.start.scratch_room.Reads as scratch-room-reads
-use Rattle.knots.proofs.limits.over_long.Reads as over-long-reads
-use Rattle.knots.proofs.refusal.refuse.Reads as refuse-reads
 
 -- src/start.rt:90:8
 over-long-requires : tie.Need-over-long-requires

@@ -5,11 +5,6 @@ use Rattle.insertion.proofs.Starting.{out-knots, out-points, out-weight
 use borrow.Author.Needs.{needs}
 use Rattle.insertion.proofs.start.out_room.Statement.{statement}
 use Rattle.insertion.proofs.start.out_room.Tie as tie
-use Rattle.insertion.proofs.start.out_room.Reads as reads
-use Rattle.insertion.proofs.start.out_room.Lts as lts
-use Rattle.evaluate.proofs.shape.room_refusal.Reads as room-refusal-reads
-use Rattle.insertion.proofs.lay.given_count.Reads as given-count-reads
-use Rattle.knots.proofs.refusal.refuse.Reads as refuse-reads
 
 -- src/start.rt:51:9
 refuse-requires : tie.Need-refuse-requires

@@ -3,9 +3,6 @@ use Rattle.insertion.proofs.Starting.{scratch-short, scratch-fits}
 use borrow.Author.Needs.{needs}
 use Rattle.insertion.proofs.start.scratch_room.Statement.{statement}
 use Rattle.insertion.proofs.start.scratch_room.Tie as tie
-use Rattle.insertion.proofs.start.scratch_room.Reads as reads
-use Rattle.insertion.proofs.start.scratch_room.Lts as lts
-use Rattle.knots.proofs.refusal.refuse.Reads as refuse-reads
 
 -- src/start.rt:67:9
 refuse-requires : tie.Need-refuse-requires

@@ -3,12 +3,8 @@ use denote.Ref.{now}
 use native.Mathlib.Omega.{arith}
 use Rattle.insertion.proofs.Laying.{curve-in}
 use borrow.Author.Needs.{needs}
-use Rattle.insertion.proofs.insert.lay_into.Statement.{statement}
-use Rattle.insertion.proofs.insert.lay_into.Tie as tie
-use Rattle.insertion.proofs.insert.lay_into.Reads as reads
-use Rattle.insertion.proofs.insert.lay_into.Lts as lts
-use Rattle.insertion.proofs.lay.lay_knots.Reads as lay-knots-reads
-use Rattle.insertion.proofs.lay.lay_rows.Reads as lay-rows-reads
+use Rattle.insertion.proofs.lay.lay_into.Statement.{statement}
+use Rattle.insertion.proofs.lay.lay_into.Tie as tie
 
 -- src/insert.rt:44:5
 lay-rows-requires : tie.Need-lay-rows-requires

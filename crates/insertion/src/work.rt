@@ -1,0 +1,203 @@
+// A curve in a lent run, for other edits. Each call is total, and a refusal leaves +0.0 alone in what is lent.
+use crate::lay::given_count;
+use crate::lay::lay_into;
+use crate::lay::store_curve;
+use crate::list::insert_many;
+use crate::rows::lift_rows;
+use crate::rows::row_at;
+use crate::rows::vector_of;
+use crate::start::out_room;
+use evaluate::shape::room_refusal;
+use knots::clear::clear;
+use knots::knots::knot_refusal;
+use knots::refusal::Refusal;
+use knots::refusal::refuse;
+ghost use mathlib.Core.Path.{_≡_};
+ghost use Prim.Native.Nat.{_+_, _*_};
+ghost use lib.ListN.{length, drop};
+ghost use Rattle.knots.specs.Clear.{zeros};
+ghost use Rattle.evaluate.specs.Lent.{leftIn};
+ghost use Rattle.insertion.specs.Work.{knotsFrom, pointsFrom, weightsFrom, workRoom, layOutcome, timesStart, timesOutcome, refusalOf, workIn, liftRefusal, liftedRun, takeRefusal};
+
+// 30 for a run of l numbers that is to hold n points and m knots.
+fn work_room(n: usize, m: usize, a: usize, l: usize) -> Refusal
+    ensures { λ r. ⌜ r ≡ workRoom n m a l ⌝ }
+{
+    if n > a / 4 {
+        return refuse(30);
+    }
+    if a > l {
+        return refuse(30);
+    }
+    if m > l - a {
+        return refuse(30);
+    }
+    refuse(0)
+}
+
+// A curve goes into a run, its knots to place a.
+pub fn lay_curve(
+    knots: &[f64],
+    points: &[f64],
+    rational: bool,
+    weights: &[f64],
+    a: usize,
+    work: &mut [f64],
+) -> Refusal
+    ensures { λ r. ⌜ r ≡ refusalOf (layOutcome (now (knots .entry)) (now (points .entry)) rational (now (weights .entry)) a (length (now (work .entry)))) ⌝ }
+    ensures { λ _. ⌜ now (work .exit) ≡ workIn a rational (zeros (length (now (work .entry)))) (layOutcome (now (knots .entry)) (now (points .entry)) rational (now (weights .entry)) a (length (now (work .entry)))) ⌝ }
+{
+    clear(work);
+    let n = points.len() / 3;
+    let short = room_refusal(weights.len(), given_count(rational, n));
+    if short.number != 0 {
+        return short;
+    }
+    let room = work_room(n, knots.len(), a, work.len());
+    if room.number != 0 {
+        return room;
+    }
+    lay_into(knots, points, rational, weights, a, work);
+    refuse(0)
+}
+
+// 30, and 1 to 7 of the knots that stand in the run.
+fn times_start(p: usize, n: usize, m: usize, a: usize, work: &[f64]) -> Refusal
+    ensures { λ r. ⌜ r ≡ timesStart p n m a (now (work .entry)) ⌝ }
+{
+    let l = work.len();
+    if a > l {
+        return refuse(30);
+    }
+    if n > a {
+        return refuse(30);
+    }
+    if m > a {
+        return refuse(30);
+    }
+    if p > l {
+        return refuse(30);
+    }
+    let room = work_room(n + m, n + m + p + 1, a, l);
+    if room.number != 0 {
+        return room;
+    }
+    let end = a + (n + p + 1);
+    knot_refusal(p, n, &work[a..end])
+}
+
+// The knot t is inserted m times into the curve of n points that stands in a run.
+pub fn insert_times(
+    p: usize,
+    n: usize,
+    rational: bool,
+    t: f64,
+    m: usize,
+    a: usize,
+    work: &mut [f64],
+) -> Refusal
+    ensures { λ r. ⌜ r ≡ refusalOf (timesOutcome p n m a (now (work .entry)) rational t) ⌝ }
+    ensures { λ _. ⌜ now (work .exit) ≡ workIn a rational (now (work .entry)) (timesOutcome p n m a (now (work .entry)) rational t) ⌝ }
+{
+    let early = times_start(p, n, m, a, work);
+    if early.number != 0 {
+        clear(work);
+        return early;
+    }
+    let late = insert_many(p, n, rational, t, m, a, work);
+    if late.number != 0 {
+        clear(work);
+        return late;
+    }
+    refuse(0)
+}
+
+// The rows of n points become controls: 30, 19.
+pub fn lift_in(n: usize, rational: bool, work: &mut [f64]) -> Refusal
+    ensures { λ r. ⌜ r ≡ liftRefusal n rational (now (work .entry)) ⌝ }
+    ensures { λ _. ⌜ now (work .exit) ≡ liftedRun n rational (now (work .entry)) ⌝ }
+{
+    if n > work.len() / 4 {
+        clear(work);
+        return refuse(30);
+    }
+    if n == 0 {
+        return refuse(0);
+    }
+    let o = vector_of(row_at(rational, work, 0));
+    if !lift_rows(n, o, rational, work) {
+        clear(work);
+        return refuse(19);
+    }
+    refuse(0)
+}
+
+// The curve of m points from row f and knot f on goes to three outputs, +0.0 behind it.
+pub fn take_curve(
+    p: usize,
+    m: usize,
+    f: usize,
+    rational: bool,
+    a: usize,
+    work: &[f64],
+    knots: &mut [f64],
+    points: &mut [f64],
+    weights: &mut [f64],
+) -> Refusal
+    ensures { λ r. ⌜ r ≡ takeRefusal p m f rational a (length (now (work .entry))) (length (now (knots .entry))) (length (now (points .entry))) (length (now (weights .entry))) ⌝ }
+    ensures { λ r. ⌜ now (knots .exit) ≡ leftIn r (length (now (knots .entry))) (knotsFrom (a + f) p m (now (work .entry))) ⌝ }
+    ensures { λ r. ⌜ now (points .exit) ≡ leftIn r (length (now (points .entry))) (pointsFrom m (drop (f * 4) (now (work .entry)))) ⌝ }
+    ensures { λ r. ⌜ now (weights .exit) ≡ leftIn r (length (now (weights .entry))) (weightsFrom rational m (drop (f * 4) (now (work .entry)))) ⌝ }
+{
+    let r = take_refusal(
+        p,
+        m,
+        f,
+        rational,
+        a,
+        work.len(),
+        knots.len(),
+        points.len(),
+        weights.len(),
+    );
+    if r.number != 0 {
+        clear(knots);
+        clear(points);
+        clear(weights);
+        return r;
+    }
+    store_curve(p, m, f, rational, a, work, knots, points, weights);
+    r
+}
+
+// 30 for the run, and for the outputs.
+fn take_refusal(
+    p: usize,
+    m: usize,
+    f: usize,
+    rational: bool,
+    a: usize,
+    l: usize,
+    b: usize,
+    c: usize,
+    d: usize,
+) -> Refusal
+    ensures { λ r. ⌜ r ≡ takeRefusal p m f rational a l b c d ⌝ }
+{
+    if f > a / 4 {
+        return refuse(30);
+    }
+    if m > a / 4 - f {
+        return refuse(30);
+    }
+    if a > l {
+        return refuse(30);
+    }
+    if f + m > l - a {
+        return refuse(30);
+    }
+    if p >= l - a - (f + m) {
+        return refuse(30);
+    }
+    out_room(p, m, rational, b, c, d)
+}
