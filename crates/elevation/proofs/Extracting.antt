@@ -34,7 +34,7 @@ room-none a n l = simp (le-ltb a n l)
 
 -- there is room for m insertions, and the knots that stand there are valid
 times-open : (p n : ℕ) (g : Bool) (t : Float) (m a : ℕ) (xs : List Float) → ValidKnots p n (knotsFrom a p n xs) → (n + m) * 4 ≤ a → a + (n + m + p + 1) ≤ length xs
-    → timesOutcome p n g t m a xs ≡ insertAll p g n (knotsFrom a p n xs) (pointsFrom n xs) (weightsFrom g n xs) (replicate m t)
+    → timesOutcome p n m a xs g t ≡ insertAll p g n (knotsFrom a p n xs) (pointsFrom n xs) (weightsFrom g n xs) (replicate m t)
 unfolding timesOutcome timesStart workRoom
 times-open p n g t m a xs v A L = simp (room-none a ((n + m) * 4) A, room-none (length xs) (a + (n + m + p + 1)) L, not-refused p n (knotsFrom a p n xs) v)
 
@@ -110,14 +110,14 @@ module _ (p : ℕ) (g : Bool) (goal : Outcome) (m a : ℕ) (ks x₀ : List Float
       pub extract-room : c + s ≤ m
       extract-room = let e = sum in omega arith
 
-      module _ (x₂ : List Float) (r : Refusal) (R : r ≡ refusalOf (timesOutcome p c g t s a x₁)) (X : x₂ ≡ workIn a g x₁ (timesOutcome p c g t s a x₁)) where
+      module _ (x₂ : List Float) (r : Refusal) (R : r ≡ refusalOf (timesOutcome p c s a x₁ g t)) (X : x₂ ≡ workIn a g x₁ (timesOutcome p c s a x₁ g t)) where
         abbrev some : Outcome
         some = insertAll p g c (knotsFrom a p c x₁) (pointsFrom c x₁) (weightsFrom g c x₁) (replicate s t)
 
         room : a + (c + s + p + 1) ≤ length x₁
         room = let e = sum in let f = I .long in omega arith
 
-        opened : timesOutcome p c g t s a x₁ ≡ some
+        opened : timesOutcome p c s a x₁ g t ≡ some
         opened = let e = sum in times-open p c g t s a x₁ (I .valid) (omega arith) room
 
         goes : goal ≡ continued (λ i q w. insertAll p g (c + s) i q w tail) some

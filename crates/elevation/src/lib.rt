@@ -1,5 +1,6 @@
 // A curve's degree is raised, in lent runs.
 mod copy;
+mod extract;
 mod join;
 mod put_knots;
 mod raise;
