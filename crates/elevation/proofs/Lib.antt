@@ -12,5 +12,6 @@ pub mod Opened
 pub mod Inserting
 pub mod LaidOut
 pub mod Extracting
+pub mod Lifted
 pub mod RaisedCurve
 pub mod Worked

@@ -18,7 +18,7 @@ use Rattle.insertion.specs.Whole.{givenOf}
 use Rattle.insertion.specs.declared.control.Control.{Control}
 use Rattle.elevation.specs.Breaks.{breaksFrom, fullCount}
 use Rattle.elevation.specs.Raise.{raiseOnce, raiseTimes}
-use Rattle.elevation.specs.Elevate.{raisedCount, raisedKnots, keptAll, allBlended, pointsOf, weightsOf}
+use Rattle.elevation.specs.Elevate.{raisedCount, raisedKnots, keptAll, allBlended, pointsOf, weightsOf, raisedPoints, raisedWeights, raisedRefusal}
 
 -- control i of a run of four numbers each
 abbrev pub controlIn : List Float → ℕ → Control
@@ -72,3 +72,10 @@ module _ (p e n : ℕ) (ks bs : List Float) (g : Bool) (h : ℕ → Control) (o 
     pub knots : r .number ≡ 0 → k₁ ≡ over 0 (raisedKnots p e n ks bs) k₀
     pub points : r .number ≡ 0 → p₁ ≡ over 0 (pointsOf o (keptAll p e ks h bs)) p₀
     pub weights : r .number ≡ 0 → w₁ ≡ over 0 (givenOf g (weightsOf (keptAll p e ks h bs))) w₀
+
+-- the raised curve of the points ps and weights ws of the extraction: r is its refusal. Where there is none, it stands at the front of three runs
+pub record Raised (p e n : ℕ) (ks bs : List Float) (g : Bool) (ps ws : List Float) (k₀ p₀ w₀ k₁ p₁ w₁ : List Float) (r : Refusal) : Type 0 where
+  pub refusal : r ≡ raisedRefusal p e n ks bs g ps ws
+  pub knots : r .number ≡ 0 → k₁ ≡ over 0 (raisedKnots p e n ks bs) k₀
+  pub points : r .number ≡ 0 → p₁ ≡ over 0 (raisedPoints p e n ks bs g ps ws) p₀
+  pub weights : r .number ≡ 0 → w₁ ≡ over 0 (raisedWeights p e n ks bs g ps ws) w₀

@@ -1,6 +1,7 @@
 // A curve's degree is raised, in lent runs.
 mod copy;
 mod extract;
+mod into;
 mod join;
 mod put_knots;
 mod raise;

@@ -5,6 +5,7 @@ ghost use mathlib.Core.Path.{_≡_};
 ghost use mathlib.Core.Bool.{true};
 ghost use Prim.Native.Nat.{_+_, _*_, _<_, _≤_};
 ghost use lib.ListN.{length, set, replicate};
+ghost use Rattle.doubles.specs.Run.{at};
 ghost use Rattle.insertion.specs.Passes.{rowOf};
 ghost use Rattle.insertion.specs.Whole.{givenOf};
 ghost use Rattle.insertion.specs.Rows.{given};
@@ -30,6 +31,18 @@ pub fn work_row(rational: bool, rows: &[f64], i: usize) -> Control
         };
     }
     Control { x, y, z, w: 1.0 }
+}
+
+// The first point of a run of rows.
+pub fn first_point(rows: &[f64]) -> Vector
+    requires { ⌜ 2 < length (now rows) ⌝ }
+    ensures { λ r. ⌜ r ≡ record { x = at (now (rows .entry)) 0; y = at (now (rows .entry)) 1; z = at (now (rows .entry)) 2 } ⌝ }
+{
+    Vector {
+        x: rows[0],
+        y: rows[1],
+        z: rows[2],
+    }
 }
 
 // Control i of a run.
