@@ -28,7 +28,7 @@ use Rattle.elevation.proofs.BreakWalks.{left}
 use Rattle.elevation.proofs.Inserting.{continued, insert-append, Grown, grown}
 use Rattle.elevation.proofs.LaidOut.{laid-long, knots-laid, points-laid, weights-laid}
 
-room-none : (a n : ℕ) → n ≤ a → roomRefusal a n ≡ accepted
+pub room-none : (a n : ℕ) → n ≤ a → roomRefusal a n ≡ accepted
 unfolding roomRefusal
 room-none a n l = simp (le-ltb a n l)
 

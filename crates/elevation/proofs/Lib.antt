@@ -14,4 +14,5 @@ pub mod LaidOut
 pub mod Extracting
 pub mod Lifted
 pub mod RaisedCurve
+pub mod RaisedInto
 pub mod Worked

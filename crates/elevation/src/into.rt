@@ -60,3 +60,47 @@ fn raise_extracted(
         out_weights,
     )
 }
+
+// The curve goes into scratch, its breaks are made full there, and what is raised of it goes to the outputs, which are +0.0.
+pub fn raise_into(
+    degree: usize,
+    knots: &[f64],
+    points: &[f64],
+    rational: bool,
+    weights: &[f64],
+    raised: usize,
+    out_knots: &mut [f64],
+    out_points: &mut [f64],
+    out_weights: &mut [f64],
+    work: &mut [f64],
+) -> Refusal
+    requires { ⌜ elevateStart degree (now knots) (now points) rational (now weights) raised (length (now «out_knots»)) (length (now «out_points»)) (length (now «out_weights»)) (length (now work)) .number ≡ 0 ⌝ }
+    requires { ⌜ (raised ≡ degree → ⊥) ⌝ }
+    requires { ⌜ (now «out_knots» ≡ zeros (length (now «out_knots»))) × (now «out_points» ≡ zeros (length (now «out_points»))) × (now «out_weights» ≡ zeros (length (now «out_weights»))) ⌝ }
+    ensures { λ r. ⌜ OutMeets (length (now («out_knots» .entry))) (length (now («out_points» .entry))) (length (now («out_weights» .entry))) (raiseAll degree raised (length (now (points .entry)) / 3) (now (knots .entry)) (now (points .entry)) rational (givenOf rational (now (weights .entry))) (breaksOf degree (length (now (points .entry)) / 3) (now (knots .entry)))) (now («out_knots» .exit)) (now («out_points» .exit)) (now («out_weights» .exit)) r ⌝ }
+{
+    let n = points.len() / 3;
+    let met = count_breaks(degree, n, knots);
+    let m = (degree + 1) * (met.breaks + 1);
+    let a = m * 4;
+    let laid = lay_curve(knots, points, rational, weights, a, work);
+    if laid.number != 0 {
+        return laid;
+    }
+    let refusal = extract(degree, n, knots, rational, a, work);
+    if refusal.number != 0 {
+        return refusal;
+    }
+    raise_extracted(
+        degree,
+        raised,
+        n,
+        m,
+        knots,
+        rational,
+        out_knots,
+        out_points,
+        out_weights,
+        work,
+    )
+}
