@@ -15,4 +15,5 @@ pub mod Extracting
 pub mod Lifted
 pub mod RaisedCurve
 pub mod RaisedInto
+pub mod Outcomes
 pub mod Worked

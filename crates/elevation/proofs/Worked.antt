@@ -23,7 +23,7 @@ use Rattle.insertion.specs.declared.answer.EditAnswer.the-variants.{Formed, Ref
 use Rattle.elevation.specs.Breaks.{breaksFrom, breaksOf, isFull, fullCount, missingAll}
 use Rattle.elevation.specs.Raise.{raiseShare, raiseOnce, raiseTimes}
 use Rattle.elevation.specs.Elevate.{extractedCount, raisedCount, breakKnots, raisedKnots, controlsOf, segmentOf, addedBy, keptFrom, keptAll, allBlended, pointsOf, weightsOf, raisedControls, raisedPoints, raisedWeights, raisedRefusal, raisedOutcome, raiseAll}
-use Rattle.elevation.specs.Whole.{elevatedCount, raiseStart, elevateStart, elevateOutcome}
+use Rattle.elevation.specs.Whole.{elevatedCount, raiseStart, elevated, elevateStart, elevateOutcome}
 
 abbrev d : ℕ → Float
 d b = ofBits binary64 b
@@ -102,5 +102,5 @@ all [] = true
 all (r ∷ rs) = same (r .0) (r .1) && all rs
 
 pub worked : T (all rows)
-unfolding breaksFrom breaksOf isFull fullCount missingAll raiseShare raiseOnce raiseTimes extractedCount raisedCount breakKnots raisedKnots controlsOf segmentOf addedBy keptFrom keptAll allBlended pointsOf weightsOf raisedControls raisedPoints raisedWeights raisedRefusal raisedOutcome raiseAll editStart outRoom scratchRoom elevatedCount raiseStart elevateStart elevateOutcome liftOf isLifted isBlended shareOf blendOf lowerOf countBelow multiplicityOf largestOf allEqual scaleOf liftAt blendAt lowerAt knotAt moreKnots inside spotRefusal morePoints moreWeights formRefusal insertedKnots insertedPoints insertedWeights insertRefusal insertAll clampedEnds largestFrom weightOf roomRefusal lastAfter spanOf overLong anyLong isWeight allWeights controlRefusal formedRefusal curveRefusal allFinite inOrder ordered apart orderRefusal knotRefusal allBelow ofBits toBits ofInt add sub mul div lt le eq
+unfolding breaksFrom breaksOf isFull fullCount missingAll raiseShare raiseOnce raiseTimes extractedCount raisedCount breakKnots raisedKnots controlsOf segmentOf addedBy keptFrom keptAll allBlended pointsOf weightsOf raisedControls raisedPoints raisedWeights raisedRefusal raisedOutcome raiseAll editStart outRoom scratchRoom elevatedCount raiseStart elevated elevateStart elevateOutcome liftOf isLifted isBlended shareOf blendOf lowerOf countBelow multiplicityOf largestOf allEqual scaleOf liftAt blendAt lowerAt knotAt moreKnots inside spotRefusal morePoints moreWeights formRefusal insertedKnots insertedPoints insertedWeights insertRefusal insertAll clampedEnds largestFrom weightOf roomRefusal lastAfter spanOf overLong anyLong isWeight allWeights controlRefusal formedRefusal curveRefusal allFinite inOrder ordered apart orderRefusal knotRefusal allBelow ofBits toBits ofInt add sub mul div lt le eq
 worked = tt

@@ -28,17 +28,19 @@ raiseStart p e n ks g a b c d =
     (cond (not (eqb e p) && ltb 64 e) (refuse elevation-high)
     (orElse (outRoom e (elevatedCount p e n ks) g a b c) (scratchRoom p (extractedCount p (breaksOf p n ks)) d)))
 
+-- a copy, or the raised curve
+unfoldable pub elevated : ℕ → List Float → List Float → Bool → List Float → ℕ → Outcome
+elevated p ks ps g ws e =
+    cond (eqb e p) (gives ks ps (givenOf g ws)) (raiseAll p e (countOf ps) ks ps g (givenOf g ws) (breaksOf p (countOf ps) ks))
+
 module _ (p : ℕ) (ks ps : List Float) (g : Bool) (ws : List Float) (e : ℕ) (a b c d : ℕ) where
   -- the curve's refusal, 17, 16, 18, 30
   unfoldable pub elevateStart : Refusal
   elevateStart = orElse (editStart p ks ps g ws) (raiseStart p e (countOf ps) ks g a b c d)
 
-  -- a refusal before anything is formed; a copy; or the raised curve
+  -- a refusal before anything is formed, else the curve
   unfoldable pub elevateOutcome : Outcome
-  elevateOutcome =
-      cond (eqb (elevateStart .number) 0)
-      (cond (eqb e p) (gives ks ps (givenOf g ws)) (raiseAll p e (countOf ps) ks ps g (givenOf g ws) (breaksOf p (countOf ps) ks)))
-      (refuses elevateStart)
+  elevateOutcome = cond (eqb (elevateStart .number) 0) (elevated p ks ps g ws e) (refuses elevateStart)
 
   -- the answer r, and what is left in runs of a, b, c and d numbers
   pub record ElevateMeets (k₁ p₁ w₁ s₁ : List Float) (r : EditAnswer) : Type 0 where

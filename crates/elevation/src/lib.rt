@@ -1,5 +1,6 @@
 // A curve's degree is raised, in lent runs.
 mod copy;
+pub mod elevate;
 mod extract;
 mod into;
 mod join;
