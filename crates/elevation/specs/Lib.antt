@@ -1,1 +1,5 @@
 pub mod Breaks
+pub mod Raise
+pub mod Elevate
+pub mod Whole
+pub mod Passes

@@ -1,0 +1,156 @@
+// A curve's degree is raised: the public call.
+use crate::copy::copy_curve;
+use crate::into::raise_into;
+use crate::start::elevate_start;
+use crate::start::elevated_count;
+use insertion::answer::EditAnswer;
+use knots::clear::clear;
+use knots::refusal::Refusal;
+use knots::refusal::refuse;
+ghost use mathlib.Core.Path.{_≡_};
+ghost use lib.ListN.{length};
+ghost use Rattle.knots.specs.Clear.{zeros};
+ghost use Rattle.insertion.specs.Passes.{OutMeets};
+ghost use Rattle.elevation.specs.Whole.{elevateStart, elevated, ElevateMeets};
+
+// Every lent run at once: what a refusal leaves.
+fn clear_all(knots: &mut [f64], points: &mut [f64], weights: &mut [f64], rows: &mut [f64])
+    ensures { λ _. ⌜ (now (knots .exit) ≡ zeros (length (now (knots .entry)))) × (now (points .exit) ≡ zeros (length (now (points .entry)))) × (now (weights .exit) ≡ zeros (length (now (weights .entry)))) × (now (rows .exit) ≡ zeros (length (now (rows .entry)))) ⌝ }
+{
+    clear(knots);
+    clear(points);
+    clear(weights);
+    clear(rows);
+}
+
+// A curve that keeps its degree is copied, another raised, into outputs that are +0.0.
+fn raise_or_copy(
+    degree: usize,
+    knots: &[f64],
+    points: &[f64],
+    rational: bool,
+    weights: &[f64],
+    raised: usize,
+    out_knots: &mut [f64],
+    out_points: &mut [f64],
+    out_weights: &mut [f64],
+    work: &mut [f64],
+) -> Refusal
+    requires { ⌜ elevateStart degree (now knots) (now points) rational (now weights) raised (length (now «out_knots»)) (length (now «out_points»)) (length (now «out_weights»)) (length (now work)) .number ≡ 0 ⌝ }
+    requires { ⌜ (now «out_knots» ≡ zeros (length (now «out_knots»))) × (now «out_points» ≡ zeros (length (now «out_points»))) × (now «out_weights» ≡ zeros (length (now «out_weights»))) ⌝ }
+    ensures { λ r. ⌜ OutMeets (length (now («out_knots» .entry))) (length (now («out_points» .entry))) (length (now («out_weights» .entry))) (elevated degree (now (knots .entry)) (now (points .entry)) rational (now (weights .entry)) raised) (now («out_knots» .exit)) (now («out_points» .exit)) (now («out_weights» .exit)) r ⌝ }
+{
+    if raised == degree {
+        copy_curve(
+            knots,
+            points,
+            rational,
+            weights,
+            out_knots,
+            out_points,
+            out_weights,
+        );
+        return refuse(0);
+    }
+    raise_into(
+        degree,
+        knots,
+        points,
+        rational,
+        weights,
+        raised,
+        out_knots,
+        out_points,
+        out_weights,
+        work,
+    )
+}
+
+// The outputs are cleared first. What they hold after a refusal is not said.
+fn form(
+    degree: usize,
+    knots: &[f64],
+    points: &[f64],
+    rational: bool,
+    weights: &[f64],
+    raised: usize,
+    out_knots: &mut [f64],
+    out_points: &mut [f64],
+    out_weights: &mut [f64],
+    work: &mut [f64],
+) -> Refusal
+    requires { ⌜ elevateStart degree (now knots) (now points) rational (now weights) raised (length (now «out_knots»)) (length (now «out_points»)) (length (now «out_weights»)) (length (now work)) .number ≡ 0 ⌝ }
+    ensures { λ r. ⌜ OutMeets (length (now («out_knots» .entry))) (length (now («out_points» .entry))) (length (now («out_weights» .entry))) (elevated degree (now (knots .entry)) (now (points .entry)) rational (now (weights .entry)) raised) (now («out_knots» .exit)) (now («out_points» .exit)) (now («out_weights» .exit)) r ⌝ }
+{
+    clear(out_knots);
+    clear(out_points);
+    clear(out_weights);
+    raise_or_copy(
+        degree,
+        knots,
+        points,
+        rational,
+        weights,
+        raised,
+        out_knots,
+        out_points,
+        out_weights,
+        work,
+    )
+}
+
+// The curve of degree `raised` stands in the three outputs, +0.0 behind it; after a refusal they are +0.0. Scratch is left +0.0.
+// A break keeps degree `raised` many knots, and one more where it was full before: no knot is removed.
+pub fn elevate_degree(
+    degree: usize,
+    knots: &[f64],
+    points: &[f64],
+    rational: bool,
+    weights: &[f64],
+    raised: usize,
+    out_knots: &mut [f64],
+    out_points: &mut [f64],
+    out_weights: &mut [f64],
+    scratch: &mut [f64],
+) -> EditAnswer
+    ensures { λ r. ⌜ ElevateMeets degree (now (knots .entry)) (now (points .entry)) rational (now (weights .entry)) raised (length (now («out_knots» .entry))) (length (now («out_points» .entry))) (length (now («out_weights» .entry))) (length (now (scratch .entry))) (now («out_knots» .exit)) (now («out_points» .exit)) (now («out_weights» .exit)) (now (scratch .exit)) r ⌝ }
+{
+    let early = elevate_start(
+        degree,
+        knots,
+        points,
+        rational,
+        weights,
+        raised,
+        out_knots.len(),
+        out_points.len(),
+        out_weights.len(),
+        scratch.len(),
+    );
+    if early.number != 0 {
+        clear_all(out_knots, out_points, out_weights, scratch);
+        return EditAnswer::Refused(early);
+    }
+    let refusal = form(
+        degree,
+        knots,
+        points,
+        rational,
+        weights,
+        raised,
+        out_knots,
+        out_points,
+        out_weights,
+        scratch,
+    );
+    if refusal.number != 0 {
+        clear_all(out_knots, out_points, out_weights, scratch);
+        return EditAnswer::Refused(refusal);
+    }
+    clear(scratch);
+    let count = elevated_count(degree, raised, points.len() / 3, knots);
+    EditAnswer::Formed {
+        degree: raised,
+        count,
+    }
+}
