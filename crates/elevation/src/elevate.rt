@@ -4,6 +4,7 @@ use crate::into::raise_into;
 use crate::start::elevate_start;
 use crate::start::elevated_count;
 use insertion::answer::EditAnswer;
+use insertion::work::clear_all;
 use knots::clear::clear;
 use knots::refusal::Refusal;
 use knots::refusal::refuse;
@@ -12,16 +13,6 @@ ghost use lib.ListN.{length};
 ghost use Rattle.knots.specs.Clear.{zeros};
 ghost use Rattle.insertion.specs.Passes.{OutMeets};
 ghost use Rattle.elevation.specs.Whole.{elevateStart, elevated, ElevateMeets};
-
-// Every lent run at once: what a refusal leaves.
-fn clear_all(knots: &mut [f64], points: &mut [f64], weights: &mut [f64], rows: &mut [f64])
-    ensures { λ _. ⌜ (now (knots .exit) ≡ zeros (length (now (knots .entry)))) × (now (points .exit) ≡ zeros (length (now (points .entry)))) × (now (weights .exit) ≡ zeros (length (now (weights .entry)))) × (now (rows .exit) ≡ zeros (length (now (rows .entry)))) ⌝ }
-{
-    clear(knots);
-    clear(points);
-    clear(weights);
-    clear(rows);
-}
 
 // A curve that keeps its degree is copied, another raised, into outputs that are +0.0.
 fn raise_or_copy(

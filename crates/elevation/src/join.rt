@@ -1,40 +1,18 @@
 // The raised segments are joined to a curve, which is checked again.
 use crate::put_knots::put_knots;
 use crate::segments::put_segments;
-use crate::start::given_count;
 use evaluate::vector::Vector;
-use knots::curve::formed_refusal;
+use insertion::work::front_refusal;
 use knots::refusal::Refusal;
 use knots::refusal::refuse;
 ghost use mathlib.Core.Path.{_≡_};
 ghost use Prim.Native.Nat.{_+_, _*_, _<_, _≤_};
-ghost use lib.ListN.{length, take};
-ghost use Rattle.knots.specs.Curve.{formedRefusal};
+ghost use lib.ListN.{length};
 ghost use Rattle.insertion.specs.Rows.{given};
 ghost use Rattle.insertion.specs.Passes.{rowOf};
 ghost use Rattle.elevation.specs.Breaks.{breaksOf};
 ghost use Rattle.elevation.specs.Elevate.{extractedCount, raisedCount};
 ghost use Rattle.elevation.specs.Passes.{Joined};
-
-// 1 to 10 of the curve of n points at the front of three runs.
-fn check_front(
-    e: usize,
-    n: usize,
-    rational: bool,
-    knots: &[f64],
-    points: &[f64],
-    weights: &[f64],
-) -> Refusal
-    requires { ⌜ n + e + 1 ≤ length (now knots) ⌝ }
-    requires { ⌜ n * 3 ≤ length (now points) ⌝ }
-    requires { ⌜ given rational n ≤ length (now weights) ⌝ }
-    ensures { λ r. ⌜ r ≡ formedRefusal e n (take (n + e + 1) (now (knots .entry))) (take (n * 3) (now (points .entry))) rational (take (given rational n) (now (weights .entry))) ⌝ }
-{
-    let m = n + e + 1;
-    let b = n * 3;
-    let c = given_count(rational, n);
-    formed_refusal(e, n, &knots[..m], &points[..b], rational, &weights[..c])
-}
 
 // The curve of `count` points is formed of the controls in a run, which are relative to o: 20, and 1 to 10.
 pub fn join(
@@ -62,5 +40,5 @@ pub fn join(
     if !put_segments(p, e, n, knots, work, o, rational, out_points, out_weights) {
         return refuse(20);
     }
-    check_front(e, count, rational, out_knots, out_points, out_weights)
+    front_refusal(e, count, rational, out_knots, out_points, out_weights)
 }

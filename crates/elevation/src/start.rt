@@ -13,13 +13,6 @@ ghost use lib.Dec.{eqb, ltb};
 ghost use Rattle.insertion.specs.Rows.{given};
 ghost use Rattle.elevation.specs.Whole.{elevatedCount, raiseStart, elevateStart};
 
-// How many weights n points have.
-pub fn given_count(rational: bool, n: usize) -> usize
-    ensures { λ r. ⌜ r ≡ given rational n ⌝ }
-{
-    if rational { n } else { 0 }
-}
-
 // The points of a raised curve with so many breaks, of which so many are full.
 fn raised_count(e: usize, breaks: usize, full: usize) -> usize
     requires { ⌜ (e ≤ 64) × (breaks ≤ 1048576) × (full ≤ breaks) ⌝ }

@@ -16,7 +16,7 @@ use Rattle.doubles.specs.Value.{zero+, one+}
 use Rattle.knots.specs.Below.{allBelow}
 use Rattle.knots.specs.Refusal.{refuse, accepted, orElse, too-long, control-bad}
 use Rattle.knots.specs.Clear.{zeros}
-use Rattle.knots.specs.Curve.{countOf}
+use Rattle.knots.specs.Curve.{countOf, formedRefusal}
 use Rattle.knots.specs.Knots.{knotRefusal, ValidKnots}
 use Rattle.knots.specs.declared.refusal.Refusal.{Refusal}
 use Rattle.knots.proofs.Refusals.{orElse-none, stop, skip}
@@ -32,11 +32,11 @@ use Rattle.insertion.specs.Control.{vectorOf, isLifted}
 use Rattle.insertion.specs.Rows.{liftAll, axis, given}
 use Rattle.insertion.specs.Start.{outRoom}
 use Rattle.insertion.specs.Fold.{Outcome, gives, refuses, insertAll}
-use Rattle.insertion.specs.Work.{laid, knotsFrom, pointsFrom, weightsFrom, workRoom, layRefusal, layOutcome, timesStart, timesOutcome, refusalOf, workIn, controls, liftRefusal, controlAt, liftedRun, takeRefusal}
+use Rattle.insertion.specs.Work.{laid, knotsFrom, pointsFrom, weightsFrom, workRoom, layRefusal, layOutcome, timesStart, timesOutcome, refusalOf, workIn, controls, liftRefusal, controlAt, liftedRun, takeRefusal, frontRefusal}
 use Rattle.insertion.specs.Passes.{rowOf, Untouched, CurveIn, Holds, ListMeets, LiftDone}
 use Rattle.insertion.specs.declared.control.Control.{Control}
 use Rattle.insertion.proofs.RowLoops.{row-axis, row-point}
-use Rattle.insertion.proofs.Starting.{room-none, room-short}
+use Rattle.insertion.proofs.Starting.{room-none, room-short, out-fits}
 use Rattle.insertion.proofs.Laid.{laid-is, laid-holds}
 
 -- ---- 30
@@ -221,3 +221,18 @@ pub cleared-curve : (a : ℕ) (ks ps : List Float) (g : Bool) (ws : List Float) 
 cleared-curve a ks ps g ws l w₀ w₁ Z L r b C =
     let e = length-replicate l zero+ in
     laid-is a (zeros l) ks ps g ws w₁ (L ∙ sym e) r (omega arith) (subst (λ (d : List Float). CurveIn a ks ps g ws d w₁) Z C)
+
+-- ---- a curve at the front of three runs
+module _ (p n : ℕ) (g : Bool) (ks ps ws : List Float) where
+  pub front-short : (r : Refusal) → r ≡ outRoom p n g (length ks) (length ps) (length ws) → (r .number ≡ 0 → ⊥) → r ≡ frontRefusal p n g ks ps ws
+  unfolding frontRefusal
+  front-short r e h = simp (stop e h) e
+
+  pub front-formed : (q : Refusal) → q ≡ outRoom p n g (length ks) (length ps) (length ws) → q .number ≡ 0 → (c : ℕ) → c ≡ given g n → (r : Refusal)
+      → r ≡ formedRefusal p n (take (n + p + 1) ks) (take (n * 3) ps) g (take c ws) → r ≡ frontRefusal p n g ks ps ws
+  unfolding frontRefusal
+  front-formed q Q z c C r e = simp (skip Q z) (e ∙ ap (λ (i : ℕ). formedRefusal p n (take (n + p + 1) ks) (take (n * 3) ps) g (take i ws)) C)
+
+  pub front-is : n + p + 1 ≤ length ks → n * 3 ≤ length ps → given g n ≤ length ws → frontRefusal p n g ks ps ws ≡ formedRefusal p n (take (n + p + 1) ks) (take (n * 3) ps) g (take (given g n) ws)
+  unfolding frontRefusal
+  front-is x y z = simp (skip {r = accepted} (out-fits p n g (length ks) (length ps) (length ws) x y z) refl)

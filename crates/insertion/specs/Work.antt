@@ -12,7 +12,7 @@ use Rattle.knots.specs.Below.{allBelow}
 use Rattle.knots.specs.Refusal.{refuse, accepted, orElse, control-bad}
 use Rattle.knots.specs.Clear.{zeros}
 use Rattle.knots.specs.Knots.{knotRefusal}
-use Rattle.knots.specs.Curve.{countOf}
+use Rattle.knots.specs.Curve.{countOf, formedRefusal}
 use Rattle.knots.specs.declared.refusal.Refusal.{Refusal}
 use Rattle.basis.specs.Basis.{tabulate}
 use Rattle.evaluate.specs.Controls.{coordinate, pointOf}
@@ -94,3 +94,7 @@ module _ (n : ℕ) (g : Bool) (xs : List Float) where
 -- ---- the curve of m points from row f and knot f on, in a run of l numbers, goes to outputs of b, c and d numbers: 30
 unfoldable pub takeRefusal : ℕ → ℕ → ℕ → Bool → ℕ → ℕ → ℕ → ℕ → ℕ → Refusal
 takeRefusal p m f g a l b c d = orElse (workRoom (f + m) (f + m + p + 1) a l) (outRoom p m g b c d)
+
+-- ---- the curve of n points at the front of three runs: 30, and 1 to 10
+unfoldable pub frontRefusal : ℕ → ℕ → Bool → List Float → List Float → List Float → Refusal
+frontRefusal p n g ks ps ws = orElse (outRoom p n g (length ks) (length ps) (length ws)) (formedRefusal p n (take (n + p + 1) ks) (take (n * 3) ps) g (take (given g n) ws))

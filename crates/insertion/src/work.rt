@@ -9,6 +9,7 @@ use crate::rows::vector_of;
 use crate::start::out_room;
 use evaluate::shape::room_refusal;
 use knots::clear::clear;
+use knots::curve::formed_refusal;
 use knots::knots::knot_refusal;
 use knots::refusal::Refusal;
 use knots::refusal::refuse;
@@ -17,7 +18,7 @@ ghost use Prim.Native.Nat.{_+_, _*_};
 ghost use lib.ListN.{length, drop};
 ghost use Rattle.knots.specs.Clear.{zeros};
 ghost use Rattle.evaluate.specs.Lent.{leftIn};
-ghost use Rattle.insertion.specs.Work.{knotsFrom, pointsFrom, weightsFrom, workRoom, layOutcome, timesStart, timesOutcome, refusalOf, workIn, liftRefusal, liftedRun, takeRefusal};
+ghost use Rattle.insertion.specs.Work.{knotsFrom, pointsFrom, weightsFrom, workRoom, layOutcome, timesStart, timesOutcome, refusalOf, workIn, liftRefusal, liftedRun, takeRefusal, frontRefusal};
 
 // Every lent run at once: what a refusal leaves.
 pub fn clear_all(knots: &mut [f64], points: &mut [f64], weights: &mut [f64], rows: &mut [f64])
@@ -210,4 +211,25 @@ fn take_refusal(
         return refuse(30);
     }
     out_room(p, m, rational, b, c, d)
+}
+
+// 30, and 1 to 10 of the curve of n points at the front of three runs.
+pub fn front_refusal(
+    p: usize,
+    n: usize,
+    rational: bool,
+    knots: &[f64],
+    points: &[f64],
+    weights: &[f64],
+) -> Refusal
+    ensures { λ r. ⌜ r ≡ frontRefusal p n rational (now (knots .entry)) (now (points .entry)) (now (weights .entry)) ⌝ }
+{
+    let room = out_room(p, n, rational, knots.len(), points.len(), weights.len());
+    if room.number != 0 {
+        return room;
+    }
+    let a = n + p + 1;
+    let b = n * 3;
+    let c = given_count(rational, n);
+    formed_refusal(p, n, &knots[..a], &points[..b], rational, &weights[..c])
 }

@@ -1,16 +1,15 @@
 // Both ends are inserted in scratch, and what lies between goes to the outputs.
-use insertion::counts::given_count;
 use insertion::counts::missing;
+use insertion::work::front_refusal;
 use insertion::work::insert_times;
 use insertion::work::lay_curve;
 use insertion::work::take_curve;
-use knots::curve::formed_refusal;
 use knots::refusal::Refusal;
 ghost use mathlib.Core.Path.{_≡_};
 ghost use Prim.Native.Nat.{_+_, _*_, _/_, _≤_};
-ghost use lib.ListN.{length, take, drop};
+ghost use lib.ListN.{length, drop};
 ghost use Rattle.knots.specs.Clear.{zeros};
-ghost use Rattle.knots.specs.Curve.{ValidCurve, formedRefusal};
+ghost use Rattle.knots.specs.Curve.{ValidCurve};
 ghost use Rattle.insertion.specs.Counts.{missingOf};
 ghost use Rattle.insertion.specs.Rows.{given};
 ghost use Rattle.insertion.specs.Fold.{insertAll};
@@ -50,26 +49,6 @@ pub fn insert_ends(
     insert_times(degree, n + x, rational, hi, y, a, work)
 }
 
-// 1 to 10 of m points that stand at the front of three runs.
-fn check_cut(
-    p: usize,
-    m: usize,
-    rational: bool,
-    knots: &[f64],
-    points: &[f64],
-    weights: &[f64],
-) -> Refusal
-    requires { ⌜ m + p + 1 ≤ length (now knots) ⌝ }
-    requires { ⌜ m * 3 ≤ length (now points) ⌝ }
-    requires { ⌜ given rational m ≤ length (now weights) ⌝ }
-    ensures { λ r. ⌜ r ≡ formedRefusal p m (take (m + p + 1) (now (knots .entry))) (take (m * 3) (now (points .entry))) rational (take (given rational m) (now (weights .entry))) ⌝ }
-{
-    let a = m + p + 1;
-    let b = m * 3;
-    let c = given_count(rational, m);
-    formed_refusal(p, m, &knots[..a], &points[..b], rational, &weights[..c])
-}
-
 // The m points from place f on go to the outputs, and are checked there.
 pub fn cut(
     p: usize,
@@ -92,5 +71,5 @@ pub fn cut(
     if taken.number != 0 {
         return taken;
     }
-    check_cut(p, m, rational, knots, points, weights)
+    front_refusal(p, m, rational, knots, points, weights)
 }
