@@ -22,11 +22,12 @@ use Rattle.insertion.specs.Rows.{given}
 use Rattle.insertion.specs.Whole.{givenOf}
 use Rattle.insertion.specs.Fold.{Outcome, gives, refuses, insertAll}
 use Rattle.insertion.specs.Work.{laid, knotsFrom, pointsFrom, weightsFrom, workRoom, timesStart, timesOutcome, refusalOf, workIn}
+use Rattle.insertion.proofs.Laid.{laid-long}
 use Rattle.elevation.specs.Breaks.{missingAll}
 use Rattle.elevation.specs.Passes.{AtBreak, NextBreak, Extracted}
 use Rattle.elevation.proofs.BreakWalks.{left}
 use Rattle.elevation.proofs.Inserting.{continued, insert-append, Grown, grown}
-use Rattle.elevation.proofs.LaidOut.{laid-long, knots-laid, points-laid, weights-laid}
+use Rattle.elevation.proofs.LaidOut.{knots-laid, points-laid, weights-laid}
 
 pub room-none : (a n : ℕ) → n ≤ a → roomRefusal a n ≡ accepted
 unfolding roomRefusal
@@ -61,7 +62,7 @@ module _ (p : ℕ) (g : Bool) (goal : Outcome) (a c : ℕ) (ys xs : List Float) 
       let Q = weights-laid a xs k q g w p c (G .0 .long) (G .1) W A L in (
         (λ h. absurd (h (ap (λ (y : Refusal). y .number) R))),
         (λ z. (
-          ap length X ∙ laid-long a xs k q g w p c (G .0 .long) (G .1) W A L,
+          ap length X ∙ laid-long a xs k q g w,
           subst (ValidKnots p c) (sym (ap (knotsFrom a p c) X ∙ K)) (G .0),
           e ∙ moved (sym (ap (knotsFrom a p c) X ∙ K)) (sym (ap (pointsFrom c) X ∙ P)) (sym (ap (weightsFrom g c) X ∙ (Q ∙ all g (G .2)))),
         )),
