@@ -1,8 +1,8 @@
 -- Each break is inserted until it is full: what is left to insert.
 -- Assumes nothing.
-use Prim.Native.Nat.{ℕ, zero, suc, _+_, _-_, _*_, _/_, _%_, _≤_, _<_}
+use Prim.Native.Nat.{ℕ, _+_, _-_, _*_, _≤_, _<_}
 use mathlib.Core.Bool.{Bool, true, false, cond}
-use mathlib.Core.Path.{_≡_, refl, sym, _∙_, ap, ap₂, subst}
+use mathlib.Core.Path.{_≡_, refl, sym, _∙_, ap, subst}
 use mathlib.Core.List.{List, [], _∷_, _++_}
 use native.Mathlib.Omega.{arith}
 use borrow.Author.Tests.{le-ltb, eqb-false}
@@ -11,8 +11,7 @@ use lib.Dec.{eqb}
 use lib.Ieee.{Float}
 use Rattle.doubles.specs.Run.{at}
 use Rattle.knots.specs.Refusal.{accepted}
-use Rattle.knots.specs.Clear.{zeros}
-use Rattle.knots.specs.Knots.{knotRefusal, ValidKnots}
+use Rattle.knots.specs.Knots.{ValidKnots}
 use Rattle.knots.specs.declared.refusal.Refusal.{Refusal}
 use Rattle.knots.proofs.Valid.{not-refused}
 use Rattle.basis.proofs.Whole.{length-tabulate}
@@ -23,7 +22,7 @@ use Rattle.insertion.specs.Whole.{givenOf}
 use Rattle.insertion.specs.Insert.{insertedKnots, insertedPoints, insertedWeights, insertRefusal}
 use Rattle.insertion.specs.Fold.{Outcome, gives, refuses, insertAll}
 use Rattle.insertion.specs.Work.{laid, knotsFrom, pointsFrom, weightsFrom, workRoom, timesStart, timesOutcome, refusalOf, workIn}
-use Rattle.insertion.proofs.Never.{andThen, insert-append, Repeated, repeated}
+use Rattle.insertion.proofs.Never.{andThen, insert-append, repeated}
 use Rattle.insertion.proofs.Laid.{laid-long}
 use Rattle.elevation.specs.Breaks.{missingAll}
 use Rattle.elevation.specs.Passes.{AtBreak, NextBreak, Extracted}
