@@ -20,16 +20,12 @@ use Rattle.knots.proofs.Below.{and-left, and-right, and-false-l, and-false-r, a
 use Rattle.knots.proofs.Valid.{sorted}
 use Rattle.basis.proofs.Whole.{at-tabulate, length-tabulate}
 use Rattle.basis.proofs.Cases.{lt-or-ge}
-use Rattle.insertion.specs.Counts.{bit, countBelow, multiplicityOf, allEqual}
+use Rattle.insertion.specs.Counts.{belowOf, bit, countBelow, multiplicityOf, allEqual}
 use Rattle.insertion.specs.Insert.{knotAt, moreKnots}
 use Rattle.insertion.specs.Start.{clampedEnds}
 use Rattle.insertion.proofs.Counting.{count-le}
 use Rattle.insertion.proofs.Storing.{knot-low, knot-here, knot-high}
 use Rattle.insertion.proofs.Grown.{count-run}
-
--- how many knots are below u
-unfoldable pub belowOf : List Float → Float → ℕ
-belowOf ks u = countBelow (λ j. lt (at ks j) u) (length ks)
 
 -- ---- a test by its two answers
 pub not-both : (b : Bool) → b ≡ true → b ≡ false → ⊥

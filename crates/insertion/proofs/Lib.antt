@@ -10,6 +10,7 @@ pub mod Forming
 pub mod Folds
 pub mod Domain
 pub mod Never
+pub mod Chained
 pub mod Starting
 pub mod Working
 pub mod Outcomes

@@ -25,7 +25,7 @@ use Rattle.knots.proofs.Refusals.{orElse-none}
 use Rattle.knots.proofs.Spans.{search-meets, span-is}
 use Rattle.basis.proofs.Whole.{at-tabulate, length-tabulate}
 use Rattle.insertion.specs.Control.{isLifted, isBlended}
-use Rattle.insertion.specs.Counts.{bit, countBelow, multiplicityOf, allEqual}
+use Rattle.insertion.specs.Counts.{bit, countBelow, multiplicityOf, missingOf, belowOf, allEqual}
 use Rattle.insertion.specs.Rows.{given}
 use Rattle.insertion.specs.Insert.{knotAt, moreKnots, inside, spotRefusal, lifted, blended, morePoints, moreWeights, formRefusal, insertedKnots, insertedPoints, insertedWeights, insertRefusal}
 use Rattle.insertion.specs.Fold.{Outcome, gives, refuses, insertAll}
@@ -34,7 +34,7 @@ use Rattle.insertion.proofs.Storing.{knot-low, knot-high}
 use Rattle.insertion.proofs.Grown.{grown-valid, controls-left}
 use Rattle.insertion.proofs.Forming.{spot-open}
 use Rattle.insertion.proofs.Folds.{inserted-valid}
-use Rattle.insertion.proofs.Counted.{belowOf, count-grown, gt-not-eq, lt-not-eq, eq-finite, eq-self, eq-lt-left, level-eq, not-both, refuted, multiplicity-same, multiplicity-most, multiplicity-low, multiplicity-high}
+use Rattle.insertion.proofs.Counted.{count-grown, gt-not-eq, lt-not-eq, eq-finite, eq-self, eq-lt-left, level-eq, not-both, refuted, multiplicity-same, multiplicity-most, multiplicity-low, multiplicity-high}
 
 -- ---- lists
 -- every number of a list
@@ -327,10 +327,6 @@ module _ (p : ℕ) (g : Bool) (n : ℕ) (ks ps ws ts ks' ps' ws' : List Float) (
           getD-drop (n + length ts) ks' j nan ∙ (ap (at ks') e ∙ (M .back (n + j) (omega arith) (omega (arith, l)) ∙ sym (getD-drop n ks j nan))))
 
 -- ---- room
--- how often a knot is inserted to be full
-abbrev pub missingOf : ℕ → List Float → Float → ℕ
-missingOf p ks t = p + 1 - multiplicityOf ks t
-
 module _ (p n : ℕ) (ks : List Float) (v : ValidKnots p n ks) where
   -- m times t, beside c numbers that equal u
   pub room-more : (t u : Float) → finite t ≡ true → (m c : ℕ) → multiplicityOf ks t + m ≤ p + 1 → multiplicityOf ks u + c ≤ p + 1 → (eq t u ≡ true → c ≡ 0) → multiplicityOf ks u + (m * bit (eq t u) + c) ≤ p + 1

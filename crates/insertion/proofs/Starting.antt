@@ -135,3 +135,7 @@ module _ (p : ℕ) (ks ps : List Float) (g : Bool) (ws ts : List Float) (a b c d
 
 pub thirds : {m : ℕ} → m ≡ 3 * (m / 3) → m ≡ m / 3 * 3
 thirds e = omega arith
+
+pub out-fits : (p n : ℕ) (g : Bool) (a b c : ℕ) → n + p + 1 ≤ a → n * 3 ≤ b → given g n ≤ c → accepted ≡ outRoom p n g a b c
+unfolding outRoom
+out-fits p n g a b c x y z = simp (room-none a (n + p + 1) x, room-none b (n * 3) y, room-none c (given g n) z)

@@ -1,10 +1,10 @@
 -- What a walk over one run finds: how often a number stands in it, its largest number, whether it is one number throughout.
 -- Assumes nothing.
-use Prim.Native.Nat.{ℕ, zero, suc, _+_}
+use Prim.Native.Nat.{ℕ, zero, suc, _+_, _-_}
 use mathlib.Core.Bool.{Bool, true, false}
 use mathlib.Core.List.{List}
 use lib.ListN.{length}
-use lib.Ieee.{Float, eq}
+use lib.Ieee.{Float, lt, eq}
 use Rattle.doubles.specs.Run.{at}
 use Rattle.doubles.specs.Value.{zero+}
 use Rattle.knots.specs.Below.{allBelow}
@@ -23,6 +23,14 @@ countBelow f (suc n) = countBelow f n + bit (f n)
 -- how many knots equal t as numbers
 unfoldable pub multiplicityOf : List Float → Float → ℕ
 multiplicityOf ks t = countBelow (λ j. eq (at ks j) t) (length ks)
+
+-- how many are missing for t to stand degree + 1 times
+abbrev pub missingOf : ℕ → List Float → Float → ℕ
+missingOf p ks t = p + 1 - multiplicityOf ks t
+
+-- how many knots are below t
+unfoldable pub belowOf : List Float → Float → ℕ
+belowOf ks t = countBelow (λ j. lt (at ks j) t) (length ks)
 
 -- the largest of a run, and +0.0 at least
 unfoldable pub largestOf : List Float → Float

@@ -1,4 +1,4 @@
--- What `insert_knots` answers and leaves in the lent runs: a curve of degree p, knots ks, points ps and, where g is true, weights ws; ts are the knots to insert.
+-- What an edit answers and leaves in the lent runs; and `insert_knots`: a curve of degree p, knots ks, points ps and, where g is true, weights ws; ts are the knots to insert.
 -- Assumes nothing.
 use Prim.Native.Nat.{ℕ, _+_}
 use mathlib.Core.Bool.{Bool, cond}
@@ -37,6 +37,15 @@ abbrev pub weightsIn : ℕ → Outcome → List Float
 weightsIn n (gives ks ps ws) = padded n ws
 weightsIn n (refuses r) = zeros n
 
+-- an edit of degree p and n points answers r, and leaves this in runs of a, b, c and d numbers
+pub record EditMeets (p n : ℕ) (goal : Outcome) (a b c d : ℕ) (k₁ p₁ w₁ s₁ : List Float) (r : EditAnswer) : Type 0 where
+  pub answer : r ≡ answerOf p n goal
+  pub knots : k₁ ≡ knotsIn a goal
+  pub points : p₁ ≡ pointsIn b goal
+  pub weights : w₁ ≡ weightsIn c goal
+  pub scratch : s₁ ≡ zeros d
+
+-- ---- `insert_knots`
 module _ (p : ℕ) (ks ps : List Float) (g : Bool) (ws ts : List Float) (a b c d : ℕ) where
   -- a refusal before anything is formed, else the fold
   unfoldable pub insertOutcome : Outcome
@@ -45,10 +54,5 @@ module _ (p : ℕ) (ks ps : List Float) (g : Bool) (ws ts : List Float) (a b c d
       (insertAll p g (countOf ps) ks ps (givenOf g ws) ts)
       (refuses (insertStart p ks ps g ws ts a b c d))
 
-  -- the answer r, and what is left in runs of a, b, c and d numbers
-  pub record InsertMeets (k₁ p₁ w₁ s₁ : List Float) (r : EditAnswer) : Type 0 where
-    pub answer : r ≡ answerOf p (countOf ps + length ts) insertOutcome
-    pub knots : k₁ ≡ knotsIn a insertOutcome
-    pub points : p₁ ≡ pointsIn b insertOutcome
-    pub weights : w₁ ≡ weightsIn c insertOutcome
-    pub scratch : s₁ ≡ zeros d
+  abbrev pub InsertMeets : List Float → List Float → List Float → List Float → EditAnswer → Type 0
+  InsertMeets = EditMeets p (countOf ps + length ts) insertOutcome a b c d

@@ -2,7 +2,8 @@
 ghost use mathlib.Core.Path.{_≡_};
 ghost use Prim.Native.Nat.{_+_, _-_, _<_};
 ghost use Rattle.evaluate.specs.Controls.{larger};
-ghost use Rattle.insertion.specs.Counts.{bit, multiplicityOf, allEqual};
+ghost use Rattle.insertion.specs.Rows.{given};
+ghost use Rattle.insertion.specs.Counts.{bit, multiplicityOf, belowOf, allEqual};
 
 // One more where yes.
 fn more(n: usize, yes: bool) -> usize
@@ -20,6 +21,19 @@ pub fn multiplicity(knots: &[f64], t: f64) -> usize
     let mut i = 0usize;
     while i < knots.len() {
         n = more(n, knots[i] == t);
+        i += 1;
+    }
+    n
+}
+
+// How many knots are below t: the first place whose knot is not, among knots in order.
+pub fn below(knots: &[f64], t: f64) -> usize
+    ensures { λ r. ⌜ r ≡ belowOf (now (knots .entry)) t ⌝ }
+{
+    let mut n = 0usize;
+    let mut i = 0usize;
+    while i < knots.len() {
+        n = more(n, knots[i] < t);
         i += 1;
     }
     n
@@ -55,4 +69,11 @@ pub fn all_equal(xs: &[f64], x: f64) -> bool
         i += 1;
     }
     true
+}
+
+// How many weights n points have.
+pub fn given_count(rational: bool, n: usize) -> usize
+    ensures { λ r. ⌜ r ≡ given rational n ⌝ }
+{
+    if rational { n } else { 0 }
 }

@@ -4,27 +4,17 @@ use crate::lay::lay_into;
 use crate::lay::store_curve;
 use crate::list::insert_all;
 use crate::start::insert_start;
+use crate::work::clear_all;
 use knots::clear::clear;
 use knots::refusal::Refusal;
 ghost use mathlib.Core.Path.{_≡_};
 ghost use Prim.Native.Nat.{_+_, _*_, _/_, _≤_};
 ghost use lib.ListN.{length};
-ghost use Rattle.knots.specs.Clear.{zeros};
 ghost use Rattle.knots.specs.Curve.{ValidCurve};
 ghost use Rattle.insertion.specs.Rows.{given};
 ghost use Rattle.insertion.specs.Fold.{insertAll};
 ghost use Rattle.insertion.specs.Whole.{givenOf, InsertMeets};
 ghost use Rattle.insertion.specs.Passes.{OutMeets};
-
-// Every lent run at once: what a refusal leaves.
-fn clear_all(knots: &mut [f64], points: &mut [f64], weights: &mut [f64], rows: &mut [f64])
-    ensures { λ _. ⌜ (now (knots .exit) ≡ zeros (length (now (knots .entry)))) × (now (points .exit) ≡ zeros (length (now (points .entry)))) × (now (weights .exit) ≡ zeros (length (now (weights .entry)))) × (now (rows .exit) ≡ zeros (length (now (rows .entry)))) ⌝ }
-{
-    clear(knots);
-    clear(points);
-    clear(weights);
-    clear(rows);
-}
 
 // The curve goes into scratch, the knots are inserted there, and what is formed goes to the outputs.
 fn insert_into(

@@ -1,5 +1,6 @@
 // A curve goes into a lent run, and out of it.
 use crate::control::Control;
+use crate::counts::given_count;
 use crate::rows::put_row;
 use crate::rows::row_at;
 use crate::rows::vector_of;
@@ -118,13 +119,6 @@ pub fn take_rows(n: usize, rational: bool, rows: &[f64], points: &mut [f64], wei
         put_weight(weights, rational, i, q.w);
         i += 1;
     }
-}
-
-// How many weights n points have.
-pub fn given_count(rational: bool, n: usize) -> usize
-    ensures { λ r. ⌜ r ≡ given rational n ⌝ }
-{
-    if rational { n } else { 0 }
 }
 
 // The curve of m points from row f and knot f on goes to three outputs, +0.0 behind it.

@@ -1,6 +1,6 @@
 // The refusals of an edit before anything is formed.
 use crate::counts::all_equal;
-use crate::lay::given_count;
+use crate::counts::given_count;
 use evaluate::shape::room_refusal;
 use knots::curve::curve_refusal;
 use knots::limits::over_long;

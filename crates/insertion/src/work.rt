@@ -1,5 +1,5 @@
 // A curve in a lent run, for other edits. Each call is total, and a refusal leaves +0.0 alone in what is lent.
-use crate::lay::given_count;
+use crate::counts::given_count;
 use crate::lay::lay_into;
 use crate::lay::store_curve;
 use crate::list::insert_many;
@@ -18,6 +18,16 @@ ghost use lib.ListN.{length, drop};
 ghost use Rattle.knots.specs.Clear.{zeros};
 ghost use Rattle.evaluate.specs.Lent.{leftIn};
 ghost use Rattle.insertion.specs.Work.{knotsFrom, pointsFrom, weightsFrom, workRoom, layOutcome, timesStart, timesOutcome, refusalOf, workIn, liftRefusal, liftedRun, takeRefusal};
+
+// Every lent run at once: what a refusal leaves.
+pub fn clear_all(knots: &mut [f64], points: &mut [f64], weights: &mut [f64], rows: &mut [f64])
+    ensures { λ _. ⌜ (now (knots .exit) ≡ zeros (length (now (knots .entry)))) × (now (points .exit) ≡ zeros (length (now (points .entry)))) × (now (weights .exit) ≡ zeros (length (now (weights .entry)))) × (now (rows .exit) ≡ zeros (length (now (rows .entry)))) ⌝ }
+{
+    clear(knots);
+    clear(points);
+    clear(weights);
+    clear(rows);
+}
 
 // 30 for a run of l numbers that is to hold n points and m knots.
 fn work_room(n: usize, m: usize, a: usize, l: usize) -> Refusal

@@ -5,10 +5,6 @@ use Rattle.insertion.proofs.Working.{take-short, take-fits}
 use borrow.Author.Needs.{needs}
 use Rattle.insertion.proofs.work.take_refusal.Statement.{statement}
 use Rattle.insertion.proofs.work.take_refusal.Tie as tie
-use Rattle.insertion.proofs.work.take_refusal.Reads as reads
-use Rattle.insertion.proofs.work.take_refusal.Lts as lts
-use Rattle.insertion.proofs.start.out_room.Reads as out-room-reads
-use Rattle.knots.proofs.refusal.refuse.Reads as refuse-reads
 
 -- src/work.rt:188:9
 refuse-requires : tie.Need-refuse-requires
