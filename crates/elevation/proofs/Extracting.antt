@@ -1,18 +1,17 @@
 -- Each break is inserted until it is full: what is left to insert.
 -- Assumes nothing.
-use Prim.Native.Nat.{ℕ, zero, suc, _+_, _-_, _*_, _/_, _%_, _≤_, _<_}
+use Prim.Native.Nat.{ℕ, _+_, _-_, _*_, _≤_, _<_}
 use mathlib.Core.Bool.{Bool, true, false, cond}
-use mathlib.Core.Path.{_≡_, refl, sym, _∙_, ap, ap₂, subst}
+use mathlib.Core.Path.{_≡_, refl, sym, _∙_, ap, subst}
 use mathlib.Core.List.{List, [], _∷_, _++_}
 use native.Mathlib.Omega.{arith}
-use borrow.Author.Tests.{le-ltb}
+use borrow.Author.Tests.{le-ltb, eqb-false}
 use lib.ListN.{length, replicate, length-append, length-replicate}
 use lib.Dec.{eqb}
 use lib.Ieee.{Float}
 use Rattle.doubles.specs.Run.{at}
 use Rattle.knots.specs.Refusal.{accepted}
-use Rattle.knots.specs.Clear.{zeros}
-use Rattle.knots.specs.Knots.{knotRefusal, ValidKnots}
+use Rattle.knots.specs.Knots.{ValidKnots}
 use Rattle.knots.specs.declared.refusal.Refusal.{Refusal}
 use Rattle.knots.proofs.Valid.{not-refused}
 use Rattle.basis.proofs.Whole.{length-tabulate}
@@ -20,13 +19,15 @@ use Rattle.evaluate.specs.Shape.{roomRefusal}
 use Rattle.insertion.specs.Counts.{multiplicityOf}
 use Rattle.insertion.specs.Rows.{given}
 use Rattle.insertion.specs.Whole.{givenOf}
+use Rattle.insertion.specs.Insert.{insertedKnots, insertedPoints, insertedWeights, insertRefusal}
 use Rattle.insertion.specs.Fold.{Outcome, gives, refuses, insertAll}
 use Rattle.insertion.specs.Work.{laid, knotsFrom, pointsFrom, weightsFrom, workRoom, timesStart, timesOutcome, refusalOf, workIn}
+use Rattle.insertion.proofs.Never.{andThen, insert-append, repeated}
+use Rattle.insertion.proofs.Laid.{laid-long}
 use Rattle.elevation.specs.Breaks.{missingAll}
 use Rattle.elevation.specs.Passes.{AtBreak, NextBreak, Extracted}
 use Rattle.elevation.proofs.BreakWalks.{left}
-use Rattle.elevation.proofs.Inserting.{continued, insert-append, Grown, grown}
-use Rattle.elevation.proofs.LaidOut.{laid-long, knots-laid, points-laid, weights-laid}
+use Rattle.elevation.proofs.LaidOut.{knots-laid, points-laid, weights-laid}
 
 pub room-none : (a n : ℕ) → n ≤ a → roomRefusal a n ≡ accepted
 unfolding roomRefusal
@@ -45,31 +46,44 @@ pub record Extracting (p : ℕ) (g : Bool) (goal : Outcome) (m a : ℕ) (ks x₀
   pub count : n + length (missingAll p ks ts) ≡ m
   pub rest : goal ≡ insertAll p g n (knotsFrom a p n x₁) (pointsFrom n x₁) (weightsFrom g n x₁) (missingAll p ks ts)
 
--- what an outcome of m insertions of t leaves
+-- a refusal of a list has a number
+refused-some : (p : ℕ) (g : Bool) (n : ℕ) (ks ps ws ts : List Float) (r : Refusal) → insertAll p g n ks ps ws ts ≡ refuses r → r .number ≡ 0 → ⊥
+unfolding insertAll
+refused-some p g n ks ps ws [] r e z = let y : _≡_ {A = ℕ} 0 1 = cc in omega arith
+refused-some p g n ks ps ws (t ∷ ts) r e z =
+    go (eqb (insertRefusal p n ks ps g ws t .number) 0) refl e
+    (λ f. refused-some p g (n + 1) (insertedKnots p n ks ps g ws t) (insertedPoints p n ks ps g ws t) (insertedWeights p n ks ps g ws t) ts r f z)
+  where
+    go : (b : Bool) → eqb (insertRefusal p n ks ps g ws t .number) 0 ≡ b
+        → cond b (insertAll p g (n + 1) (insertedKnots p n ks ps g ws t) (insertedPoints p n ks ps g ws t) (insertedWeights p n ks ps g ws t) ts) (refuses (insertRefusal p n ks ps g ws t)) ≡ refuses r
+        → (insertAll p g (n + 1) (insertedKnots p n ks ps g ws t) (insertedPoints p n ks ps g ws t) (insertedWeights p n ks ps g ws t) ts ≡ refuses r → ⊥) → ⊥
+    go true B f h = h f
+    go false B f h = let q : insertRefusal p n ks ps g ws t ≡ r = cc in eqb-false (insertRefusal p n ks ps g ws t .number) 0 B (ap (λ (x : Refusal). x .number) q ∙ z)
+
+-- what an outcome of insertions into a curve of n points leaves, of c points then
 module _ (p : ℕ) (g : Bool) (goal : Outcome) (a c : ℕ) (ys xs : List Float) (L : a + (c + p + 1) ≤ length xs) (A : c * 4 ≤ a) where
-  abbrev After : Outcome → List Float → Refusal → Type 0
-  After o x₂ r =
+  abbrev After : List Float → Refusal → Type 0
+  After x₂ r =
       ((r .number ≡ 0 → ⊥) → goal ≡ refuses r)
       × (r .number ≡ 0 → (length x₂ ≡ length xs) × ValidKnots p c (knotsFrom a p c x₂) × (goal ≡ insertAll p g c (knotsFrom a p c x₂) (pointsFrom c x₂) (weightsFrom g c x₂) ys))
 
-  after : (o : Outcome) → Grown p g c o → goal ≡ continued (λ k q w. insertAll p g c k q w ys) o → (r : Refusal) → r ≡ refusalOf o → (x₂ : List Float) → x₂ ≡ workIn a g xs o → After o x₂ r
-  after (refuses x) G e r R x₂ X = ((λ h. e ∙ ap refuses (sym R)), (λ z. absurd (G (sym (ap (λ (y : Refusal). y .number) R) ∙ z))))
-  after (gives k q w) G e r R x₂ X =
-      let W : g ≡ true → length w ≡ c = given-true g in
-      let K = knots-laid a xs k q g w p c (G .0 .long) (G .1) W A L in
-      let P = points-laid a xs k q g w p c (G .0 .long) (G .1) W A L in
-      let Q = weights-laid a xs k q g w p c (G .0 .long) (G .1) W A L in (
+  after-stop : (x r : Refusal) → (x .number ≡ 0 → ⊥) → goal ≡ refuses x → r ≡ x → (x₂ : List Float) → After x₂ r
+  after-stop x r h e R x₂ = ((λ y. e ∙ ap refuses (sym R)), (λ z. absurd (h (sym (ap (λ (y : Refusal). y .number) R) ∙ z))))
+
+  after-more : (k q w : List Float) → ValidKnots p c k → length q ≡ c * 3 → length w ≡ given g c → goal ≡ insertAll p g c k q w ys → (r : Refusal) → r ≡ accepted → (x₂ : List Float) → x₂ ≡ laid a xs k q g w → After x₂ r
+  after-more k q w v Q W e r R x₂ X =
+      let H : g ≡ true → length w ≡ c = λ h. W ∙ ap (λ (b : Bool). given b c) h in
+      let K = knots-laid a xs k q g w p c (v .long) Q H A L in
+      let P = points-laid a xs k q g w p c (v .long) Q H A L in
+      let Y = weights-laid a xs k q g w p c (v .long) Q H A L in (
         (λ h. absurd (h (ap (λ (y : Refusal). y .number) R))),
         (λ z. (
-          ap length X ∙ laid-long a xs k q g w p c (G .0 .long) (G .1) W A L,
-          subst (ValidKnots p c) (sym (ap (knotsFrom a p c) X ∙ K)) (G .0),
-          e ∙ moved (sym (ap (knotsFrom a p c) X ∙ K)) (sym (ap (pointsFrom c) X ∙ P)) (sym (ap (weightsFrom g c) X ∙ (Q ∙ all g (G .2)))),
+          ap length X ∙ laid-long a xs k q g w,
+          subst (ValidKnots p c) (sym (ap (knotsFrom a p c) X ∙ K)) v,
+          e ∙ moved (sym (ap (knotsFrom a p c) X ∙ K)) (sym (ap (pointsFrom c) X ∙ P)) (sym (ap (weightsFrom g c) X ∙ (Y ∙ all g W))),
         )),
       )
     where
-      given-true : (b : Bool) → g ≡ true → length w ≡ c
-      given-true b h = G .2 ∙ ap (λ (x : Bool). given x c) h
-
       empty : (l : List Float) → length l ≡ 0 → [] ≡ l
       empty [] h = refl
       empty (x ∷ l) h = absurd (omega arith)
@@ -120,19 +134,25 @@ module _ (p : ℕ) (g : Bool) (goal : Outcome) (m a : ℕ) (ks x₀ : List Float
         opened : timesOutcome p c s a x₁ g t ≡ some
         opened = let e = sum in times-open p c g t s a x₁ (I .valid) (omega arith) room
 
-        goes : goal ≡ continued (λ i q w. insertAll p g (c + s) i q w tail) some
+        goes : goal ≡ andThen some (λ i q w. insertAll p g (c + s) i q w tail)
         goes =
             here .rest
             ∙ (ap (insertAll p g c (knotsFrom a p c x₁) (pointsFrom c x₁) (weightsFrom g c x₁)) split
             ∙ (insert-append p g c (knotsFrom a p c x₁) (pointsFrom c x₁) (weightsFrom g c x₁) (replicate s t) tail
-            ∙ ap (λ (x : ℕ). continued (λ i q w. insertAll p g (c + x) i q w tail) some) (length-replicate s t)))
+            ∙ ap (λ (x : ℕ). andThen some (λ i q w. insertAll p g (c + x) i q w tail)) (length-replicate s t)))
 
-        done : After p g goal a (c + s) tail x₁ room (omega (arith, sum)) some x₂ r
-        done =
-            after p g goal a (c + s) tail x₁ room (omega (arith, sum)) some
-            (subst (λ (x : ℕ). Grown p g (c + x) some) (length-replicate s t)
-            (grown p g c (knotsFrom a p c x₁) (pointsFrom c x₁) (weightsFrom g c x₁) (replicate s t) (I .valid) (length-tabulate (c * 3) _) (length-tabulate (given g c) _)))
-            goes r (R ∙ ap refusalOf opened) x₂ (X ∙ ap (workIn a g x₁) opened)
+        done : After p g goal a (c + s) tail x₁ room (omega (arith, sum)) x₂ r
+        done = go some refl
+          where
+            go : (o : Outcome) → some ≡ o → After p g goal a (c + s) tail x₁ room (omega (arith, sum)) x₂ r
+            go (refuses x) O =
+                after-stop p g goal a (c + s) tail x₁ room (omega (arith, sum)) x r
+                (refused-some p g c (knotsFrom a p c x₁) (pointsFrom c x₁) (weightsFrom g c x₁) (replicate s t) x O)
+                (goes ∙ ap (λ (y : Outcome). andThen y (λ i q w. insertAll p g (c + s) i q w tail)) O) (R ∙ ap refusalOf (opened ∙ O)) x₂
+            go (gives k' q w) O =
+                let M = repeated p g c (knotsFrom a p c x₁) (pointsFrom c x₁) (weightsFrom g c x₁) (I .valid) t s k' q w O in
+                after-more p g goal a (c + s) tail x₁ room (omega (arith, sum)) k' q w (M .valid) (M .points (length-tabulate (c * 3) _)) (M .weights (length-tabulate (given g c) _))
+                (goes ∙ ap (λ (y : Outcome). andThen y (λ i j l. insertAll p g (c + s) i j l tail)) O) r (R ∙ ap refusalOf (opened ∙ O)) x₂ (X ∙ ap (workIn a g x₁) (opened ∙ O))
 
         pub extract-stop : (r .number ≡ 0 → ⊥) → Extracted p g m a goal x₂ r
         extract-stop h = record { refused = done .0; given = λ z. absurd (h z) }

@@ -1,9 +1,9 @@
 -- The curve that the raised segments form, put together from its parts.
 -- Assumes nothing.
-use Prim.Native.Nat.{ℕ, _+_, _*_, _≤_, _<_}
-use mathlib.Core.Bool.{Bool, true, false, not}
-use mathlib.Core.Path.{_≡_, refl, sym, _∙_, ap, ap₂, subst}
-use mathlib.Core.List.{List, _++_}
+use Prim.Native.Nat.{ℕ, _+_, _*_}
+use mathlib.Core.Bool.{Bool, true, false}
+use mathlib.Core.Path.{_≡_, refl, sym, _∙_, ap}
+use mathlib.Core.List.{List}
 use native.Mathlib.Omega.{arith}
 use lib.ListN.{length, take, drop}
 use lib.Seq.{take-at}
@@ -15,7 +15,7 @@ use Rattle.evaluate.specs.declared.vector.Vector.{Vector}
 use Rattle.insertion.specs.Rows.{given}
 use Rattle.insertion.specs.Whole.{givenOf}
 use Rattle.insertion.specs.declared.control.Control.{Control}
-use Rattle.elevation.specs.Elevate.{raisedCount, raisedKnots, keptAll, allBlended, pointsOf, weightsOf}
+use Rattle.elevation.specs.Elevate.{raisedCount, raisedKnots, keptAll, pointsOf, weightsOf}
 use Rattle.elevation.specs.Passes.{over, Put, joinRefusal, Joined}
 use Rattle.elevation.proofs.KnotWalks.{raised-long}
 use Rattle.elevation.proofs.Putting.{points-long, given-long}

@@ -8,7 +8,7 @@ use lib.ListN.{length, replicate, length-append, length-replicate}
 use lib.Ieee.{Float}
 use Rattle.doubles.specs.Run.{at}
 use Rattle.insertion.specs.Counts.{bit}
-use Rattle.elevation.specs.Breaks.{breaksOf, isFull, fullCount}
+use Rattle.elevation.specs.Breaks.{isFull, fullCount}
 use Rattle.elevation.specs.Elevate.{breakKnots, raisedKnots, raisedCount}
 use Rattle.elevation.specs.Passes.{over, AtBreak, NextBreak}
 use Rattle.elevation.proofs.Overlaid.{over-none, over-long, over-over}

@@ -9,7 +9,6 @@ pub mod Joining
 pub mod JoinedCurve
 pub mod Limits
 pub mod Opened
-pub mod Inserting
 pub mod LaidOut
 pub mod Extracting
 pub mod Lifted

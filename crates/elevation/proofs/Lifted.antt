@@ -1,8 +1,8 @@
 -- The controls of a curve that was lifted in a run.
 -- Assumes nothing.
-use Prim.Native.Nat.{ℕ, zero, suc, _+_, _-_, _*_, _/_, _%_, _≤_, _<_}
+use Prim.Native.Nat.{ℕ, _+_, _*_, _/_, _%_, _≤_, _<_}
 use mathlib.Core.Bool.{Bool, true, false, cond}
-use mathlib.Core.Path.{_≡_, refl, sym, _∙_, ap, ap₂, subst}
+use mathlib.Core.Path.{_≡_, refl, sym, _∙_, ap, ap₂}
 use mathlib.Core.List.{List}
 use native.Mathlib.Omega.{arith}
 use borrow.Author.Tests.{lt-ltb, le-ltb, eq-eqb, ne-eqb}
@@ -21,9 +21,8 @@ use Rattle.evaluate.specs.Shape.{roomRefusal}
 use Rattle.evaluate.specs.declared.vector.Vector.{Vector}
 use Rattle.insertion.specs.Control.{vectorOf, liftOf, isLifted}
 use Rattle.insertion.specs.Rows.{liftAt, axis}
-use Rattle.insertion.specs.Work.{pointsFrom, weightsFrom, controls, liftRefusal, controlAt, liftedRun}
+use Rattle.insertion.specs.Work.{pointsFrom, controls, liftRefusal, controlAt, liftedRun}
 use Rattle.insertion.specs.Passes.{rowOf}
-use Rattle.insertion.specs.declared.control.Control.{Control}
 use Rattle.elevation.proofs.RowStores.{control-is}
 
 pick-true : (b : Bool) (x y : Float) → b ≡ true → cond b x y ≡ x

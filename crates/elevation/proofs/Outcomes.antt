@@ -1,6 +1,6 @@
 -- The answers of `elevate_degree`, and that any two which its contract permits coincide.
 -- Assumes nothing.
-use Prim.Native.Nat.{ℕ, _+_, _*_, _/_, _≤_, _<_}
+use Prim.Native.Nat.{ℕ, _/_, _≤_, _<_}
 use mathlib.Core.Bool.{Bool, true, false}
 use mathlib.Core.Path.{_≡_, refl, sym, _∙_, ap, subst}
 use mathlib.Core.List.{List}
@@ -23,7 +23,7 @@ use Rattle.insertion.specs.declared.answer.EditAnswer.the-variants.{Formed, Ref
 use Rattle.elevation.specs.Breaks.{breaksOf}
 use Rattle.elevation.specs.Elevate.{raiseAll}
 use Rattle.elevation.specs.Whole.{elevatedCount, elevateStart, elevated, elevateOutcome, ElevateMeets}
-use Rattle.elevation.proofs.Opened.{Opened, opened}
+use Rattle.elevation.proofs.Opened.{opened}
 
 -- ---- a copy, or the raised curve
 given-room : (g : Bool) (n c : ℕ) (ws : List Float) → (g ≡ true → length ws ≡ n) → given g n ≤ c → g ≡ true → length ws ≤ c

@@ -1,7 +1,7 @@
 -- The raised curve, from the controls that stand in a run after the extraction.
 -- Assumes nothing.
-use Prim.Native.Nat.{ℕ, zero, suc, _+_, _-_, _*_, _≤_, _<_}
-use mathlib.Core.Bool.{Bool, true, false, not, cond}
+use Prim.Native.Nat.{ℕ, _+_, _-_, _*_, _≤_, _<_}
+use mathlib.Core.Bool.{Bool, true, false, not}
 use mathlib.Core.Path.{_≡_, refl, sym, _∙_, ap, ap₂, subst}
 use mathlib.Core.List.{List, [], _∷_, _++_}
 use native.Mathlib.Omega.{arith}
@@ -16,20 +16,17 @@ use Rattle.knots.specs.Refusal.{refuse, control-bad}
 use Rattle.knots.specs.Clear.{zeros}
 use Rattle.knots.specs.declared.refusal.Refusal.{Refusal}
 use Rattle.knots.proofs.Refusals.{stop, skip}
-use Rattle.basis.proofs.Whole.{at-tabulate}
 use Rattle.evaluate.specs.Controls.{pointOf}
-use Rattle.evaluate.specs.Lent.{padded}
 use Rattle.evaluate.specs.declared.vector.Vector.{Vector}
 use Rattle.insertion.specs.Control.{isLifted}
 use Rattle.insertion.specs.Counts.{bit}
-use Rattle.insertion.specs.Whole.{givenOf}
 use Rattle.insertion.specs.Fold.{Outcome, gives, refuses, insertAll}
 use Rattle.insertion.specs.Work.{pointsFrom, weightsFrom, controls, liftRefusal, liftedRun}
 use Rattle.insertion.specs.Passes.{rowOf, OutMeets}
 use Rattle.insertion.specs.declared.control.Control.{Control}
 use Rattle.elevation.specs.Breaks.{breaksOf, isFull, missingAll}
 use Rattle.elevation.specs.Raise.{raiseTimes}
-use Rattle.elevation.specs.Elevate.{extractedCount, raisedCount, raisedKnots, controlsOf, segmentOf, addedBy, keptFrom, keptAll, pointsOf, weightsOf, extracted, raisedControls, raisedPoints, raisedWeights, raisedRefusal, raisedOutcome, afterExtraction, raiseAll}
+use Rattle.elevation.specs.Elevate.{extractedCount, raisedCount, raisedKnots, segmentOf, addedBy, keptFrom, keptAll, extracted, raisedControls, raisedPoints, raisedWeights, raisedRefusal, raisedOutcome, afterExtraction, raiseAll}
 use Rattle.elevation.specs.Whole.{elevatedCount}
 use Rattle.elevation.specs.Passes.{joinRefusal, Joined, Raised}
 use Rattle.elevation.proofs.Raising.{times-cong}

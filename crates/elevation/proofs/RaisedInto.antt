@@ -1,28 +1,24 @@
 -- The curve laid into scratch, extracted there and raised, put together from its passes.
 -- Assumes nothing.
-use Prim.Native.Nat.{ℕ, _+_, _-_, _*_, _/_, _≤_, _<_}
+use Prim.Native.Nat.{ℕ, _+_, _*_, _/_, _≤_, _<_}
 use mathlib.Core.Bool.{Bool, true, false}
 use mathlib.Core.Path.{_≡_, refl, sym, _∙_, ap, subst}
 use mathlib.Core.List.{List}
 use native.Mathlib.Omega.{arith}
-use borrow.Author.Tests.{le-ltb}
 use lib.ListN.{length, length-replicate}
 use lib.Ieee.{Float}
 use Rattle.doubles.specs.Value.{zero+}
-use Rattle.knots.specs.Refusal.{accepted}
 use Rattle.knots.specs.Clear.{zeros}
 use Rattle.knots.specs.Knots.{ValidKnots}
-use Rattle.knots.specs.Curve.{countOf}
 use Rattle.knots.specs.declared.refusal.Refusal.{Refusal}
-use Rattle.evaluate.specs.Shape.{roomRefusal}
 use Rattle.insertion.specs.Rows.{given}
 use Rattle.insertion.specs.Whole.{givenOf}
-use Rattle.insertion.specs.Fold.{Outcome, gives, refuses, insertAll}
+use Rattle.insertion.specs.Fold.{Outcome, gives, insertAll}
 use Rattle.insertion.specs.Work.{laid, knotsFrom, pointsFrom, weightsFrom, workRoom, layRefusal, layOutcome, refusalOf, workIn}
 use Rattle.insertion.specs.Passes.{OutMeets}
 use Rattle.elevation.specs.Breaks.{breaksOf, missingAll}
 use Rattle.elevation.specs.Elevate.{extractedCount, raisedCount, raiseAll}
-use Rattle.elevation.specs.Whole.{elevatedCount, elevateStart}
+use Rattle.elevation.specs.Whole.{elevateStart}
 use Rattle.elevation.specs.Passes.{BreaksCounted, Extracted, Raised}
 use Rattle.elevation.proofs.Breaks.{extracted-count}
 use Rattle.elevation.proofs.Limits.{breaks-small, extracted-small, extracted-is}

@@ -37,6 +37,9 @@ two = 0x4000_0000_0000_0000
 abbrev four : ℕ
 four = 0x4010_0000_0000_0000
 
+abbrev five : ℕ
+five = 0x4014_0000_0000_0000
+
 abbrev six : ℕ
 six = 0x4018_0000_0000_0000
 
@@ -67,6 +70,10 @@ answered (Refused r) = r .number ∷ []
 abbrev line : ℕ → ℕ → Outcome
 line e scratch = elevateOutcome 1 (doubles (0 ∷ 0 ∷ one ∷ one ∷ [])) (doubles (along (0 ∷ two ∷ []))) false [] e 6 9 0 scratch
 
+-- two lines, the second from where the first does not end
+abbrev broken : Outcome
+broken = elevateOutcome 1 (doubles (0 ∷ 0 ∷ one ∷ one ∷ two ∷ two ∷ [])) (doubles (along (0 ∷ two ∷ four ∷ six ∷ []))) false [] 2 9 18 0 44
+
 -- A raised to degree e
 abbrev knotsA : List Float
 knotsA = doubles (0 ∷ 0 ∷ 0 ∷ one ∷ two ∷ two ∷ two ∷ [])
@@ -87,6 +94,8 @@ rows =
     ∷ (told (line 2 23), 30 ∷ [])
     ∷ (told (line 0 24), 16 ∷ [])
     ∷ (told (line 65 24), 18 ∷ [])
+    -- a full break stays full
+    ∷ (told broken, 0 ∷ 0 ∷ 0 ∷ 0 ∷ one ∷ one ∷ one ∷ two ∷ two ∷ two ∷ along (0 ∷ one ∷ two ∷ four ∷ five ∷ six ∷ []))
     -- A raised to 3 has 7 points
     ∷ (answered (raised 3), 3 ∷ 7 ∷ [])
     ∷ []

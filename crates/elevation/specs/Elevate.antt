@@ -20,7 +20,7 @@ use Rattle.insertion.specs.Rows.{liftAll}
 use Rattle.insertion.specs.Fold.{Outcome, gives, refuses, insertAll}
 use Rattle.insertion.specs.Whole.{givenOf}
 use Rattle.insertion.specs.declared.control.Control.{Control}
-use Rattle.elevation.specs.Breaks.{breaksOf, isFull, fullCount, missingAll}
+use Rattle.elevation.specs.Breaks.{isFull, fullCount, missingAll}
 use Rattle.elevation.specs.Raise.{raiseTimes}
 
 -- ---- how many points: of the curve whose breaks bs are all full, and of the raised one, f of them full before

@@ -17,7 +17,6 @@ use Rattle.insertion.specs.Rows.{given}
 use Rattle.insertion.specs.Whole.{givenOf}
 use Rattle.insertion.specs.declared.control.Control.{Control}
 use Rattle.elevation.specs.Breaks.{breaksFrom, fullCount}
-use Rattle.elevation.specs.Raise.{raiseOnce, raiseTimes}
 use Rattle.elevation.specs.Elevate.{raisedCount, raisedKnots, keptAll, allBlended, pointsOf, weightsOf, raisedPoints, raisedWeights, raisedRefusal}
 
 -- control i of a run of four numbers each

@@ -11,7 +11,6 @@ use crate::walk::next_break;
 use evaluate::vector::Vector;
 use insertion::control::is_blended;
 use insertion::control::lower_of;
-ghost use mathlib.Core.Path.{_≡_};
 ghost use mathlib.Core.Bool.{not};
 ghost use Prim.Native.Nat.{_+_, _-_, _*_, _<_, _≤_};
 ghost use lib.ListN.{length};
@@ -20,7 +19,7 @@ ghost use Rattle.insertion.specs.Rows.{given};
 ghost use Rattle.insertion.specs.Passes.{rowOf};
 ghost use Rattle.elevation.specs.Breaks.{breaksOf};
 ghost use Rattle.elevation.specs.Raise.{raiseTimes};
-ghost use Rattle.elevation.specs.Elevate.{extractedCount, raisedCount, controlsOf, addedBy, keptFrom, keptAll};
+ghost use Rattle.elevation.specs.Elevate.{extractedCount, raisedCount, controlsOf, keptFrom, keptAll};
 ghost use Rattle.elevation.specs.Passes.{controlIn, Holds, Put};
 
 // m controls from control `first` on go to the front of another run.

@@ -4,7 +4,7 @@ ghost use mathlib.Core.Path.{_≡_};
 ghost use Prim.Native.Nat.{_+_, _<_, _≤_};
 ghost use lib.ListN.{length};
 ghost use Rattle.insertion.specs.Counts.{bit};
-ghost use Rattle.elevation.specs.Breaks.{breaksOf, isFull, fullCount};
+ghost use Rattle.elevation.specs.Breaks.{breaksOf, isFull};
 ghost use Rattle.elevation.specs.Passes.{NextBreak, BreaksCounted};
 
 // How many breaks there are, and how many of them are full.

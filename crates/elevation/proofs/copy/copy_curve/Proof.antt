@@ -1,7 +1,6 @@
 -- `elevation::copy::copy_curve` meets its contract.
 -- Assumes nothing.
 use denote.Ref.{now}
-use mathlib.Core.Path.{_∙_}
 use lib.ListN.{length}
 use Rattle.elevation.proofs.Overlaid.{over-zeros, given-copied, given-left}
 use borrow.Author.Needs.{needs}

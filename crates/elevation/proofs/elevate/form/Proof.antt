@@ -1,6 +1,5 @@
 -- `elevation::elevate::form` meets its contract.
 -- Assumes nothing.
-use mathlib.Core.Path.{_∙_, ap}
 use lib.ListN.{length}
 use denote.Ref.{now}
 use Rattle.elevation.specs.Whole.{elevated}

@@ -2,7 +2,7 @@ use Rattle.insertion.proofs.Working.{front-is}
 use mathlib.Core.Path.{_∙_}
 -- `elevation::join::join` meets its contract.
 -- Assumes nothing.
-use Prim.Native.Nat.{ℕ, _+_, _*_, _≤_}
+use Prim.Native.Nat.{ℕ, _*_, _≤_}
 use native.Mathlib.Omega.{arith}
 use mathlib.Core.Path.{subst}
 use lib.ListN.{length}

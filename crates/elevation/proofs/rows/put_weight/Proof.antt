@@ -1,6 +1,5 @@
 -- `elevation::rows::put_weight` meets its contract.
 -- Assumes nothing.
-use native.Mathlib.Omega.{arith}
 use denote.Ref.{now}
 use Rattle.elevation.proofs.Overlaid.{weight-over, weight-none}
 use borrow.Author.Needs.{needs}

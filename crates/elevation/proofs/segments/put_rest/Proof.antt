@@ -5,7 +5,6 @@ use native.Mathlib.Omega.{arith}
 use Prim.Native.Nat.{_-_}
 use denote.Ref.{now}
 use borrow.Author.Tests.{not-true, not-false}
-use Rattle.elevation.specs.Breaks.{breaksOf}
 use Rattle.elevation.specs.Passes.{AtBreak}
 use Rattle.elevation.proofs.BreakWalks.{left, left-none, breaks-few, walk-all}
 use Rattle.elevation.proofs.Joining.{InRest, rest-start, rest-rows, rest-points, rest-weights, rest-stop, rest-more, rest-end}

@@ -1,7 +1,6 @@
 -- `elevation::walk::next_break` meets its contract.
 -- Assumes nothing.
 use borrow.Author.Needs.{needs}
-use native.Mathlib.Omega.{arith}
 use Prim.Native.Nat.{_-_}
 use denote.Ref.{now}
 use borrow.Author.Tests.{not-true, not-false}
