@@ -1,11 +1,11 @@
 // The C face of the libraries: numbers and lent runs in, a number and filled runs out.
-pub mod answer;
+mod answer;
 pub mod boxes;
 pub mod edits;
 pub mod floats;
 pub mod intervals;
 pub mod made;
-pub mod operands;
+mod operands;
 pub mod points;
 pub mod spans;
 pub mod tables;
