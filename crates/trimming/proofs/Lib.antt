@@ -2,3 +2,4 @@ pub mod Ranges
 pub mod Ends
 pub mod Cutting
 pub mod Source
+pub mod Worked
