@@ -22,7 +22,7 @@ use Rattle.insertion.specs.Whole.{insertOutcome}
 abbrev pub d : ℕ → Float
 d b = ofBits binary64 b
 
-abbrev pub -o : ℕ
+abbrev -o : ℕ
 -o = 0x8000_0000_0000_0000
 
 abbrev pub one : ℕ
@@ -62,16 +62,16 @@ told (refuses r) = r .number ∷ []
 abbrev inserted : List ℕ → ℕ → Outcome
 inserted ts scratch = insertOutcome 2 (doubles (0 ∷ 0 ∷ 0 ∷ one ∷ two ∷ two ∷ two ∷ [])) (doubles (along (0 ∷ two ∷ four ∷ six ∷ []))) false [] (doubles ts) 10 21 0 scratch
 
-abbrev rows : List (Outcome × List ℕ)
+abbrev rows : List (List ℕ × List ℕ)
 rows =
     -- inserting 1 gives x = 0 2 3 4 6, knots 0 0 0 1 1 2 2 2
-    (inserted (one ∷ []) 56, 0 ∷ 0 ∷ 0 ∷ 0 ∷ one ∷ one ∷ two ∷ two ∷ two ∷ along (0 ∷ two ∷ three ∷ four ∷ six ∷ []))
+    (told (inserted (one ∷ []) 56), 0 ∷ 0 ∷ 0 ∷ 0 ∷ one ∷ one ∷ two ∷ two ∷ two ∷ along (0 ∷ two ∷ three ∷ four ∷ six ∷ []))
     -- scratch one short
-    ∷ (inserted (one ∷ []) 55, 30 ∷ [])
+    ∷ (told (inserted (one ∷ []) 55), 30 ∷ [])
     -- an end of the domain, of either sign
-    ∷ (inserted (one ∷ -o ∷ []) 66, 13 ∷ [])
+    ∷ (told (inserted (one ∷ -o ∷ []) 66), 13 ∷ [])
     -- the third 1 more
-    ∷ (inserted (one ∷ one ∷ one ∷ []) 76, 14 ∷ [])
+    ∷ (told (inserted (one ∷ one ∷ one ∷ []) 76), 14 ∷ [])
     ∷ []
 
 abbrev pub same : List ℕ → List ℕ → Bool
@@ -80,9 +80,9 @@ same [] (y ∷ ys) = false
 same (x ∷ xs) [] = false
 same (x ∷ xs) (y ∷ ys) = eqb x y && same xs ys
 
-abbrev pub all : List (Outcome × List ℕ) → Bool
+abbrev pub all : List (List ℕ × List ℕ) → Bool
 all [] = true
-all (r ∷ rs) = same (told (r .0)) (r .1) && all rs
+all (r ∷ rs) = same (r .0) (r .1) && all rs
 
 pub worked : T (all rows)
 unfolding liftOf isLifted isBlended shareOf blendOf lowerOf countBelow multiplicityOf largestOf allEqual scaleOf liftAt blendAt lowerAt knotAt moreKnots inside spotRefusal morePoints moreWeights formRefusal insertedKnots insertedPoints insertedWeights insertRefusal insertAll clampedEnds editStart outRoom scratchRoom insertStart insertOutcome largestFrom weightOf roomRefusal lastAfter spanOf overLong anyLong isWeight allWeights controlRefusal formedRefusal curveRefusal allFinite inOrder ordered apart orderRefusal knotRefusal allBelow ofBits toBits add sub mul div lt le eq

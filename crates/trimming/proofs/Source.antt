@@ -20,7 +20,9 @@ use Rattle.insertion.specs.Fold.{gives, refuses, insertAll}
 use Rattle.insertion.specs.Whole.{givenOf}
 use Rattle.insertion.proofs.Grown.{controls-left}
 use Rattle.insertion.proofs.Counted.{eq-self, lt-not-eq, below-past, below-first, below-rest, below-room}
-use Rattle.insertion.proofs.Never.{Made, made, Late, late-not, repeated, Cut, cut-late, cut-made}
+use Rattle.insertion.proofs.Made.{Made, made}
+use Rattle.insertion.proofs.Never.{Late, late-not}
+use Rattle.insertion.proofs.Repeated.{repeated, Cut, cut-late, cut-made}
 use Rattle.trimming.specs.Trim.{endsOf, keptOf, cutRefusal}
 use Rattle.trimming.proofs.Ranges.{Range, range-is, Open}
 
@@ -28,7 +30,7 @@ module _ (p : ℕ) (ks ps : List Float) (g : Bool) (ws : List Float) (lo hi : Fl
   range : Range (at ks p) (at ks (countOf ps)) lo hi
   range = range-is (at ks p) (at ks (countOf ps)) lo hi (o .range)
 
-  -- ---- a knot is refused by 8, 9, 10, 19 or 20 alone
+  -- ---- a knot is refused by 8, 19 or 20 alone
   pub ends-late : (r : Refusal) → insertAll p g (countOf ps) ks ps (givenOf g ws) (endsOf p ks lo hi) ≡ refuses r → Late r
   unfolding endsOf
   ends-late r = cut-late p g (countOf ps) ks ps (givenOf g ws) (o .curve .knots) lo hi (range .low) (range .high) (range .less) (o .clamped) (range .from) (range .to) r

@@ -3,7 +3,7 @@
 use Prim.Native.Nat.{ℕ}
 use mathlib.Core.Bool.{true, false}
 use mathlib.Core.List.{List, [], _∷_}
-use lib.Dec.{T, eqb}
+use lib.Dec.{T}
 use lib.Ieee.{ofBits, toBits, add, sub, mul, div, lt, le, eq}
 use Rattle.knots.specs.Below.{allBelow}
 use Rattle.knots.specs.Knots.{allFinite, inOrder, ordered, apart, orderRefusal, knotRefusal}
@@ -17,23 +17,23 @@ use Rattle.insertion.specs.Rows.{scaleOf, liftAt, blendAt, lowerAt}
 use Rattle.insertion.specs.Insert.{knotAt, moreKnots, inside, spotRefusal, morePoints, moreWeights, formRefusal, insertedKnots, insertedPoints, insertedWeights, insertRefusal}
 use Rattle.insertion.specs.Fold.{Outcome, insertAll}
 use Rattle.insertion.specs.Start.{clampedEnds, editStart, outRoom, scratchRoom}
-use Rattle.insertion.proofs.Worked.{d, one, two, three, four, six, doubles, along, all}
+use Rattle.insertion.proofs.Worked.{d, one, two, three, four, six, doubles, along, told, all}
 use Rattle.trimming.specs.Trim.{inRange, endsOf, keptOf, rangeRefusal, cutRefusal, cutCurve, trimStart, trimOutcome}
 
 -- A from lo to hi, in outputs of 6, 9 and 0 numbers
 abbrev trimmed : ℕ → ℕ → ℕ → Outcome
 trimmed lo hi scratch = trimOutcome 2 (doubles (0 ∷ 0 ∷ 0 ∷ one ∷ two ∷ two ∷ two ∷ [])) (doubles (along (0 ∷ two ∷ four ∷ six ∷ []))) false [] (d lo) (d hi) 6 9 0 scratch
 
-abbrev rows : List (Outcome × List ℕ)
+abbrev rows : List (List ℕ × List ℕ)
 rows =
     -- to [0, 1]: x = 0 2 3, knots 0 0 0 1 1 1
-    (trimmed 0 one 66, 0 ∷ 0 ∷ 0 ∷ 0 ∷ one ∷ one ∷ one ∷ along (0 ∷ two ∷ three ∷ []))
+    (told (trimmed 0 one 66), 0 ∷ 0 ∷ 0 ∷ 0 ∷ one ∷ one ∷ one ∷ along (0 ∷ two ∷ three ∷ []))
     -- scratch one short
-    ∷ (trimmed 0 one 65, 30 ∷ [])
+    ∷ (told (trimmed 0 one 65), 30 ∷ [])
     -- no length
-    ∷ (trimmed one one 66, 15 ∷ [])
+    ∷ (told (trimmed one one 66), 15 ∷ [])
     -- past the end
-    ∷ (trimmed one three 66, 15 ∷ [])
+    ∷ (told (trimmed one three 66), 15 ∷ [])
     ∷ []
 
 pub worked : T (all rows)
