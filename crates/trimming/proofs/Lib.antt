@@ -1,3 +1,4 @@
+pub mod Widths
 pub mod Ranges
 pub mod Ends
 pub mod Cutting

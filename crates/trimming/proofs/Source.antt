@@ -14,6 +14,7 @@ use Rattle.doubles.proofs.Tested.{lt-ge-trans}
 use Rattle.knots.specs.Knots.{ValidKnots}
 use Rattle.knots.specs.Curve.{countOf, controlRefusal}
 use Rattle.knots.specs.declared.refusal.Refusal.{Refusal}
+use Rattle.knots.proofs.Valid.{sorted}
 use Rattle.insertion.specs.Counts.{multiplicityOf, missingOf, belowOf}
 use Rattle.insertion.specs.Rows.{given}
 use Rattle.insertion.specs.Fold.{gives, refuses, insertAll}
@@ -24,6 +25,7 @@ use Rattle.insertion.proofs.Made.{Made, made}
 use Rattle.insertion.proofs.Never.{Late, late-not}
 use Rattle.insertion.proofs.Repeated.{repeated, Cut, cut-late, cut-made}
 use Rattle.trimming.specs.Trim.{endsOf, keptOf, cutRefusal}
+use Rattle.trimming.proofs.Widths.{narrower}
 use Rattle.trimming.proofs.Ranges.{Range, range-is, Open}
 
 module _ (p : ℕ) (ks ps : List Float) (g : Bool) (ws : List Float) (lo hi : Float) (a b c d : ℕ) (o : Open p ks ps g ws lo hi a b c d) where
@@ -69,7 +71,7 @@ module _ (p : ℕ) (ks ps : List Float) (g : Bool) (ws : List Float) (lo hi : Fl
     pub partition-rest : (u : Float) (j : ℕ) → j < length ks' → belowOf ks' u ≤ j → lt (at ks' j) u ≡ false
     partition-rest = below-rest p (countOf ps + length (endsOf p ks lo hi)) ks' ends-valid
 
-    -- ---- the knots of the cut: 1 to 5 and 7 hold of them, so that only 6 and 8 to 10 are left to its check
+    -- ---- the knots of the cut are valid, so that only 8 to 10 are left to its check
     abbrev F : ℕ
     F = belowOf ks lo
 
@@ -96,11 +98,29 @@ module _ (p : ℕ) (ks ps : List Float) (g : Bool) (ws : List Float) (lo hi : Fl
     cut-at : (j : ℕ) → j < M + p + 1 → at cut j ≡ at ks' (F + j)
     cut-at j b = getD-take (M + p + 1) (drop F ks') j nan b ∙ getD-drop F ks' j nan
 
-    pub cut-valid : finite (sub binary64 (at cut M) (at cut p)) ≡ true → ValidKnots p M cut
-    cut-valid w =
+    cut-domain : lt (at ks' (F + p)) (at ks' (F + M)) ≡ true
+    cut-domain =
         let k = kept-most in
         let c = k .0 in
         let q = k .1 in
+        let r = k .2 in
+        lt-ge-trans (at ks' (F + p)) hi (at ks' (F + M)) (ends-valid .finites (F + M) (omega arith)) (partition-first hi (F + p) (omega arith)) (partition-rest hi (F + M) (omega arith) (omega arith))
+
+    cut-width : finite (sub binary64 (at ks' (F + M)) (at ks' (F + p))) ≡ true
+    cut-width =
+        let k = kept-most in
+        let c = k .0 in
+        let r = k .2 in
+        let v = ends-valid in
+        let l = v .long in
+        let N = countOf ps + length (endsOf p ks lo hi) in
+        narrower (at ks' p) (at ks' N) (at ks' (F + p)) (at ks' (F + M)) (v .finites p (omega arith)) (v .finites N (omega arith)) (v .finites (F + p) (omega arith)) (v .finites (F + M) (omega arith))
+        (sorted p N ks' v p (F + p) (omega arith) (omega arith)) cut-domain (sorted p N ks' v (F + M) N (omega arith) (omega arith)) (v .width)
+
+    pub cut-valid : ValidKnots p M cut
+    cut-valid =
+        let k = kept-most in
+        let c = k .0 in
         let r = k .2 in
         let l = cut-long in
         let v = ends-valid in
@@ -112,15 +132,13 @@ module _ (p : ℕ) (ks ps : List Float) (g : Bool) (ws : List Float) (lo hi : Fl
           rises = λ j b.
               let s : F + (j + 1) ≡ F + j + 1 = omega arith in
               ap₂ lt (cut-at (j + 1) (omega arith) ∙ ap (at ks') s) (cut-at j (omega arith)) ∙ v .rises (F + j) (omega arith);
-          domain =
-              ap₂ lt (cut-at p (omega arith)) (cut-at M (omega arith))
-              ∙ lt-ge-trans (at ks' (F + p)) hi (at ks' (F + M)) (v .finites (F + M) (omega arith)) (partition-first hi (F + p) (omega arith)) (partition-rest hi (F + M) (omega arith) (omega arith));
-          width = w;
+          domain = ap₂ lt (cut-at p (omega arith)) (cut-at M (omega arith)) ∙ cut-domain;
+          width = ap₂ (λ (x y : Float). finite (sub binary64 x y)) (cut-at M (omega arith)) (cut-at p (omega arith)) ∙ cut-width;
           multiplicity = λ j b.
               let s : F + (j + (p + 1)) ≡ F + j + (p + 1) = omega arith in
               ap₂ lt (cut-at j (omega arith)) (cut-at (j + (p + 1)) (omega arith) ∙ ap (at ks') s) ∙ v .multiplicity (F + j) (omega arith);
         }
 
-    pub cut-checked : finite (sub binary64 (at cut M) (at cut p)) ≡ true → controlRefusal M (take (M * 3) (drop (F * 3) ps')) g (take (given g M) (drop F ws')) ≡ cutRefusal p g F M ks' ps' ws'
+    pub cut-checked : controlRefusal M (take (M * 3) (drop (F * 3) ps')) g (take (given g M) (drop F ws')) ≡ cutRefusal p g F M ks' ps' ws'
     unfolding cutRefusal
-    cut-checked w = controls-left p M cut (take (M * 3) (drop (F * 3) ps')) g (take (given g M) (drop F ws')) (cut-valid w)
+    cut-checked = controls-left p M cut (take (M * 3) (drop (F * 3) ps')) g (take (given g M) (drop F ws')) cut-valid
