@@ -15,4 +15,5 @@ pub mod Lifted
 pub mod RaisedCurve
 pub mod RaisedInto
 pub mod Outcomes
+pub mod Textbook
 pub mod Worked

@@ -1,10 +1,10 @@
 -- The worked numbers of 01 on elevation, as rows of a single test about the definition: what `elevate_degree` leaves, and the bits that it must have.
 -- Table A has degree 2, knots 0 0 0 1 2 2 2, x = 0 2 4 6 and y = z = 0. Assumes nothing.
 use Prim.Native.Nat.{ℕ}
-use mathlib.Core.Bool.{Bool, true, false, _&&_}
-use mathlib.Core.List.{List, [], _∷_, _++_}
-use lib.Dec.{T, eqb}
-use lib.Ieee.{Float, binary64, ofBits, toBits, ofInt, add, sub, mul, div, lt, le, eq}
+use mathlib.Core.Bool.{true, false}
+use mathlib.Core.List.{List, [], _∷_}
+use lib.Dec.{T}
+use lib.Ieee.{Float, ofBits, toBits, ofInt, add, sub, mul, div, lt, le, eq}
 use Rattle.knots.specs.Below.{allBelow}
 use Rattle.knots.specs.Knots.{allFinite, inOrder, ordered, apart, orderRefusal, knotRefusal}
 use Rattle.knots.specs.Curve.{overLong, anyLong, isWeight, allWeights, controlRefusal, formedRefusal, curveRefusal}
@@ -15,51 +15,19 @@ use Rattle.insertion.specs.Control.{liftOf, isLifted, isBlended, shareOf, blend
 use Rattle.insertion.specs.Counts.{countBelow, multiplicityOf, largestOf, allEqual}
 use Rattle.insertion.specs.Rows.{scaleOf, liftAt, blendAt, lowerAt}
 use Rattle.insertion.specs.Insert.{knotAt, moreKnots, inside, spotRefusal, morePoints, moreWeights, formRefusal, insertedKnots, insertedPoints, insertedWeights, insertRefusal}
-use Rattle.insertion.specs.Fold.{Outcome, gives, refuses, insertAll}
+use Rattle.insertion.specs.Fold.{Outcome, insertAll}
 use Rattle.insertion.specs.Start.{clampedEnds, editStart, outRoom, scratchRoom}
 use Rattle.insertion.specs.Whole.{answerOf}
 use Rattle.insertion.specs.declared.answer.EditAnswer.{EditAnswer}
 use Rattle.insertion.specs.declared.answer.EditAnswer.the-variants.{Formed, Refused}
+use Rattle.insertion.proofs.Worked.{one, two, four, six, doubles, along, told, all}
 use Rattle.elevation.specs.Breaks.{breaksFrom, breaksOf, isFull, fullCount, missingAll}
 use Rattle.elevation.specs.Raise.{raiseShare, raiseOnce, raiseTimes}
 use Rattle.elevation.specs.Elevate.{extractedCount, raisedCount, breakKnots, raisedKnots, controlsOf, segmentOf, addedBy, keptFrom, keptAll, allBlended, pointsOf, weightsOf, raisedControls, raisedPoints, raisedWeights, raisedRefusal, raisedOutcome, raiseAll}
 use Rattle.elevation.specs.Whole.{elevatedCount, raiseStart, elevated, elevateStart, elevateOutcome}
 
-abbrev d : ℕ → Float
-d b = ofBits binary64 b
-
-abbrev one : ℕ
-one = 0x3ff0_0000_0000_0000
-
-abbrev two : ℕ
-two = 0x4000_0000_0000_0000
-
-abbrev four : ℕ
-four = 0x4010_0000_0000_0000
-
 abbrev five : ℕ
 five = 0x4014_0000_0000_0000
-
-abbrev six : ℕ
-six = 0x4018_0000_0000_0000
-
-abbrev doubles : List ℕ → List Float
-doubles [] = []
-doubles (b ∷ bs) = d b ∷ doubles bs
-
-abbrev bits : List Float → List ℕ
-bits [] = []
-bits (x ∷ xs) = toBits binary64 x ∷ bits xs
-
--- points on the first axis
-abbrev along : List ℕ → List ℕ
-along [] = []
-along (x ∷ xs) = x ∷ 0 ∷ 0 ∷ along xs
-
--- 0, and then the curve; the number of a refusal
-abbrev told : Outcome → List ℕ
-told (gives ks ps ws) = 0 ∷ (bits ks ++ (bits ps ++ bits ws))
-told (refuses r) = r .number ∷ []
 
 -- the degree and the count of points; the number of a refusal
 abbrev answered : EditAnswer → List ℕ
@@ -99,16 +67,6 @@ rows =
     -- A raised to 3 has 7 points
     ∷ (answered (raised 3), 3 ∷ 7 ∷ [])
     ∷ []
-
-abbrev same : List ℕ → List ℕ → Bool
-same [] [] = true
-same [] (y ∷ ys) = false
-same (x ∷ xs) [] = false
-same (x ∷ xs) (y ∷ ys) = eqb x y && same xs ys
-
-abbrev all : List (List ℕ × List ℕ) → Bool
-all [] = true
-all (r ∷ rs) = same (r .0) (r .1) && all rs
 
 pub worked : T (all rows)
 unfolding breaksFrom breaksOf isFull fullCount missingAll raiseShare raiseOnce raiseTimes extractedCount raisedCount breakKnots raisedKnots controlsOf segmentOf addedBy keptFrom keptAll allBlended pointsOf weightsOf raisedControls raisedPoints raisedWeights raisedRefusal raisedOutcome raiseAll editStart outRoom scratchRoom elevatedCount raiseStart elevated elevateStart elevateOutcome liftOf isLifted isBlended shareOf blendOf lowerOf countBelow multiplicityOf largestOf allEqual scaleOf liftAt blendAt lowerAt knotAt moreKnots inside spotRefusal morePoints moreWeights formRefusal insertedKnots insertedPoints insertedWeights insertRefusal insertAll clampedEnds largestFrom weightOf roomRefusal lastAfter spanOf overLong anyLong isWeight allWeights controlRefusal formedRefusal curveRefusal allFinite inOrder ordered apart orderRefusal knotRefusal allBelow ofBits toBits ofInt add sub mul div lt le eq

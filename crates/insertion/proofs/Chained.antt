@@ -29,7 +29,7 @@ use Rattle.insertion.specs.Passes.{CurveIn}
 use Rattle.insertion.proofs.Laying.{knots-back, points-back, weights-back, goal-is}
 use Rattle.insertion.proofs.Laid.{laid-long, laid-in, laid-laid}
 use Rattle.insertion.proofs.Working.{work-fits}
-use Rattle.insertion.proofs.Never.{Made, made}
+use Rattle.insertion.proofs.Made.{Made, made}
 
 abbrev refusalNumber : Outcome → ℕ
 refusalNumber (gives ks ps ws) = 0

@@ -135,7 +135,7 @@ weight-is q h =
     let c = and-right (finite (q .z)) (not (le (q .w) zero+)) b in
     and-true (finite (q .w)) _ f (le-fails (q .w) zero+ f refl (not-true _ c))
 
-points-left : (n : ℕ) (ps : List Float) (g : Bool) (h : ℕ → Control) → allBelow (λ i. isBlended (h i)) n ≡ true → cond (not (allFinite ps)) (refuse point-not-finite) accepted ≡ controlRefusal n ps g (tabulate (given g n) (weightIn h))
+pub points-left : (n : ℕ) (ps : List Float) (g : Bool) (h : ℕ → Control) → allBelow (λ i. isBlended (h i)) n ≡ true → cond (not (allFinite ps)) (refuse point-not-finite) accepted ≡ controlRefusal n ps g (tabulate (given g n) (weightIn h))
 unfolding controlRefusal allWeights
 points-left n ps true h B =
     let l = length-tabulate n (weightIn h) in

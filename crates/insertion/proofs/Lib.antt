@@ -9,7 +9,9 @@ pub mod Counted
 pub mod Forming
 pub mod Folds
 pub mod Domain
+pub mod Made
 pub mod Never
+pub mod Repeated
 pub mod Chained
 pub mod Starting
 pub mod Working

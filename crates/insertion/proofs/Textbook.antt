@@ -19,7 +19,7 @@ use Rattle.insertion.specs.Insert.{knotAt}
 use Rattle.insertion.specs.declared.control.Control.{Control}
 
 module _ (f : Control → Float) where
-  chosen : (b : Bool) {c d : Control} {x y : Float} → f c ≡ x → f d ≡ y → f (cond b c d) ≡ cond b x y
+  pub chosen : (b : Bool) {c d : Control} {x y : Float} → f c ≡ x → f d ≡ y → f (cond b c d) ≡ cond b x y
   chosen true e g = e
   chosen false e g = g
 

@@ -19,42 +19,42 @@ use Rattle.insertion.specs.Fold.{Outcome, gives, refuses, insertAll}
 use Rattle.insertion.specs.Start.{clampedEnds, editStart, outRoom, scratchRoom, insertStart}
 use Rattle.insertion.specs.Whole.{insertOutcome}
 
-abbrev d : ℕ → Float
+abbrev pub d : ℕ → Float
 d b = ofBits binary64 b
 
 abbrev -o : ℕ
 -o = 0x8000_0000_0000_0000
 
-abbrev one : ℕ
+abbrev pub one : ℕ
 one = 0x3ff0_0000_0000_0000
 
-abbrev two : ℕ
+abbrev pub two : ℕ
 two = 0x4000_0000_0000_0000
 
-abbrev three : ℕ
+abbrev pub three : ℕ
 three = 0x4008_0000_0000_0000
 
-abbrev four : ℕ
+abbrev pub four : ℕ
 four = 0x4010_0000_0000_0000
 
-abbrev six : ℕ
+abbrev pub six : ℕ
 six = 0x4018_0000_0000_0000
 
-abbrev doubles : List ℕ → List Float
+abbrev pub doubles : List ℕ → List Float
 doubles [] = []
 doubles (b ∷ bs) = d b ∷ doubles bs
 
-abbrev bits : List Float → List ℕ
+abbrev pub bits : List Float → List ℕ
 bits [] = []
 bits (x ∷ xs) = toBits binary64 x ∷ bits xs
 
 -- points on the first axis
-abbrev along : List ℕ → List ℕ
+abbrev pub along : List ℕ → List ℕ
 along [] = []
 along (x ∷ xs) = x ∷ 0 ∷ 0 ∷ along xs
 
 -- the number of a refusal, 0 for none, and then the curve
-abbrev told : Outcome → List ℕ
+abbrev pub told : Outcome → List ℕ
 told (gives ks ps ws) = 0 ∷ (bits ks ++ (bits ps ++ bits ws))
 told (refuses r) = r .number ∷ []
 
@@ -62,27 +62,27 @@ told (refuses r) = r .number ∷ []
 abbrev inserted : List ℕ → ℕ → Outcome
 inserted ts scratch = insertOutcome 2 (doubles (0 ∷ 0 ∷ 0 ∷ one ∷ two ∷ two ∷ two ∷ [])) (doubles (along (0 ∷ two ∷ four ∷ six ∷ []))) false [] (doubles ts) 10 21 0 scratch
 
-abbrev rows : List (Outcome × List ℕ)
+abbrev rows : List (List ℕ × List ℕ)
 rows =
     -- inserting 1 gives x = 0 2 3 4 6, knots 0 0 0 1 1 2 2 2
-    (inserted (one ∷ []) 56, 0 ∷ 0 ∷ 0 ∷ 0 ∷ one ∷ one ∷ two ∷ two ∷ two ∷ along (0 ∷ two ∷ three ∷ four ∷ six ∷ []))
+    (told (inserted (one ∷ []) 56), 0 ∷ 0 ∷ 0 ∷ 0 ∷ one ∷ one ∷ two ∷ two ∷ two ∷ along (0 ∷ two ∷ three ∷ four ∷ six ∷ []))
     -- scratch one short
-    ∷ (inserted (one ∷ []) 55, 30 ∷ [])
+    ∷ (told (inserted (one ∷ []) 55), 30 ∷ [])
     -- an end of the domain, of either sign
-    ∷ (inserted (one ∷ -o ∷ []) 66, 13 ∷ [])
+    ∷ (told (inserted (one ∷ -o ∷ []) 66), 13 ∷ [])
     -- the third 1 more
-    ∷ (inserted (one ∷ one ∷ one ∷ []) 76, 14 ∷ [])
+    ∷ (told (inserted (one ∷ one ∷ one ∷ []) 76), 14 ∷ [])
     ∷ []
 
-abbrev same : List ℕ → List ℕ → Bool
+abbrev pub same : List ℕ → List ℕ → Bool
 same [] [] = true
 same [] (y ∷ ys) = false
 same (x ∷ xs) [] = false
 same (x ∷ xs) (y ∷ ys) = eqb x y && same xs ys
 
-abbrev all : List (Outcome × List ℕ) → Bool
+abbrev pub all : List (List ℕ × List ℕ) → Bool
 all [] = true
-all (r ∷ rs) = same (told (r .0)) (r .1) && all rs
+all (r ∷ rs) = same (r .0) (r .1) && all rs
 
 pub worked : T (all rows)
 unfolding liftOf isLifted isBlended shareOf blendOf lowerOf countBelow multiplicityOf largestOf allEqual scaleOf liftAt blendAt lowerAt knotAt moreKnots inside spotRefusal morePoints moreWeights formRefusal insertedKnots insertedPoints insertedWeights insertRefusal insertAll clampedEnds editStart outRoom scratchRoom insertStart insertOutcome largestFrom weightOf roomRefusal lastAfter spanOf overLong anyLong isWeight allWeights controlRefusal formedRefusal curveRefusal allFinite inOrder ordered apart orderRefusal knotRefusal allBelow ofBits toBits add sub mul div lt le eq

@@ -33,7 +33,8 @@ use Rattle.insertion.proofs.RowLoops.{knot-from}
 use Rattle.insertion.proofs.Starting.{out-fits, thirds}
 use Rattle.insertion.proofs.Laid.{laid-long}
 use Rattle.insertion.proofs.Working.{take-fits}
-use Rattle.insertion.proofs.Never.{Made, made, ends-long}
+use Rattle.insertion.proofs.Made.{Made, made}
+use Rattle.insertion.proofs.Repeated.{ends-long}
 use Rattle.insertion.proofs.Chained.{knots-are, points-are, weights-are, refused-is, Given, given-is}
 use Rattle.insertion.proofs.Outcomes.{edit-refused, edit-late, edit-formed, edit-unique}
 use Rattle.trimming.specs.Trim.{endsOf, keptOf, cutRefusal, cutCurve, cutOf, trimStart, trimOutcome, TrimMeets}

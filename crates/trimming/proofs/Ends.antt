@@ -21,7 +21,7 @@ use Rattle.insertion.specs.Whole.{givenOf}
 use Rattle.insertion.specs.Work.{laid, workRoom, layOutcome, timesOutcome, refusalOf, workIn}
 use Rattle.insertion.proofs.Starting.{room-none, thirds}
 use Rattle.insertion.proofs.Working.{lay-fits, work-fits}
-use Rattle.insertion.proofs.Never.{Made, made, andThen, insert-append}
+use Rattle.insertion.proofs.Made.{Made, made, andThen, insert-append}
 use Rattle.insertion.proofs.Chained.{laid-given, chained, refused-is, Given, given-is}
 use Rattle.trimming.specs.Trim.{endsOf}
 

@@ -1,3 +1,6 @@
+pub mod Widths
 pub mod Ranges
 pub mod Ends
 pub mod Cutting
+pub mod Source
+pub mod Worked
