@@ -20,6 +20,9 @@ pub struct Case {
 impl Case {
     /// Most tables are clamped. The edit is the one of the row.
     pub fn made(r: &mut Rng, row: usize) -> Self {
+        if r.below(512) == 0 {
+            return Self::faint(r, row);
+        }
         let mut table = make::curve(r, &CARE[row]);
         let (p, n) = (table.degree, table.count());
         if r.below(8) > 0 && p < n && table.knots.len() == n + p + 1 {
@@ -36,6 +39,25 @@ impl Case {
             _ => Edit::Elevate(raised(r, p)),
         };
         Self { table, edit }
+    }
+
+    /// A polyline with all weights but one so small that a half of two neighbours is 0.
+    fn faint(r: &mut Rng, row: usize) -> Self {
+        let count = 3 + r.below(4) as usize;
+        let last = (count - 1) as f64;
+        let mut weights = vec![f64::from_bits(1); count];
+        weights[r.below(count as u64) as usize] = 1.0;
+        let knots = (0..count + 2).map(|i| (i as f64 - 1.0).clamp(0.0, last)).collect();
+        let points = (0..3 * count).map(|_| r.unit()).collect();
+        let mut half = || r.below(count as u64 - 1) as f64 + 0.5;
+        let (a, b) = (half(), half());
+        let edit = match row {
+            0 => Edit::Insert(vec![a]),
+            1 if a < b => Edit::Trim(a, b),
+            1 => Edit::Trim(0.0, b),
+            _ => Edit::Elevate(2),
+        };
+        Self { table: Curve { degree: 1, knots, points, rational: true, weights }, edit }
     }
 
     /// Document 01's degrees about the limit of 64, from a curve of one span.
