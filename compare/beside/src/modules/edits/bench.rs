@@ -1,13 +1,17 @@
-//! Times of edits beside the Rust's. Ours validate the table at each call; the Rust's are given a valid one.
+//! Times of edits beside the Rust's. Ours validate the table at each call; the Rust's are given a valid one, and once
+//! more with the making of it counted.
 use super::calls::{Case, Edit};
-use crate::modules::timed::{BESIDE, clamped, time};
+use crate::modules::timed::{Times, clamped, time};
 use crate::rng::Rng;
 use crate::tables::Curve;
 use oracle::BCurve;
 use std::hint::black_box;
 
+const TIMES: Times<3, 2> =
+    Times { name: 36, times: (["ours", "the Rust", "with new"], 12, 1), ratios: [("ratio", 8), ("to with new", 12)] };
+
 pub fn table(rounds: u32) {
-    BESIDE.head("ns");
+    TIMES.head("ns");
     for points in [10, 100, 1_000] {
         for knots in [1, 50] {
             let mut r = Rng::new(7, (points * 100 + knots) as u64);
@@ -48,7 +52,8 @@ fn row(rounds: u32, calls: usize, name: &str, table: Curve, edits: impl Iterator
         lent[1][3]
     });
     let rust = time(rounds, calls, &cases, |c| edited(&made, &c.edit));
-    BESIDE.row(name, [ours, rust]);
+    let with_new = time(rounds, calls, &cases, |c| c.table.rust().map_or(0.0, |made| edited(&made, &c.edit)));
+    TIMES.row(name, [ours, rust, with_new]);
 }
 
 fn edited(made: &BCurve, edit: &Edit) -> f64 {
