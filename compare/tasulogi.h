@@ -229,6 +229,26 @@ uint32_t tasulogi_insert_knots(
     double *out_knots, size_t out_knots_n, double *out_points, size_t out_points_n, double *out_weights,
     size_t out_weights_n, double *scratch, size_t scratch_n);
 
+/* The part from lo to hi, a full break being taken from inside. With a and b for how often lo and hi are missing from
+ * degree + 1 of them among the knots, and c(x) for the knots below x: into runs for c(hi) + a - c(lo) points, with
+ * scratch of 10 (count + a + b) + 2 (degree + 1) numbers. Refusals: 30 for a run that is too long, those of the curve,
+ * 17, 15, 30 for a lent run, then 19, 20, and 8 of a curve that is formed. */
+uint32_t tasulogi_trim(
+    size_t degree, const double *knots, size_t knots_n, const double *points, size_t points_n, bool rational,
+    const double *weights, size_t weights_n, double lo, double hi,
+    double *out_knots, size_t out_knots_n, double *out_points, size_t out_points_n, double *out_weights,
+    size_t out_weights_n, double *scratch, size_t scratch_n);
+
+/* The curve with a higher degree e = raised, or a copy where it is the same. With b distinct knots inside the domain, f
+ * of them degree + 1 times: into runs for (e + 1) (b + 1) - b + f points, count for a copy, with scratch of
+ * 10 (degree + 1) (b + 1) + 2 (degree + 1) numbers. Refusals: 30 for a run that is too long, those of the curve, 17, 16,
+ * 18, 30 for a lent run, then 19, 20, and 8 of a curve that is formed. */
+uint32_t tasulogi_elevate_degree(
+    size_t degree, const double *knots, size_t knots_n, const double *points, size_t points_n, bool rational,
+    const double *weights, size_t weights_n, size_t raised,
+    double *out_knots, size_t out_knots_n, double *out_points, size_t out_points_n, double *out_weights,
+    size_t out_weights_n, double *scratch, size_t scratch_n);
+
 #ifdef __cplusplus
 }
 #endif

@@ -165,7 +165,8 @@ static void made(void)
     expect(tasulogi_iso_curve(1, 1, ends, 4, ends, 4, 2, 2, points, 12, false, none, 0, true, 1.5, p, 6, w, 2) == 22, "outside");
 }
 
-/* Document 01: inserting 1 into A gives x = 0 2 3 4 6, knots 0 0 0 1 1 2 2 2. */
+/* Document 01: inserting 1 into A gives x = 0 2 3 4 6, knots 0 0 0 1 1 2 2 2; trimming A to [0, 1] gives x = 0 2 3,
+ * knots 0 0 0 1 1 1; a line from 0 to 2 raised to 2 gives x = 0 1 2; A raised to 3 has 7 points. */
 static void edits(void)
 {
     static const double knots[] = { 0, 0, 0, 1, 2, 2, 2 }, points[] = { 0, 0, 0, 2, 0, 0, 4, 0, 0, 6, 0, 0 };
@@ -177,6 +178,24 @@ static void edits(void)
     expect(same(scratch[0], 0.0) && same(scratch[55], 0.0), "scratch");
     expect(tasulogi_insert_knots(2, knots, 7, points, 12, false, none, 0, two, 1, k, 8, p, 15, w, 0, scratch, 56) == 13 && same(k[7], 0.0), "an end");
     expect(tasulogi_insert_knots(2, knots, 7, points, 12, false, none, 0, one, 1, k, 8, p, 15, w, 0, scratch, 55) == 30, "no scratch");
+
+    double trimmed[66];
+    expect(tasulogi_trim(2, knots, 7, points, 12, false, none, 0, 0.0, 1.0, k, 7, p, 10, w, 0, trimmed, 66) == TASULOGI_DONE, "A trimmed");
+    expect(same(k[2], 0.0) && same(k[3], 1.0) && same(k[5], 1.0) && same(k[6], 0.0), "its knots, and the tail");
+    expect(same(p[0], 0.0) && same(p[3], 2.0) && same(p[6], 3.0) && same(p[9], 0.0) && same(trimmed[65], 0.0), "its points, the tail, scratch");
+    expect(tasulogi_trim(2, knots, 7, points, 12, false, none, 0, 1.0, 1.0, k, 6, p, 9, w, 0, trimmed, 66) == 15 && same(k[3], 0.0), "empty");
+    expect(tasulogi_trim(2, knots, 7, points, 12, false, none, 0, 0.0, 1.0, k, 6, p, 9, w, 0, trimmed, 65) == 30, "no scratch");
+
+    static const double ends[] = { 0, 0, 1, 1 }, line[] = { 0, 0, 0, 2, 0, 0 };
+    double high[11], raised[21], spare[66];
+    expect(tasulogi_elevate_degree(1, ends, 4, line, 6, false, none, 0, 2, high, 6, raised, 9, w, 0, spare, 24) == TASULOGI_DONE, "a line raised");
+    expect(same(high[2], 0.0) && same(high[3], 1.0) && same(high[5], 1.0), "its knots");
+    expect(same(raised[0], 0.0) && same(raised[3], 1.0) && same(raised[6], 2.0) && same(spare[0], 0.0), "its points, scratch");
+    expect(tasulogi_elevate_degree(2, knots, 7, points, 12, false, none, 0, 3, high, 11, raised, 21, w, 0, spare, 66) == TASULOGI_DONE, "A raised");
+    expect(same(high[3], 0.0) && same(high[4], 1.0) && same(high[6], 1.0) && same(high[10], 2.0) && same(raised[18], 6.0), "its 7 points");
+    expect(tasulogi_elevate_degree(2, knots, 7, points, 12, false, none, 0, 3, high, 11, raised, 20, w, 0, spare, 66) == 30, "no room for 7");
+    expect(tasulogi_elevate_degree(2, knots, 7, points, 12, false, none, 0, 1, high, 11, raised, 21, w, 0, spare, 66) == 16 && same(high[10], 0.0), "a lower degree");
+    expect(tasulogi_elevate_degree(2, knots, 7, points, 12, false, none, 0, 65, high, 11, raised, 21, w, 0, spare, 66) == 18, "degree 65");
 }
 
 int main(void)

@@ -80,6 +80,8 @@ exported! {
     fn tasulogi_eval2(t: f64) lends out;
     fn tasulogi_reversed() lends knots, points, weights;
     fn tasulogi_insert_knots() reads inserted lends knots, points, weights, scratch;
+    fn tasulogi_trim(lo: f64, hi: f64) lends knots, points, weights, scratch;
+    fn tasulogi_elevate_degree(raised: usize) lends knots, points, weights, scratch;
 }
 
 exported! {

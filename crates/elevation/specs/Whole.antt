@@ -2,17 +2,15 @@
 -- Assumes nothing.
 use Prim.Native.Nat.{ℕ}
 use mathlib.Core.Bool.{Bool, not, cond, _&&_}
-use mathlib.Core.Path.{_≡_}
 use mathlib.Core.List.{List}
 use lib.Dec.{eqb, ltb}
 use lib.Ieee.{Float}
 use Rattle.knots.specs.Refusal.{refuse, orElse, degree-lowered, elevation-high}
-use Rattle.knots.specs.Clear.{zeros}
 use Rattle.knots.specs.Curve.{countOf}
 use Rattle.knots.specs.declared.refusal.Refusal.{Refusal}
 use Rattle.insertion.specs.Fold.{Outcome, gives, refuses}
 use Rattle.insertion.specs.Start.{editStart, outRoom, scratchRoom}
-use Rattle.insertion.specs.Whole.{givenOf, answerOf, knotsIn, pointsIn, weightsIn}
+use Rattle.insertion.specs.Whole.{givenOf, EditMeets}
 use Rattle.insertion.specs.declared.answer.EditAnswer.{EditAnswer}
 use Rattle.elevation.specs.Breaks.{breaksOf}
 use Rattle.elevation.specs.Elevate.{extractedCount, raisedCount, raiseAll}
@@ -42,10 +40,5 @@ module _ (p : ℕ) (ks ps : List Float) (g : Bool) (ws : List Float) (e : ℕ) (
   unfoldable pub elevateOutcome : Outcome
   elevateOutcome = cond (eqb (elevateStart .number) 0) (elevated p ks ps g ws e) (refuses elevateStart)
 
-  -- the answer r, and what is left in runs of a, b, c and d numbers
-  pub record ElevateMeets (k₁ p₁ w₁ s₁ : List Float) (r : EditAnswer) : Type 0 where
-    pub answer : r ≡ answerOf e (elevatedCount p e (countOf ps) ks) elevateOutcome
-    pub knots : k₁ ≡ knotsIn a elevateOutcome
-    pub points : p₁ ≡ pointsIn b elevateOutcome
-    pub weights : w₁ ≡ weightsIn c elevateOutcome
-    pub scratch : s₁ ≡ zeros d
+  abbrev pub ElevateMeets : List Float → List Float → List Float → List Float → EditAnswer → Type 0
+  ElevateMeets = EditMeets e (elevatedCount p e (countOf ps) ks) elevateOutcome a b c d

@@ -2,36 +2,109 @@
 mod bench;
 mod calls;
 
-use super::answered::{Asked, compared};
+use super::answered::{Asked, Wanted, compared};
 use super::{Desk, Module, Place};
 use crate::rng::Rng;
+use crate::tables::FEATURES;
 use crate::tables::make::Care;
-use crate::tables::{FEATURES, literal};
 use crate::tally::Call;
-use calls::Insertion;
+use calls::{Case, Edit};
 
-const CARE: Care = Care { steep: [300, 300, 200, 60, 10, 10], broken: 6, long: 20_000 };
+/// By row: elevation takes a curve apart at each knot, so few of its curves are steep.
+const CARE: [Care; 3] = [
+    Care { steep: [300, 300, 200, 60, 10, 10], broken: 6, long: 20_000 },
+    Care { steep: [300, 300, 200, 60, 10, 10], broken: 6, long: 20_000 },
+    Care { steep: [350, 350, 200, 30, 6, 4], broken: 6, long: 20_000 },
+];
 
-const CALLS: [(&str, &[u32]); 1] = [("insert_knots", &[0, 1, 2, 3, 4, 5, 6, 7, 8, 9, 10, 13, 14, 17, 19, 20, 30, 32])];
+const CALLS: [(&str, &[u32]); 3] = [
+    ("insert_knots", &[0, 1, 2, 3, 4, 5, 6, 7, 8, 9, 10, 13, 14, 17, 19, 20, 30, 32]),
+    ("trim", &[0, 1, 2, 3, 4, 5, 6, 7, 8, 9, 10, 15, 17, 19, 20, 30, 32]),
+    ("elevate_degree", &[0, 1, 2, 3, 4, 5, 6, 7, 8, 9, 10, 16, 17, 18, 19, 20, 30, 32]),
+];
+
+/// The last of FEATURES is of surfaces alone: these stand in its place and behind it.
+const OWN: [&str; 11] = [
+    "insertion's formed curve refused by 8",
+    "trim's by 8",
+    "elevation's by 8",
+    "trim at a full break",
+    "trim at an inner knot",
+    "trim between knots",
+    "trim at one end of the domain",
+    "trim to the whole domain",
+    "trim at a zero of the other sign",
+    "elevation with a full break",
+    "elevation copied",
+];
+const COMMON: usize = FEATURES.len() - 1;
+const SEEN: [&str; COMMON + OWN.len()] = {
+    let mut all = [""; COMMON + OWN.len()];
+    let mut i = 0;
+    while i < all.len() {
+        all[i] = if i < COMMON { FEATURES[i] } else { OWN[i - COMMON] };
+        i += 1;
+    }
+    all
+};
 
 pub const MODULE: Module = Module {
     name: "edits",
     calls: || CALLS.map(|c| Call { name: c.0, numbers: c.1, idle: &[] }).into(),
-    // The last is of surfaces alone.
-    features: FEATURES.split_at(FEATURES.len() - 1).0,
-    default_cases: 500_000,
+    features: &SEEN,
+    // A million of each.
+    default_cases: 3_000_000,
     case,
     list: None,
     bench: bench::table,
 };
 
-fn case(_: Place, desk: &mut Desk) -> Option<String> {
-    let case = Insertion::made(&mut desk.r);
+fn case(place: Place, desk: &mut Desk) -> Option<String> {
+    // A block has one case more than a multiple of three.
+    let row = ((place.block + place.case) % 3) as usize;
+    let case = match place.block {
+        0 if row == 2 && place.case < 18 => Case::fixed((place.case / 3) as usize),
+        _ => Case::made(&mut desk.r, row),
+    };
     case.table.features(&mut desk.tally.features);
-    desk.tally.count(case.table.doubles().take(400).chain(&case.inserted));
-    let want = case.rust();
-    let text = compared(desk, Asked { row: 0, needs: &case.needs(), room }, &want, |l| case.ours(l))?;
-    Some(format!("insert_knots\n  Rust literal:  {}.unwrap().insert_knots(&{})\n{text}", case.table.literal(), literal(&case.inserted)))
+    desk.tally.count(case.table.doubles().take(400).chain(&case.doubles()));
+    let (want, needs) = (case.rust(), case.needs());
+    if let Wanted::Runs(runs) = &want {
+        assert!(
+            runs.iter().zip(needs).take(3).all(|(run, n)| run.len() == n),
+            "the Rust forms another number of points: {}",
+            case.literal()
+        );
+    }
+    seen(&case, row, &want, &mut desk.tally.features[COMMON..]);
+    let text = compared(desk, Asked { row, needs: &needs, room }, &want, |l| case.ours(l))?;
+    Some(format!("{}\n  Rust literal:  {}\n{text}", CALLS[row].0, case.literal()))
+}
+
+/// Counts what OWN names, in a case that is answered.
+fn seen(case: &Case, row: usize, want: &Wanted, own: &mut [u64]) {
+    own[row] += matches!(want, Wanted::Formed(8)) as u64;
+    let Wanted::Runs(_) = want else { return };
+    let (p, n) = (case.table.degree, case.table.count());
+    match &case.edit {
+        Edit::Insert(_) => (),
+        Edit::Trim(lo, hi) => {
+            let (a, b) = (case.table.knots[p], case.table.knots[n]);
+            let inner =
+                |test: &dyn Fn(usize) -> bool| [lo, hi].iter().any(|x| **x > a && **x < b && test(case.times(**x))) as u64;
+            own[3] += inner(&|times| times > p);
+            own[4] += inner(&|times| times > 0 && times <= p);
+            own[5] += inner(&|times| times == 0);
+            own[6] += ((*lo == a) != (*hi == b)) as u64;
+            own[7] += (*lo == a && *hi == b) as u64;
+            let other = |x: f64| x == 0.0 && case.table.knots.iter().any(|k| *k == 0.0 && k.to_bits() != x.to_bits());
+            own[8] += (other(*lo) || other(*hi)) as u64;
+        }
+        Edit::Elevate(e) => {
+            own[9] += (*e > p && case.breaks().iter().any(|b| case.times(*b) > p)) as u64;
+            own[10] += (*e == p) as u64;
+        }
+    }
 }
 
 /// Mostly the room that is needed, now and then one short, or some over.

@@ -1,4 +1,4 @@
-use Rattle.exports.proofs.Settled.{settled-insert}
+use Rattle.exports.proofs.Settled.{settled-edit}
 use borrow.Author.Needs.{needs}
 use Rattle.exports.proofs.edits.tasulogi_insert_knots.Statement.{statement}
 use Rattle.exports.proofs.edits.tasulogi_insert_knots.Tie as tie
@@ -7,33 +7,33 @@ use Rattle.exports.proofs.edits.tasulogi_insert_knots.Lts as lts
 use Rattle.exports.proofs.edits.edit_number.Reads as edit-number-reads
 use Rattle.insertion.proofs.insert.insert_knots.Reads as insert-knots-reads
 
--- src/edits.rt:38:17
+-- src/edits.rt:42:17
 insert-knots-requires : tie.Need-insert-knots-requires
 insert-knots-requires c κs = search needs
 
--- src/edits.rt:38:5
+-- src/edits.rt:42:5
 edit-number-requires : tie.Need-edit-number-requires
 edit-number-requires c κs = search needs
 
--- src/edits.rt:22:1
+-- src/edits.rt:26:1
 same-length : tie.Need-same-length
 same-length c = search needs
 
--- src/edits.rt:22:1
+-- src/edits.rt:26:1
 same-length-2 : tie.Need-same-length-2
 same-length-2 c = search needs
 
--- src/edits.rt:22:1
+-- src/edits.rt:26:1
 same-length-3 : tie.Need-same-length-3
 same-length-3 c = search needs
 
--- src/edits.rt:22:1
+-- src/edits.rt:26:1
 same-length-4 : tie.Need-same-length-4
 same-length-4 c = search needs
 
--- src/edits.rt:22:1
+-- src/edits.rt:26:1
 returns : tie.Need-returns
-returns c = settled-insert (c .edit-number .ensures) (c .before .before .before .before .before .before .before .before .before .insert-knots .ensures)
+returns c = settled-edit (c .edit-number .ensures) (c .before .before .before .before .before .before .before .before .before .insert-knots .ensures)
 
 pub tasulogi-insert-knots-spec : {M : Type 1} → statement M
 tasulogi-insert-knots-spec =

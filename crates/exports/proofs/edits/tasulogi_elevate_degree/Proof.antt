@@ -1,0 +1,48 @@
+use Rattle.exports.proofs.Settled.{settled-edit}
+use borrow.Author.Needs.{needs}
+use Rattle.exports.proofs.edits.tasulogi_elevate_degree.Statement.{statement}
+use Rattle.exports.proofs.edits.tasulogi_elevate_degree.Tie as tie
+use Rattle.exports.proofs.edits.tasulogi_elevate_degree.Reads as reads
+use Rattle.exports.proofs.edits.tasulogi_elevate_degree.Lts as lts
+use Rattle.exports.proofs.edits.edit_number.Reads as edit-number-reads
+use Rattle.elevation.proofs.elevate.elevate_degree.Reads as elevate-degree-reads
+
+-- src/edits.rt:106:17
+elevate-degree-requires : tie.Need-elevate-degree-requires
+elevate-degree-requires c κs = search needs
+
+-- src/edits.rt:106:5
+edit-number-requires : tie.Need-edit-number-requires
+edit-number-requires c κs = search needs
+
+-- src/edits.rt:90:1
+same-length : tie.Need-same-length
+same-length c = search needs
+
+-- src/edits.rt:90:1
+same-length-2 : tie.Need-same-length-2
+same-length-2 c = search needs
+
+-- src/edits.rt:90:1
+same-length-3 : tie.Need-same-length-3
+same-length-3 c = search needs
+
+-- src/edits.rt:90:1
+same-length-4 : tie.Need-same-length-4
+same-length-4 c = search needs
+
+-- src/edits.rt:90:1
+returns : tie.Need-returns
+returns c = settled-edit (c .edit-number .ensures) (c .before .before .before .before .before .before .before .before .before .elevate-degree .ensures)
+
+pub tasulogi-elevate-degree-spec : {M : Type 1} → statement M
+tasulogi-elevate-degree-spec =
+    tie.close
+    (tie.spec
+    elevate-degree-requires
+    edit-number-requires
+    same-length
+    same-length-2
+    same-length-3
+    same-length-4
+    returns)
