@@ -22,7 +22,8 @@ use Rattle.insertion.specs.Whole.{givenOf}
 use Rattle.insertion.specs.Insert.{insertedKnots, insertedPoints, insertedWeights, insertRefusal}
 use Rattle.insertion.specs.Fold.{Outcome, gives, refuses, insertAll}
 use Rattle.insertion.specs.Work.{laid, knotsFrom, pointsFrom, weightsFrom, workRoom, timesStart, timesOutcome, refusalOf, workIn}
-use Rattle.insertion.proofs.Never.{andThen, insert-append, repeated}
+use Rattle.insertion.proofs.Made.{andThen, insert-append}
+use Rattle.insertion.proofs.Repeated.{repeated}
 use Rattle.insertion.proofs.Laid.{laid-long}
 use Rattle.elevation.specs.Breaks.{missingAll}
 use Rattle.elevation.specs.Passes.{AtBreak, NextBreak, Extracted}
