@@ -1,17 +1,16 @@
 -- A made curve's refusal, or an edit's answer, put where its contract only names it.
 -- Assumes nothing.
-use Prim.Native.Nat.{ℕ, _+_}
+use Prim.Native.Nat.{ℕ}
 use mathlib.Core.Bool.{Bool}
 use mathlib.Core.Path.{_≡_, _∙_, ap, subst}
 use mathlib.Core.List.{List}
-use lib.ListN.{length}
 use lib.Ieee.{Float}
 use Rattle.knots.specs.declared.refusal.Refusal.{Refusal}
 use Rattle.evaluate.specs.Reverse.{reverseRefusal, ReverseMeets}
 use Rattle.evaluate.specs.IsoCurve.{isoRefusal, IsoMeets}
 use Rattle.exports.specs.Tables.{packedOf}
-use Rattle.knots.specs.Curve.{countOf}
-use Rattle.insertion.specs.Whole.{answerOf, insertOutcome, InsertMeets}
+use Rattle.insertion.specs.Fold.{Outcome}
+use Rattle.insertion.specs.Whole.{answerOf, EditMeets}
 use Rattle.insertion.specs.declared.answer.EditAnswer.{EditAnswer}
 use Rattle.exports.specs.Edits.{editNumber}
 
@@ -27,9 +26,7 @@ pub settled-iso : {p q : ℕ} {us vs : List Float} {m n : ℕ} {ps : List Float}
 settled-iso {p} {q} {us} {vs} {m} {n} {ps} {g} {ws} {u} {t} {a} {b} {p₁} {w₁} e h =
     (e ∙ ap packedOf (h .refusal), subst (λ (x : Refusal). IsoMeets p q us vs m n ps g ws u t a b p₁ w₁ x) (h .refusal) h)
 
-pub settled-insert : {p : ℕ} {ks ps : List Float} {g : Bool} {ws ts : List Float} {a b c d : ℕ} {k₁ p₁ w₁ s₁ : List Float} {r : EditAnswer} {n : ℕ}
-    → n ≡ editNumber r → InsertMeets p ks ps g ws ts a b c d k₁ p₁ w₁ s₁ r →
-    let z = answerOf p (countOf ps + length ts) (insertOutcome p ks ps g ws ts a b c d) in
-    (n ≡ editNumber z) × InsertMeets p ks ps g ws ts a b c d k₁ p₁ w₁ s₁ z
-settled-insert {p} {ks} {ps} {g} {ws} {ts} {a} {b} {c} {d} {k₁} {p₁} {w₁} {s₁} e h =
-    (e ∙ ap editNumber (h .answer), subst (λ (x : EditAnswer). InsertMeets p ks ps g ws ts a b c d k₁ p₁ w₁ s₁ x) (h .answer) h)
+pub settled-edit : {p n : ℕ} {goal : Outcome} {a b c d : ℕ} {k₁ p₁ w₁ s₁ : List Float} {r : EditAnswer} {m : ℕ} → m ≡ editNumber r → EditMeets p n goal a b c d k₁ p₁ w₁ s₁ r
+    → (m ≡ editNumber (answerOf p n goal)) × EditMeets p n goal a b c d k₁ p₁ w₁ s₁ (answerOf p n goal)
+settled-edit {p} {n} {goal} {a} {b} {c} {d} {k₁} {p₁} {w₁} {s₁} e h =
+    (e ∙ ap editNumber (h .answer), subst (λ (x : EditAnswer). EditMeets p n goal a b c d k₁ p₁ w₁ s₁ x) (h .answer) h)

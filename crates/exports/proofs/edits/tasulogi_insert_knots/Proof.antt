@@ -1,4 +1,4 @@
-use Rattle.exports.proofs.Settled.{settled-insert}
+use Rattle.exports.proofs.Settled.{settled-edit}
 use borrow.Author.Needs.{needs}
 use Rattle.exports.proofs.edits.tasulogi_insert_knots.Statement.{statement}
 use Rattle.exports.proofs.edits.tasulogi_insert_knots.Tie as tie
@@ -33,7 +33,7 @@ same-length-4 c = search needs
 
 -- src/edits.rt:22:1
 returns : tie.Need-returns
-returns c = settled-insert (c .edit-number .ensures) (c .before .before .before .before .before .before .before .before .before .insert-knots .ensures)
+returns c = settled-edit (c .edit-number .ensures) (c .before .before .before .before .before .before .before .before .before .insert-knots .ensures)
 
 pub tasulogi-insert-knots-spec : {M : Type 1} → statement M
 tasulogi-insert-knots-spec =
