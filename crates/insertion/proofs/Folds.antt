@@ -14,6 +14,7 @@ use Rattle.doubles.specs.Run.{at}
 use Rattle.knots.specs.Below.{allBelow}
 use Rattle.knots.specs.Refusal.{refuse, control-bad, edit-bad}
 use Rattle.knots.specs.Knots.{ValidKnots}
+use Rattle.knots.specs.Curve.{ValidControls}
 use Rattle.knots.specs.Span.{spanOf}
 use Rattle.knots.specs.declared.refusal.Refusal.{Refusal}
 use Rattle.knots.proofs.Refusals.{orElse-none, passed, stop, skip}
@@ -28,15 +29,18 @@ use Rattle.insertion.proofs.Forming.{untouched-less, outside-less}
 
 -- ---- what an insertion that is not refused forms
 module _ (p n : ℕ) (ks ps : List Float) (g : Bool) (ws : List Float) (t : Float) where
-  pub inserted-valid : insertRefusal p n ks ps g ws t .number ≡ 0 → ValidKnots p (n + 1) (insertedKnots p n ks ps g ws t)
-  unfolding insertRefusal formRefusal insertedKnots
-  inserted-valid h =
+  pub inserted-formed : insertRefusal p n ks ps g ws t .number ≡ 0 → ValidKnots p (n + 1) (insertedKnots p n ks ps g ws t) × ValidControls (n + 1) (insertedPoints p n ks ps g ws t) g (insertedWeights p n ks ps g ws t)
+  unfolding insertRefusal formRefusal insertedKnots insertedPoints insertedWeights
+  inserted-formed h =
       let k = spanOf p n ks t in
       let s = multiplicityOf ks t in
       let a = orElse-none (spotRefusal (at ks p) (at ks n) t p s) (formRefusal p n k s t ks ps g ws) h in
       let b = passed (not (allBelow (λ i. isLifted (lifted p n k s t ks ps g ws i)) n)) (refuse control-bad) _ (λ e. omega arith) (a .1) in
       let c = passed (not (allBelow (λ i. isBlended (blended p n k s t ks ps g ws i)) (n + 1))) (refuse edit-bad) _ (λ e. omega arith) (b .1) in
-      valid-formed p (n + 1) (moreKnots k t ks) (morePoints p n k s t ks ps g ws) g (moreWeights p n k s t ks ps g ws) (c .1) .0
+      valid-formed p (n + 1) (moreKnots k t ks) (morePoints p n k s t ks ps g ws) g (moreWeights p n k s t ks ps g ws) (c .1)
+
+  pub inserted-valid : insertRefusal p n ks ps g ws t .number ≡ 0 → ValidKnots p (n + 1) (insertedKnots p n ks ps g ws t)
+  inserted-valid h = inserted-formed h .0
 
 -- ---- the loop: n points so far, and what is left to insert
 pub record Going (a p : ℕ) (g : Bool) (goal : Outcome) (w₀ w₁ : List Float) (n : ℕ) (rest : List Float) : Type 0 where

@@ -13,6 +13,7 @@ use lib.Dec.{eqb}
 use lib.Ieee.{Float, nan, lt, eq}
 use Rattle.doubles.specs.Run.{at}
 use Rattle.knots.specs.Knots.{ValidKnots}
+use Rattle.knots.specs.Curve.{ValidControls}
 use Rattle.knots.specs.Span.{spanOf}
 use Rattle.knots.proofs.Refusals.{orElse-none}
 use Rattle.knots.proofs.Spans.{search-meets, span-is}
@@ -24,7 +25,7 @@ use Rattle.insertion.specs.Fold.{Outcome, gives, refuses, insertAll}
 use Rattle.insertion.specs.Start.{clampedEnds}
 use Rattle.insertion.proofs.Storing.{knot-low, knot-high}
 use Rattle.insertion.proofs.Forming.{spot-open}
-use Rattle.insertion.proofs.Folds.{inserted-valid}
+use Rattle.insertion.proofs.Folds.{inserted-formed, inserted-valid}
 use Rattle.insertion.proofs.Counted.{count-grown}
 
 -- ---- lists
@@ -183,6 +184,22 @@ made p g n ks ps ws (t ∷ ts) ks' ps' ws' v e =
     (λ z h.
     made-more p n ks ps g ws t v z ts ks' ps' ws'
     (made p g (n + 1) (insertedKnots p n ks ps g ws t) (insertedPoints p n ks ps g ws t) (insertedWeights p n ks ps g ws t) ts ks' ps' ws' (inserted-valid p n ks ps g ws t z) h))
+    (λ z h. let q : _≡_ {A = ℕ} 0 1 = cc in absurd (omega arith)) e
+
+-- valid points and weights
+pub made-controls : (p : ℕ) (g : Bool) (n : ℕ) (ks ps ws ts ks' ps' ws' : List Float) → ValidControls n ps g ws → insertAll p g n ks ps ws ts ≡ gives ks' ps' ws' → ValidControls (n + length ts) ps' g ws'
+unfolding insertAll
+made-controls p g n ks ps ws [] ks' ps' ws' v e =
+    let b : ps ≡ ps' = cc in
+    let c : ws ≡ ws' = cc in
+    let m : n ≡ n + 0 = omega arith in
+    rw (← b, ← c) (subst (λ (i : ℕ). ValidControls i ps g ws) m v)
+made-controls p g n ks ps ws (t ∷ ts) ks' ps' ws' v e =
+    let R = insertRefusal p n ks ps g ws t in
+    let m : n + 1 + length ts ≡ n + suc (length ts) = omega arith in
+    by-number (R .number) (λ b. cond b (others p g n ks ps ws t ts) (refuses R) ≡ gives ks' ps' ws' → ValidControls (n + suc (length ts)) ps' g ws')
+    (λ z h. subst (λ (i : ℕ). ValidControls i ps' g ws') m
+    (made-controls p g (n + 1) (insertedKnots p n ks ps g ws t) (insertedPoints p n ks ps g ws t) (insertedWeights p n ks ps g ws t) ts ks' ps' ws' (inserted-formed p n ks ps g ws t z .1) h))
     (λ z h. let q : _≡_ {A = ℕ} 0 1 = cc in absurd (omega arith)) e
 
 -- ---- what is made, by numbers

@@ -2,7 +2,7 @@
 -- Assumes nothing.
 use Prim.Native.Nat.{ℕ, _+_, _-_, _*_, _≤_, _<_}
 use mathlib.Core.Bool.{Bool, true, false}
-use mathlib.Core.Path.{_≡_, _∙_, ap, ap₂}
+use mathlib.Core.Path.{_≡_, refl, sym, _∙_, ap, ap₂, subst}
 use mathlib.Core.List.{List}
 use native.Mathlib.Omega.{arith}
 use lib.ListN.{length, take, drop, replicate, length-take, length-drop}
@@ -11,22 +11,44 @@ use lib.Ieee.{Float, binary64, nan, sub, lt}
 use lib.Ieee.Scale.{finite}
 use Rattle.doubles.specs.Run.{at}
 use Rattle.doubles.proofs.Tested.{lt-ge-trans}
+use Rattle.knots.specs.Refusal.{accepted}
 use Rattle.knots.specs.Knots.{ValidKnots}
-use Rattle.knots.specs.Curve.{countOf, controlRefusal}
+use Rattle.knots.specs.Curve.{countOf, isWeight, ValidControls}
 use Rattle.knots.specs.declared.refusal.Refusal.{Refusal}
 use Rattle.knots.proofs.Valid.{sorted}
+use Rattle.knots.proofs.Curves.{formed-not-refused}
 use Rattle.insertion.specs.Counts.{multiplicityOf, missingOf, belowOf}
 use Rattle.insertion.specs.Rows.{given}
 use Rattle.insertion.specs.Fold.{gives, refuses, insertAll}
 use Rattle.insertion.specs.Whole.{givenOf}
-use Rattle.insertion.proofs.Grown.{controls-left}
-use Rattle.insertion.proofs.Counted.{eq-self, lt-not-eq, below-past, below-first, below-rest, below-room}
-use Rattle.insertion.proofs.Made.{Made, made}
+use Rattle.insertion.proofs.Counted.{not-both, eq-self, lt-not-eq, below-past, below-first, below-rest, below-room}
+use Rattle.insertion.proofs.Made.{Made, made, made-controls}
 use Rattle.insertion.proofs.Never.{Late, late-not}
 use Rattle.insertion.proofs.Repeated.{repeated, Cut, cut-late, cut-made}
 use Rattle.trimming.specs.Trim.{endsOf, keptOf, cutRefusal}
 use Rattle.trimming.proofs.Widths.{narrower}
 use Rattle.trimming.proofs.Ranges.{Range, range-is, Open}
+
+given-controls : (n : ℕ) (ps : List Float) (g : Bool) (ws : List Float) → ValidControls n ps g ws → ValidControls n ps g (givenOf g ws)
+given-controls n ps true ws v = v
+given-controls n ps false ws v = record { coordinates = v .coordinates; weights = λ e. absurd (not-both false e refl); positive = λ e. absurd (not-both false e refl) }
+
+-- what is true of every number of a run is true of every number of a part of it
+part : (P : Float → Type 0) (xs : List Float) (f m : ℕ) → ((k : ℕ) → k < length xs → P (at xs k)) → (k : ℕ) → k < length (take m (drop f xs)) → P (at (take m (drop f xs)) k)
+part P xs f m h k l =
+    let a = length-take m (drop f xs) in
+    let b = length-drop f xs in
+    subst P (sym (getD-take m (drop f xs) k nan (omega arith) ∙ getD-drop f xs k nan)) (h (f + k) (omega arith))
+
+window : (n f m : ℕ) (ps : List Float) (g : Bool) (ws : List Float) → f + m ≤ n → ValidControls n ps g ws → ValidControls m (take (m * 3) (drop (f * 3) ps)) g (take (given g m) (drop f ws))
+window n f m ps g ws b v = record {
+  coordinates = part (λ x. finite x ≡ true) ps (f * 3) (m * 3) (v .coordinates);
+  weights = λ e.
+      let w = v .weights e in
+      let s : given g m ≡ m = ap (λ (y : Bool). given y m) e in
+      length-take (given g m) (drop f ws) ∙ omega (arith, length-drop f ws);
+  positive = λ e. part (λ x. isWeight x ≡ true) ws f (given g m) (v .positive e);
+}
 
 module _ (p : ℕ) (ks ps : List Float) (g : Bool) (ws : List Float) (lo hi : Float) (a b c d : ℕ) (o : Open p ks ps g ws lo hi a b c d) where
   range : Range (at ks p) (at ks (countOf ps)) lo hi
@@ -71,7 +93,7 @@ module _ (p : ℕ) (ks ps : List Float) (g : Bool) (ws : List Float) (lo hi : Fl
     pub partition-rest : (u : Float) (j : ℕ) → j < length ks' → belowOf ks' u ≤ j → lt (at ks' j) u ≡ false
     partition-rest = below-rest p (countOf ps + length (endsOf p ks lo hi)) ks' ends-valid
 
-    -- ---- the knots of the cut are valid, so that only 8 to 10 are left to its check
+    -- ---- the knots of the cut are valid
     abbrev F : ℕ
     F = belowOf ks lo
 
@@ -139,6 +161,11 @@ module _ (p : ℕ) (ks ps : List Float) (g : Bool) (ws : List Float) (lo hi : Fl
               ap₂ lt (cut-at j (omega arith)) (cut-at (j + (p + 1)) (omega arith) ∙ ap (at ks') s) ∙ v .multiplicity (F + j) (omega arith);
         }
 
-    pub cut-checked : controlRefusal M (take (M * 3) (drop (F * 3) ps')) g (take (given g M) (drop F ws')) ≡ cutRefusal p g F M ks' ps' ws'
+    -- ---- its points and weights are valid, as those of every curve that is formed: its check never refuses
+    ends-controls : ValidControls (countOf ps + length (endsOf p ks lo hi)) ps' g ws'
+    ends-controls = made-controls p g (countOf ps) ks ps (givenOf g ws) (endsOf p ks lo hi) ks' ps' ws' (given-controls (countOf ps) ps g ws (o .curve .controls)) e
+
+    pub cut-accepted : cutRefusal p g F M ks' ps' ws' ≡ accepted
     unfolding cutRefusal
-    cut-checked = controls-left p M cut (take (M * 3) (drop (F * 3) ps')) g (take (given g M) (drop F ws')) cut-valid
+    cut-accepted = formed-not-refused p M cut (take (M * 3) (drop (F * 3) ps')) g (take (given g M) (drop F ws')) cut-valid
+        (window (countOf ps + length (endsOf p ks lo hi)) F M ps' g ws' (let k = kept-most in let r = k .2 in let l = ends-valid .long in omega arith) ends-controls)
