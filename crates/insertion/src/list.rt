@@ -49,13 +49,13 @@ pub fn insert_many(
     requires { ⌜ ((n + m) * 4 ≤ a) × (a + (n + m + p + 1) ≤ length (now work)) ⌝ }
     ensures { λ r. ⌜ ListMeets a p (n + m) rational (now (work .entry)) (insertAll p rational n (knotsFrom a p n (now (work .entry))) (pointsFrom n (now (work .entry))) (weightsFrom rational n (now (work .entry))) (replicate m t)) (now (work .exit)) r ⌝ }
 {
-    let mut i = 0usize;
-    while i < m {
-        let refusal = insert_one(p, n + i, rational, t, a, work);
+    let mut j = 0usize;
+    while j < m {
+        let refusal = insert_one(p, n + j, rational, t, a, work);
         if refusal.number != 0 {
             return refusal;
         }
-        i += 1;
+        j += 1;
     }
     refuse(0)
 }

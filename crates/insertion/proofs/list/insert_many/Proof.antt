@@ -12,10 +12,10 @@ use Rattle.insertion.proofs.list.insert_many.Statement.{statement}
 use Rattle.insertion.proofs.list.insert_many.Tie as tie
 
 abbrev Inv-loop : tie.InvT-loop
-Inv-loop p n rational t m a work₀ i₀ work i = InTurns a p rational n m (replicate m t) (λ k. replicate (m - k) t) work₀ work i
+Inv-loop p n rational t m a work₀ j₀ work j = InTurns a p rational n m (replicate m t) (λ k. replicate (m - k) t) work₀ work j
 
 abbrev μ-loop : tie.MeasureT-loop
-μ-loop p n rational t m a work₀ i₀ work i = m - i
+μ-loop p n rational t m a work₀ j₀ work j = m - j
 
 -- src/list.rt:53:5
 loop-holds : tie.Need-loop-holds Inv-loop μ-loop
@@ -27,7 +27,7 @@ add-insert-one c = let q = c .before .before .before .pre .1 .1 in let t = c .lo
 
 -- src/list.rt:54:13
 insert-one-requires : tie.Need-insert-one-requires Inv-loop μ-loop
-insert-one-requires c κs = turns-room (c .before .before .before .before .args .a) (c .before .before .before .before .args .p) (c .before .before .before .before .args .rational) (c .before .before .before .before .args .n) (c .before .before .before .before .args .m) (replicate (c .before .before .before .before .args .m) (c .before .before .before .before .args .t)) (λ k. replicate (c .before .before .before .before .args .m - k) (c .before .before .before .before .args .t)) (now (c .before .before .before .before .args .work)) _ (c .before .before .loop .i) (c .before .before .loop .inv) (c .before .loop-test .taken) (c .before .before .before .before .pre .1 .0) (c .before .before .before .before .pre .1 .1)
+insert-one-requires c κs = turns-room (c .before .before .before .before .args .a) (c .before .before .before .before .args .p) (c .before .before .before .before .args .rational) (c .before .before .before .before .args .n) (c .before .before .before .before .args .m) (replicate (c .before .before .before .before .args .m) (c .before .before .before .before .args .t)) (λ k. replicate (c .before .before .before .before .args .m - k) (c .before .before .before .before .args .t)) (now (c .before .before .before .before .args .work)) _ (c .before .before .loop .j) (c .before .before .loop .inv) (c .before .loop-test .taken) (c .before .before .before .before .pre .1 .0) (c .before .before .before .before .pre .1 .1)
 
 -- src/list.rt:56:13
 same-length : tie.Need-same-length Inv-loop μ-loop
@@ -35,11 +35,11 @@ same-length c = c .before .before .before .work .given ∙ c .before .before .be
 
 -- src/list.rt:56:13
 returns : tie.Need-returns Inv-loop μ-loop
-returns c = turns-stop (c .before .before .before .before .before .before .before .before .before .args .a) (c .before .before .before .before .before .before .before .before .before .args .p) (c .before .before .before .before .before .before .before .before .before .args .rational) (c .before .before .before .before .before .before .before .before .before .args .n) (c .before .before .before .before .before .before .before .before .before .args .m) (replicate (c .before .before .before .before .before .before .before .before .before .args .m) (c .before .before .before .before .before .before .before .before .before .args .t)) (λ k. replicate (c .before .before .before .before .before .before .before .before .before .args .m - k) (c .before .before .before .before .before .before .before .before .before .args .t)) (now (c .before .before .before .before .before .before .before .before .before .args .work)) _ (c .before .before .before .before .before .before .before .loop .i) (c .before .before .before .before .before .before .before .loop .inv) (c .before .before .before .before .before .before .loop-test .taken) (c .before .before .before .before .before .before .before .before .before .args .t) (more-next (c .before .before .before .before .before .before .before .before .before .args .t) (c .before .before .before .before .before .before .before .before .before .args .m) (c .before .before .before .before .before .before .before .loop .i) (c .before .before .before .before .before .before .loop-test .taken)) _ _ (c .before .before .before .before .insert-one .ensures) (c .if1 .taken)
+returns c = turns-stop (c .before .before .before .before .before .before .before .before .before .args .a) (c .before .before .before .before .before .before .before .before .before .args .p) (c .before .before .before .before .before .before .before .before .before .args .rational) (c .before .before .before .before .before .before .before .before .before .args .n) (c .before .before .before .before .before .before .before .before .before .args .m) (replicate (c .before .before .before .before .before .before .before .before .before .args .m) (c .before .before .before .before .before .before .before .before .before .args .t)) (λ k. replicate (c .before .before .before .before .before .before .before .before .before .args .m - k) (c .before .before .before .before .before .before .before .before .before .args .t)) (now (c .before .before .before .before .before .before .before .before .before .args .work)) _ (c .before .before .before .before .before .before .before .loop .j) (c .before .before .before .before .before .before .before .loop .inv) (c .before .before .before .before .before .before .loop-test .taken) (c .before .before .before .before .before .before .before .before .before .args .t) (more-next (c .before .before .before .before .before .before .before .before .before .args .t) (c .before .before .before .before .before .before .before .before .before .args .m) (c .before .before .before .before .before .before .before .loop .j) (c .before .before .before .before .before .before .loop-test .taken)) _ _ (c .before .before .before .before .insert-one .ensures) (c .if1 .taken)
 
 -- src/list.rt:58:9
-add-i : tie.Need-add-i Inv-loop μ-loop
-add-i c = search needs
+add-j : tie.Need-add-j Inv-loop μ-loop
+add-j c = search needs
 
 -- src/list.rt:53:5
 loop-less : tie.Need-loop-less Inv-loop μ-loop
@@ -47,7 +47,7 @@ loop-less c = search needs
 
 -- src/list.rt:53:5
 loop-again : tie.Need-loop-again Inv-loop μ-loop
-loop-again c = turns-more (c .before .before .before .before .before .before .before .before .before .args .a) (c .before .before .before .before .before .before .before .before .before .args .p) (c .before .before .before .before .before .before .before .before .before .args .rational) (c .before .before .before .before .before .before .before .before .before .args .n) (c .before .before .before .before .before .before .before .before .before .args .m) (replicate (c .before .before .before .before .before .before .before .before .before .args .m) (c .before .before .before .before .before .before .before .before .before .args .t)) (λ k. replicate (c .before .before .before .before .before .before .before .before .before .args .m - k) (c .before .before .before .before .before .before .before .before .before .args .t)) (now (c .before .before .before .before .before .before .before .before .before .args .work)) _ (c .before .before .before .before .before .before .before .loop .i) (c .before .before .before .before .before .before .before .loop .inv) (c .before .before .before .before .before .before .loop-test .taken) (c .before .before .before .before .before .before .before .before .before .args .t) (more-next (c .before .before .before .before .before .before .before .before .before .args .t) (c .before .before .before .before .before .before .before .before .before .args .m) (c .before .before .before .before .before .before .before .loop .i) (c .before .before .before .before .before .before .loop-test .taken)) _ _ (c .before .before .before .before .insert-one .ensures) (c .if1 .left) (c .before .before .before .work .given)
+loop-again c = turns-more (c .before .before .before .before .before .before .before .before .before .args .a) (c .before .before .before .before .before .before .before .before .before .args .p) (c .before .before .before .before .before .before .before .before .before .args .rational) (c .before .before .before .before .before .before .before .before .before .args .n) (c .before .before .before .before .before .before .before .before .before .args .m) (replicate (c .before .before .before .before .before .before .before .before .before .args .m) (c .before .before .before .before .before .before .before .before .before .args .t)) (λ k. replicate (c .before .before .before .before .before .before .before .before .before .args .m - k) (c .before .before .before .before .before .before .before .before .before .args .t)) (now (c .before .before .before .before .before .before .before .before .before .args .work)) _ (c .before .before .before .before .before .before .before .loop .j) (c .before .before .before .before .before .before .before .loop .inv) (c .before .before .before .before .before .before .loop-test .taken) (c .before .before .before .before .before .before .before .before .before .args .t) (more-next (c .before .before .before .before .before .before .before .before .before .args .t) (c .before .before .before .before .before .before .before .before .before .args .m) (c .before .before .before .before .before .before .before .loop .j) (c .before .before .before .before .before .before .loop-test .taken)) _ _ (c .before .before .before .before .insert-one .ensures) (c .if1 .left) (c .before .before .before .work .given)
 
 -- src/list.rt:60:5
 refuse-requires : tie.Need-refuse-requires Inv-loop μ-loop
@@ -59,7 +59,7 @@ same-length-2 c = c .before .before .loop .inv .long
 
 -- src/list.rt:39:1
 returns-2 : tie.Need-returns-2 Inv-loop μ-loop
-returns-2 c = turns-end (c .before .before .before .before .args .a) (c .before .before .before .before .args .p) (c .before .before .before .before .args .rational) (c .before .before .before .before .args .n) (c .before .before .before .before .args .m) (replicate (c .before .before .before .before .args .m) (c .before .before .before .before .args .t)) (λ k. replicate (c .before .before .before .before .args .m - k) (c .before .before .before .before .args .t)) (now (c .before .before .before .before .args .work)) _ (c .before .before .loop .i) (c .before .before .loop .inv) (c .before .loop-test .left) (more-last (c .before .before .before .before .args .t) (c .before .before .before .before .args .m)) _ (ap (λ (r : Refusal). r .number) (c .refuse .ensures))
+returns-2 c = turns-end (c .before .before .before .before .args .a) (c .before .before .before .before .args .p) (c .before .before .before .before .args .rational) (c .before .before .before .before .args .n) (c .before .before .before .before .args .m) (replicate (c .before .before .before .before .args .m) (c .before .before .before .before .args .t)) (λ k. replicate (c .before .before .before .before .args .m - k) (c .before .before .before .before .args .t)) (now (c .before .before .before .before .args .work)) _ (c .before .before .loop .j) (c .before .before .loop .inv) (c .before .loop-test .left) (more-last (c .before .before .before .before .args .t) (c .before .before .before .before .args .m)) _ (ap (λ (r : Refusal). r .number) (c .refuse .ensures))
 
 pub insert-many-spec : {M : Type 1} → statement M
 insert-many-spec =
@@ -72,7 +72,7 @@ insert-many-spec =
     insert-one-requires
     same-length
     returns
-    add-i
+    add-j
     loop-less
     loop-again
     refuse-requires
