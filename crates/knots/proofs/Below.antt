@@ -38,6 +38,10 @@ module _ (f : ℕ → Bool) where
   unfolding allBelow
   all-more i a h = rw add-one (and-true (allBelow f i) (f i) a h)
 
+  pub all-step : (i : ℕ) (b c : Bool) → b ≡ allBelow f i → c ≡ f i → (b && c) ≡ allBelow f (i + 1)
+  unfolding allBelow
+  all-step i b c p q = rw add-one (ap (λ (x : Bool). x && c) p ∙ ap (λ (x : Bool). allBelow f i && x) q)
+
   pub all-fails : (n i : ℕ) → i < n → f i ≡ false → allBelow f n ≡ false
   unfolding allBelow
   all-fails zero i l h = absurd (not-suc-le-zero l)

@@ -19,14 +19,13 @@ pub fn is_weight(x: f64) -> bool
 pub fn all_weights(xs: &[f64]) -> bool
     ensures { λ r. ⌜ r ≡ allWeights (now (xs .entry)) ⌝ }
 {
+    let mut fine = true;
     let mut i = 0usize;
     while i < xs.len() {
-        if !is_weight(xs[i]) {
-            return false;
-        }
+        fine = fine & is_weight(xs[i]);
         i += 1;
     }
-    true
+    fine
 }
 
 // Refusals 8, 9, 10 of points and of the weights, where they are given.

@@ -12,14 +12,13 @@ ghost use Rattle.knots.specs.Knots.{allFinite, inOrder, ordered, apart, 
 pub fn all_finite(xs: &[f64]) -> bool
     ensures { λ r. ⌜ r ≡ allFinite (now (xs .entry)) ⌝ }
 {
+    let mut fine = true;
     let mut i = 0usize;
     while i < xs.len() {
-        if !is_finite(xs[i]) {
-            return false;
-        }
+        fine = fine & is_finite(xs[i]);
         i += 1;
     }
-    true
+    fine
 }
 
 // No number exceeds the next. -0.0 and 0.0 are one number.

@@ -1,64 +1,64 @@
 -- `knots::curve::all_weights` meets its contract: the numbers passed are weights.
 -- Assumes nothing.
 use Prim.Native.Nat.{_-_, _≤_}
-use mathlib.Core.Path.{_≡_, sym, _∙_}
-use mathlib.Core.Bool.{true}
+use mathlib.Core.Path.{_≡_, _∙_, ap}
 use native.Mathlib.Omega.{arith}
 use denote.Ref.{now}
 use lib.ListN.{length}
-use borrow.Author.Tests.{not-true, not-false}
 use borrow.Author.Needs.{needs}
 use Rattle.doubles.specs.Run.{at}
 use Rattle.knots.specs.Below.{allBelow}
 use Rattle.knots.specs.Curve.{isWeight, allWeights}
-use Rattle.knots.proofs.Below.{all-more, all-stops, all-end}
+use Rattle.knots.proofs.Below.{all-step}
 use Rattle.knots.proofs.curve.all_weights.Statement.{statement}
 use Rattle.knots.proofs.curve.all_weights.Tie as tie
 
 abbrev Inv-loop : tie.InvT-loop
-Inv-loop xs i₀ i = (i ≤ length xs) × (allBelow (λ k. isWeight (at xs k)) i ≡ true)
+Inv-loop xs fine₀ i₀ fine i = (i ≤ length xs) × (fine ≡ allBelow (λ k. isWeight (at xs k)) i)
 
 abbrev μ-loop : tie.MeasureT-loop
-μ-loop xs i₀ i = length xs - i
+μ-loop xs fine₀ i₀ fine i = length xs - i
 
+-- src/curve.rt:24:5
 loop-holds : tie.Need-loop-holds Inv-loop μ-loop
 unfolding allBelow
 loop-holds c = search needs
 
+-- src/curve.rt:25:33
 mul-is-weight : tie.Need-mul-is-weight Inv-loop μ-loop
 mul-is-weight c = search needs
 
+-- src/curve.rt:25:33
 shared-slice-read-is-weight : tie.Need-shared-slice-read-is-weight Inv-loop μ-loop
 shared-slice-read-is-weight c = search needs
 
+-- src/curve.rt:25:23
 is-weight-requires : tie.Need-is-weight-requires Inv-loop μ-loop
 is-weight-requires c κs = search needs
 
-returns : tie.Need-returns Inv-loop μ-loop
-unfolding allWeights
-returns c =
-    let at-loop = c .before .before .before .before in
-    let xs = now (at-loop .before .before .args .xs) in
-    all-stops (λ k. isWeight (at xs k)) (length xs) (at-loop .loop .i) (search needs) (sym (c .before .is-weight .ensures) ∙ not-true _ (c .if1 .taken))
-
+-- src/curve.rt:26:9
 add-i : tie.Need-add-i Inv-loop μ-loop
 add-i c = search needs
 
+-- src/curve.rt:24:5
 loop-less : tie.Need-loop-less Inv-loop μ-loop
 loop-less c = search needs
 
+-- src/curve.rt:24:5
 loop-again : tie.Need-loop-again Inv-loop μ-loop
 loop-again c =
-    let at-loop = c .before .before .before .before in
+    let at-loop = c .before .before .before in
     let xs = now (at-loop .before .before .args .xs) in
-    (omega arith, all-more (λ k. isWeight (at xs k)) (at-loop .loop .i) (at-loop .loop .inv .1) (sym (c .before .is-weight .ensures) ∙ not-false _ (c .if1 .left)))
+    (omega arith, all-step (λ k. isWeight (at xs k)) (at-loop .loop .i) _ _ (at-loop .loop .inv .1) (c .is-weight .ensures))
 
-returns-2 : tie.Need-returns-2 Inv-loop μ-loop
+-- src/curve.rt:19:1
+returns : tie.Need-returns Inv-loop μ-loop
 unfolding allWeights
-returns-2 c =
+returns c =
     let at-loop = c .before in
     let xs = now (at-loop .before .before .args .xs) in
-    all-end (λ k. isWeight (at xs k)) (length xs) (at-loop .loop .i) (omega arith) (at-loop .loop .inv .1)
+    let e : at-loop .loop .i ≡ length xs = omega arith in
+    at-loop .loop .inv .1 ∙ ap (allBelow (λ k. isWeight (at xs k))) e
 
 pub all-weights-spec : {M : Type 1} → statement M
 all-weights-spec =
@@ -70,8 +70,7 @@ all-weights-spec =
     mul-is-weight
     shared-slice-read-is-weight
     is-weight-requires
-    returns
     add-i
     loop-less
     loop-again
-    returns-2)
+    returns)
