@@ -27,14 +27,13 @@ fn in_order(xs: &[f64]) -> bool
     ensures { λ r. ⌜ r ≡ inOrder (now (xs .entry)) ⌝ }
 {
     let end = xs.len() - 1;
+    let mut fine = true;
     let mut i = 0usize;
     while i < end {
-        if xs[i] > xs[i + 1] {
-            return false;
-        }
+        fine = fine & !(xs[i] > xs[i + 1]);
         i += 1;
     }
-    true
+    fine
 }
 
 // What refusal 4 asks: every knot is finite, and none exceeds the next.
@@ -51,14 +50,13 @@ fn apart_by(xs: &[f64], gap: usize) -> bool
     ensures { λ r. ⌜ r ≡ apart gap (now (xs .entry)) ⌝ }
 {
     let end = xs.len() - gap;
+    let mut fine = true;
     let mut i = 0usize;
     while i < end {
-        if xs[i] >= xs[i + gap] {
-            return false;
-        }
+        fine = fine & !(xs[i] >= xs[i + gap]);
         i += 1;
     }
-    true
+    fine
 }
 
 // Refusals 4 to 7, of a run that is as long as it must be.

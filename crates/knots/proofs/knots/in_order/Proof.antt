@@ -1,73 +1,71 @@
--- `knots::knots::in_order` meets its contract: none of the numbers passed exceeds the next.
--- Assumes nothing.
 use Prim.Native.Nat.{_+_, _-_, _≤_}
-use mathlib.Core.Path.{_≡_, refl, ap}
-use mathlib.Core.Bool.{true, not}
+use mathlib.Core.Path.{_≡_, refl, _∙_, ap}
+use mathlib.Core.Bool.{not}
 use native.Mathlib.Omega.{arith}
 use denote.Ref.{now}
 use lib.ListN.{length}
-use lib.Ieee.{lt}
-use borrow.Author.Needs.{needs}
 use Rattle.doubles.specs.Run.{at}
 use Rattle.knots.specs.Below.{allBelow}
+use Rattle.knots.proofs.Below.{all-step}
+use borrow.Author.Needs.{needs}
+use lib.Ieee.{lt}
 use Rattle.knots.specs.Knots.{inOrder}
-use Rattle.knots.proofs.Below.{all-more, all-stops, all-end}
 use Rattle.knots.proofs.knots.in_order.Statement.{statement}
 use Rattle.knots.proofs.knots.in_order.Tie as tie
+use Rattle.knots.proofs.knots.in_order.Reads as reads
+use Rattle.knots.proofs.knots.in_order.Lts as lts
 
 abbrev Inv-loop : tie.InvT-loop
-Inv-loop xs end i₀ i = (i ≤ end) × (end ≡ length xs - 1) × (allBelow (λ k. not (lt (at xs (k + 1)) (at xs k))) i ≡ true)
+Inv-loop xs end fine₀ i₀ fine i = (i ≤ end) × (end ≡ length xs - 1) × (fine ≡ allBelow (λ k. not (lt (at xs (k + 1)) (at xs k))) i)
 
 abbrev μ-loop : tie.MeasureT-loop
-μ-loop xs end i₀ i = end - i
+μ-loop xs end fine₀ i₀ fine i = end - i
 
+-- src/knots.rt:29:15
 sub-end : tie.Need-sub-end Inv-loop μ-loop
 sub-end c = search needs
 
+-- src/knots.rt:32:5
 loop-holds : tie.Need-loop-holds Inv-loop μ-loop
 unfolding allBelow
 loop-holds c = search needs
 
-mul-if1 : tie.Need-mul-if1 Inv-loop μ-loop
-mul-if1 c = search needs
+-- src/knots.rt:33:25
+mul-fine : tie.Need-mul-fine Inv-loop μ-loop
+mul-fine c = search needs
 
-shared-slice-read-if1 : tie.Need-shared-slice-read-if1 Inv-loop μ-loop
-shared-slice-read-if1 c = search needs
+-- src/knots.rt:33:25
+shared-slice-read-fine : tie.Need-shared-slice-read-fine Inv-loop μ-loop
+shared-slice-read-fine c = search needs
 
-add-if1 : tie.Need-add-if1 Inv-loop μ-loop
-add-if1 c = search needs
+-- src/knots.rt:33:36
+add-fine : tie.Need-add-fine Inv-loop μ-loop
+add-fine c = search needs
 
-mul-if1-2 : tie.Need-mul-if1-2 Inv-loop μ-loop
-mul-if1-2 c = search needs
+-- src/knots.rt:33:33
+mul-fine-2 : tie.Need-mul-fine-2 Inv-loop μ-loop
+mul-fine-2 c = search needs
 
-shared-slice-read-if1-2 : tie.Need-shared-slice-read-if1-2 Inv-loop μ-loop
-shared-slice-read-if1-2 c = search needs
+-- src/knots.rt:33:33
+shared-slice-read-fine-2 : tie.Need-shared-slice-read-fine-2 Inv-loop μ-loop
+shared-slice-read-fine-2 c = search needs
 
-returns : tie.Need-returns Inv-loop μ-loop
-unfolding inOrder
-returns c =
-    let at-loop = c .before .before .before .before in
-    let xs = now (at-loop .before .args .xs) in
-    all-stops (λ k. not (lt (at xs (k + 1)) (at xs k))) (length xs - 1) (at-loop .loop .i) (c .before .before .before .loop-test .taken) (ap not (c .if1 .taken))
-
+-- src/knots.rt:34:9
 add-i : tie.Need-add-i Inv-loop μ-loop
 add-i c = search needs
 
+-- src/knots.rt:32:5
 loop-less : tie.Need-loop-less Inv-loop μ-loop
 loop-less c = search needs
 
+-- src/knots.rt:32:5
 loop-again : tie.Need-loop-again Inv-loop μ-loop
-loop-again c =
-    let at-loop = c .before .before .before .before in
-    let xs = now (at-loop .before .args .xs) in
-    (omega arith, refl, all-more (λ k. not (lt (at xs (k + 1)) (at xs k))) (at-loop .loop .i) (at-loop .loop .inv .2) (ap not (c .if1 .left)))
+loop-again c = let t = c .before .before .loop-test .taken in (omega arith, c .before .before .before .loop .inv .1, all-step (λ k. not (lt (at (now (c .before .before .before .before .args .xs)) (k + 1)) (at (now (c .before .before .before .before .args .xs)) k))) (c .before .before .before .loop .i) _ _ (c .before .before .before .loop .inv .2) refl)
 
-returns-2 : tie.Need-returns-2 Inv-loop μ-loop
+-- src/knots.rt:25:1
+returns : tie.Need-returns Inv-loop μ-loop
 unfolding inOrder
-returns-2 c =
-    let at-loop = c .before in
-    let xs = now (at-loop .before .args .xs) in
-    all-end (λ k. not (lt (at xs (k + 1)) (at xs k))) (length xs - 1) (at-loop .loop .i) (omega arith) (at-loop .loop .inv .2)
+returns c = let t = c .loop-test .left in let u = c .before .loop .inv .0 in let v = c .before .loop .inv .1 in let e : c .before .loop .i ≡ length (now (c .before .before .args .xs)) - 1 = omega arith in c .before .loop .inv .2 ∙ ap (allBelow (λ k. not (lt (at (now (c .before .before .args .xs)) (k + 1)) (at (now (c .before .before .args .xs)) k)))) e
 
 pub in-order-spec : {M : Type 1} → statement M
 in-order-spec =
@@ -77,13 +75,12 @@ in-order-spec =
     μ-loop
     sub-end
     loop-holds
-    mul-if1
-    shared-slice-read-if1
-    add-if1
-    mul-if1-2
-    shared-slice-read-if1-2
-    returns
+    mul-fine
+    shared-slice-read-fine
+    add-fine
+    mul-fine-2
+    shared-slice-read-fine-2
     add-i
     loop-less
     loop-again
-    returns-2)
+    returns)
