@@ -9,37 +9,29 @@ use Rattle.interval.proofs.divide.Lts as lts
 use Rattle.interval.proofs.Interval.mul.Reads as mul-reads
 use Rattle.interval.proofs.reciprocal.Reads as reciprocal-reads
 
--- src/lib.rt:237:11
 reciprocal-requires : tie.Need-reciprocal-requires
 reciprocal-requires c κs = search needs
 
--- src/lib.rt:238:22
 enum-known-r : tie.Need-enum-known-r
 enum-known-r c = search needs
 
--- src/lib.rt:238:41
 mul-requires : tie.Need-mul-requires
 mul-requires c κs = search needs
 
--- src/lib.rt:239:32
 enum-told : tie.Need-enum-told
 enum-told c = search needs
 
--- src/lib.rt:240:32
 enum-told-2 : tie.Need-enum-told-2
 enum-told-2 c = search needs
 
--- src/lib.rt:234:1
 returns : tie.Need-returns
 unfolding divideOf
 returns c = ap Is (c .mul .ensures) ∙ ap (timesBy (c .before .before .before .before .before .args .a)) (sym (c .before .before .r .given .1) ∙ c .before .before .before .before .reciprocal .ensures)
 
--- src/lib.rt:234:1
 returns-2 : tie.Need-returns-2
 unfolding divideOf
 returns-2 c = ap (timesBy (c .before .before .before .args .a)) (sym (c .enum-told .given .1) ∙ c .before .before .reciprocal .ensures)
 
--- src/lib.rt:234:1
 returns-3 : tie.Need-returns-3
 unfolding divideOf
 returns-3 c = ap (timesBy (c .before .before .before .args .a)) (sym (c .enum-told2 .given .1) ∙ c .before .before .reciprocal .ensures)

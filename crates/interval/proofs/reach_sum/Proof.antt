@@ -11,23 +11,18 @@ use Rattle.interval.proofs.float.infinity.Reads as infinity-reads
 use Rattle.interval.proofs.float.is_nan.Reads as is-nan-reads
 use Rattle.interval.proofs.step.above.Reads as above-reads
 
--- src/lib.rt:249:8
 is-nan-requires : tie.Need-is-nan-requires
 is-nan-requires c κs = search needs
 
--- src/lib.rt:250:9
 infinity-requires : tie.Need-infinity-requires
 infinity-requires c κs = search needs
 
--- src/lib.rt:250:9
 returns : tie.Need-returns
 returns c = rw (ap (λ (i : Interval). i .hi) (sum-box (c .before .before .before .args .a) (c .before .before .before .args .b)), ← (c .before .before .is-nan .ensures), c .before .if1 .taken) (c .infinity .ensures)
 
--- src/lib.rt:252:5
 above-requires : tie.Need-above-requires
 above-requires c κs = sym (c .before .is-nan .ensures) ∙ c .if1 .left
 
--- src/lib.rt:245:1
 returns-2 : tie.Need-returns-2
 returns-2 c = rw (ap (λ (i : Interval). i .hi) (sum-box (c .before .before .before .args .a) (c .before .before .before .args .b)), ← (c .before .before .is-nan .ensures), c .before .if1 .left) (c .above .ensures)
 

@@ -17,86 +17,66 @@ use Rattle.interval.proofs.float.max.Reads as max-reads
 use Rattle.interval.proofs.float.min.Reads as min-reads
 use Rattle.interval.proofs.reciprocal.Reads as reciprocal-reads
 
--- src/cartesian.rt:43:18
 lo-requires : tie.Need-lo-requires
 lo-requires c κs = search needs
 
--- src/cartesian.rt:43:28
 lo-requires-2 : tie.Need-lo-requires-2
 lo-requires-2 c κs = search needs
 
--- src/cartesian.rt:43:9
 max-requires : tie.Need-max-requires
 max-requires c κs = search needs
 
--- src/cartesian.rt:44:18
 hi-requires : tie.Need-hi-requires
 hi-requires c κs = search needs
 
--- src/cartesian.rt:44:28
 hi-requires-2 : tie.Need-hi-requires-2
 hi-requires-2 c κs = search needs
 
--- src/cartesian.rt:44:9
 min-requires : tie.Need-min-requires
 min-requires c κs = search needs
 
--- src/cartesian.rt:45:11
 new-requires : tie.Need-new-requires
 new-requires c κs = search needs
 
--- src/cartesian.rt:46:19
 enum-known-w : tie.Need-enum-known-w
 enum-known-w c = search needs
 
--- src/cartesian.rt:46:31
 reciprocal-requires : tie.Need-reciprocal-requires
 reciprocal-requires c κs = search needs
 
--- src/cartesian.rt:47:26
 enum-known-r : tie.Need-enum-known-r
 enum-known-r c = search needs
 
--- src/cartesian.rt:48:20
 coordinate-requires : tie.Need-coordinate-requires
 coordinate-requires c κs = search needs
 
--- src/cartesian.rt:49:20
 coordinate-requires-2 : tie.Need-coordinate-requires-2
 coordinate-requires-2 c κs = search needs
 
--- src/cartesian.rt:50:20
 coordinate-requires-3 : tie.Need-coordinate-requires-3
 coordinate-requires-3 c κs = search needs
 
--- src/cartesian.rt:52:36
 enum-told : tie.Need-enum-told
 enum-told c = search needs
 
--- src/cartesian.rt:53:36
 enum-told-2 : tie.Need-enum-told-2
 enum-told-2 c = search needs
 
--- src/cartesian.rt:55:25
 enum-told-3 : tie.Need-enum-told-3
 enum-told-3 c = search needs
 
--- src/cartesian.rt:38:1
 returns : tie.Need-returns
 unfolding cartesianOf
 returns c = rw (← (c .before .before .before .before .before .before .before .before .before .before .new .ensures ∙ ap₂ newOf (c .before .before .before .before .before .before .before .before .before .before .before .before .before .before .max .ensures ∙ ap₂ fmax (c .before .before .before .before .before .before .before .before .before .before .before .before .before .before .before .before .lo .ensures) (c .before .before .before .before .before .before .before .before .before .before .before .before .before .before .before .lo2 .ensures)) (c .before .before .before .before .before .before .before .before .before .before .before .min .ensures ∙ ap₂ fmin (c .before .before .before .before .before .before .before .before .before .before .before .before .before .hi .ensures) (c .before .before .before .before .before .before .before .before .before .before .before .before .hi2 .ensures))), c .before .before .before .before .before .before .before .before .w .given .1, ← (c .before .before .before .before .before .before .reciprocal .ensures), c .before .before .before .before .r .given .1, (c .coordinate3 .ensures), (c .before .coordinate2 .ensures), (c .before .before .coordinate .ensures))
 
--- src/cartesian.rt:38:1
 returns-2 : tie.Need-returns-2
 unfolding cartesianOf
 returns-2 c = rw (← (c .before .before .before .before .before .before .new .ensures ∙ ap₂ newOf (c .before .before .before .before .before .before .before .before .before .before .max .ensures ∙ ap₂ fmax (c .before .before .before .before .before .before .before .before .before .before .before .before .lo .ensures) (c .before .before .before .before .before .before .before .before .before .before .before .lo2 .ensures)) (c .before .before .before .before .before .before .before .min .ensures ∙ ap₂ fmin (c .before .before .before .before .before .before .before .before .before .hi .ensures) (c .before .before .before .before .before .before .before .before .hi2 .ensures))), c .before .before .before .before .w .given .1, ← (c .before .before .reciprocal .ensures), c .enum-told .given .1)
 
--- src/cartesian.rt:38:1
 returns-3 : tie.Need-returns-3
 unfolding cartesianOf
 returns-3 c = rw (← (c .before .before .before .before .before .before .new .ensures ∙ ap₂ newOf (c .before .before .before .before .before .before .before .before .before .before .max .ensures ∙ ap₂ fmax (c .before .before .before .before .before .before .before .before .before .before .before .before .lo .ensures) (c .before .before .before .before .before .before .before .before .before .before .before .lo2 .ensures)) (c .before .before .before .before .before .before .before .min .ensures ∙ ap₂ fmin (c .before .before .before .before .before .before .before .before .before .hi .ensures) (c .before .before .before .before .before .before .before .before .hi2 .ensures))), c .before .before .before .before .w .given .1, ← (c .before .before .reciprocal .ensures), c .enum-told2 .given .1)
 
--- src/cartesian.rt:38:1
 returns-4 : tie.Need-returns-4
 unfolding cartesianOf
 returns-4 c = rw (← (c .before .before .new .ensures ∙ ap₂ newOf (c .before .before .before .before .before .before .max .ensures ∙ ap₂ fmax (c .before .before .before .before .before .before .before .before .lo .ensures) (c .before .before .before .before .before .before .before .lo2 .ensures)) (c .before .before .before .min .ensures ∙ ap₂ fmin (c .before .before .before .before .before .hi .ensures) (c .before .before .before .before .hi2 .ensures))), c .enum-told3 .given .1)

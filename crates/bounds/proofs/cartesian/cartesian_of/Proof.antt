@@ -6,23 +6,18 @@ use Rattle.bounds.proofs.cartesian.cartesian_of.Reads as reads
 use Rattle.bounds.proofs.cartesian.cartesian_of.Lts as lts
 use Rattle.bounds.proofs.cartesian.cartesian.Reads as cartesian-reads
 
--- src/cartesian.rt:64:23
 enum-known-a : tie.Need-enum-known-a
 enum-known-a c = search needs
 
--- src/cartesian.rt:64:29
 cartesian-requires : tie.Need-cartesian-requires
 cartesian-requires c κs = search needs
 
--- src/cartesian.rt:65:28
 enum-known-a-2 : tie.Need-enum-known-a-2
 enum-known-a-2 c = search needs
 
--- src/cartesian.rt:60:1
 returns : tie.Need-returns
 returns c = rw (c .before .before .a .given .1, (c .cartesian .ensures))
 
--- src/cartesian.rt:60:1
 returns-2 : tie.Need-returns-2
 returns-2 c = rw (c .before .a2 .given .1)
 

@@ -10,43 +10,33 @@ use Rattle.interval.proofs.Interval.mul.Reads as mul-reads
 use Rattle.interval.proofs.Interval.point.Reads as point-reads
 use Rattle.interval.proofs.Interval.sub.Reads as sub-reads
 
--- src/cartesian.rt:30:9
 mul-requires : tie.Need-mul-requires
 mul-requires c κs = search needs
 
--- src/cartesian.rt:32:18
 point-requires : tie.Need-point-requires
 point-requires c κs = search needs
 
--- src/cartesian.rt:32:12
 add-requires : tie.Need-add-requires
 add-requires c κs = search needs
 
--- src/cartesian.rt:33:22
 mul-requires-2 : tie.Need-mul-requires-2
 mul-requires-2 c κs = search needs
 
--- src/cartesian.rt:33:13
 sub-requires : tie.Need-sub-requires
 sub-requires c κs = search needs
 
--- src/cartesian.rt:33:13
 mul-requires-3 : tie.Need-mul-requires-3
 mul-requires-3 c κs = search needs
 
--- src/cartesian.rt:34:22
 mul-requires-4 : tie.Need-mul-requires-4
 mul-requires-4 c κs = search needs
 
--- src/cartesian.rt:34:13
 sub-requires-2 : tie.Need-sub-requires-2
 sub-requires-2 c κs = search needs
 
--- src/cartesian.rt:34:13
 mul-requires-5 : tie.Need-mul-requires-5
 mul-requires-5 c κs = search needs
 
--- src/cartesian.rt:27:1
 returns : tie.Need-returns
 unfolding coordinateOf
 returns c = rw ((c .mul5 .ensures), (c .before .sub2 .ensures), (c .before .before .mul4 .ensures), (c .before .before .before .mul3 .ensures), (c .before .before .before .before .sub .ensures), (c .before .before .before .before .before .mul2 .ensures), (c .before .before .before .before .before .before .add .ensures), (c .before .before .before .before .before .before .before .point .ensures), (c .before .before .before .before .before .before .before .before .mul .ensures))

@@ -24,41 +24,32 @@ use Rattle.bounds.proofs.range.taken_span.Reads as taken-span-reads
 use Rattle.knots.proofs.curve.any_long.Reads as any-long-reads
 use Rattle.knots.proofs.refusal.refuse.Reads as refuse-reads
 
--- src/curve.rt:119:8
 any-long-requires : tie.Need-any-long-requires
 any-long-requires c κs = search needs
 
--- src/curve.rt:120:33
 refuse-requires : tie.Need-refuse-requires
 refuse-requires c κs = search needs
 
--- src/curve.rt:120:9
 returns : tie.Need-returns
 unfolding boundAt
 returns c = let a = c .before .before .before .before .before .before .args in step-both (a .degree) (a .span) (now (a .knots)) (now (a .points)) (now (a .weights)) (a .rational) (a .lo) (a .hi) _ (rw (← (c .before .before .any-long .ensures), c .before .if1 .taken) (ap Refused (c .refuse .ensures)))
 
--- src/curve.rt:123:9
 taken-span-requires : tie.Need-taken-span-requires
 taken-span-requires c κs = let a = c .before .before .before .before .before .args in short (now (a .knots)) (now (a .points)) (a .rational) (now (a .weights)) (sym (c .before .any-long .ensures) ∙ c .if1 .left) .points
 
--- src/curve.rt:124:9
 range-refusal-requires : tie.Need-range-refusal-requires
 range-refusal-requires c κs = search needs
 
--- src/curve.rt:126:9
 returns-2 : tie.Need-returns-2
 unfolding boundAt
 returns-2 c = let a = c .before .before .before .before .before .before .before .before .before .args in step-both (a .degree) (a .span) (now (a .knots)) (now (a .points)) (now (a .weights)) (a .rational) (a .lo) (a .hi) _ (rw (← (c .before .before .before .before .before .any-long .ensures), c .before .before .before .before .if1 .left, ← (c .before .before .before .taken-span .ensures), stop (c .before .before .range-refusal .ensures) (c .if2 .taken)) (ap Refused (c .before .before .range-refusal .ensures)))
 
--- src/curve.rt:128:15
 on-span-requires : tie.Need-on-span-requires
 on-span-requires c κs = let a = c .before .before .before .before .before .before .before .before .before .args in let v = taken-valid (a .degree) (a .span) (now (a .knots)) (now (a .points)) (a .rational) (now (a .weights)) (a .lo) (a .hi) (ap (λ (r : Refusal). r .number) (sym (c .before .before .range-refusal .ensures ∙ ap (λ (s : ℕ). rangeRefusal (a .degree) (countOf (now (a .points))) s (a .lo) (a .hi)) (c .before .before .before .taken-span .ensures))) ∙ c .if2 .left) in (v .valid .small, (v .has .first, (v .has .room, (omega (arith, v .has .last), (short (now (a .knots)) (now (a .points)) (a .rational) (now (a .weights)) (sym (c .before .before .before .before .before .any-long .ensures) ∙ c .before .before .before .before .if1 .left) .points, v .has .weights)))))
 
--- src/curve.rt:128:5
 answer-of-requires : tie.Need-answer-of-requires
 answer-of-requires c κs = search needs
 
--- src/curve.rt:106:1
 returns-3 : tie.Need-returns-3
 unfolding boundAt
 returns-3 c = let a = c .before .before .before .before .before .before .before .before .before .before .before .args in step-both (a .degree) (a .span) (now (a .knots)) (now (a .points)) (now (a .weights)) (a .rational) (a .lo) (a .hi) _ (rw (← (c .before .before .before .before .before .before .before .any-long .ensures), c .before .before .before .before .before .before .if1 .left, ← (c .before .before .before .before .before .taken-span .ensures), skip (c .before .before .before .before .range-refusal .ensures) (c .before .before .if2 .left)) (c .answer-of .ensures ∙ ap boundedOf (c .before .on-span .ensures)))

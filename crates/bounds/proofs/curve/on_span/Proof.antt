@@ -15,65 +15,50 @@ use Rattle.bounds.proofs.start.row_of.Reads as row-of-reads
 use Rattle.bounds.proofs.start.weights_of.Reads as weights-of-reads
 use Rattle.interval.proofs.Interval.new.Reads as new-reads
 
--- src/curve.rt:56:17
 sub-first : tie.Need-sub-first
 sub-first c = search needs
 
--- src/curve.rt:57:48
 add-weights-of : tie.Need-add-weights-of
 add-weights-of c = search needs
 
--- src/curve.rt:57:11
 weights-of-requires : tie.Need-weights-of-requires
 weights-of-requires c κs = (omega (arith, c .before .before .before .pre .1 .0, c .before .before .before .pre .1 .1 .1 .0, c .before .before .before .pre .1 .1 .1 .1 .0), λ r. omega (arith, c .before .before .before .pre .1 .0, c .before .before .before .pre .1 .1 .1 .1 .1 r))
 
--- src/curve.rt:58:22
 enum-known-scale : tie.Need-enum-known-scale
 enum-known-scale c = search needs
 
--- src/curve.rt:59:17
 point-at-requires : tie.Need-point-at-requires
 point-at-requires c κs = search needs
 
--- src/curve.rt:60:19
 new-requires : tie.Need-new-requires
 new-requires c κs = search needs
 
--- src/curve.rt:61:27
 enum-known-range : tie.Need-enum-known-range
 enum-known-range c = search needs
 
--- src/curve.rt:72:25
 parameter-requires : tie.Need-parameter-requires
 parameter-requires c κs = search needs
 
--- src/curve.rt:62:21
 row-of-requires : tie.Need-row-of-requires
 row-of-requires c κs = (c .before .before .before .before .before .before .before .before .before .before .before .before .before .pre .0, (c .before .before .before .before .before .before .before .before .before .before .before .before .before .pre .1 .0, (c .before .before .before .before .before .before .before .before .before .before .before .before .before .pre .1 .1 .0, (omega (arith, c .before .before .before .before .before .before .before .before .before .before .before .before .before .pre .1 .0, c .before .before .before .before .before .before .before .before .before .before .before .before .before .pre .1 .1 .1 .0), λ r. omega (arith, c .before .before .before .before .before .before .before .before .before .before .before .before .before .pre .1 .0, c .before .before .before .before .before .before .before .before .before .before .before .before .before .pre .1 .1 .1 .1 .1 r)))))
 
--- src/curve.rt:61:37
 cartesian-of-requires : tie.Need-cartesian-of-requires
 cartesian-of-requires c κs = search needs
 
--- src/curve.rt:77:33
 enum-told : tie.Need-enum-told
 enum-told c = search needs
 
--- src/curve.rt:80:26
 enum-known-n : tie.Need-enum-known-n
 enum-known-n c = search needs
 
--- src/curve.rt:38:1
 returns : tie.Need-returns
 unfolding spanBound
 returns c = rw (← (c .before .before .before .before .before .before .before .before .before .before .before .weights-of .ensures), c .before .before .before .before .before .before .before .before .before .scale .given .1, ← (c .before .before .before .before .before .before .new .ensures), c .before .before .before .before .range .given .1, ← (c .before .before .parameter .ensures), ← (c .before .before .before .before .before .before .before .point-at .ensures), ← (c .before .row-of .ensures)) (c .cartesian-of .ensures)
 
--- src/curve.rt:38:1
 returns-2 : tie.Need-returns-2
 unfolding spanBound
 returns-2 c = rw (← (c .before .before .before .before .before .before .before .weights-of .ensures), c .before .before .before .before .before .scale .given .1, ← (c .before .before .new .ensures), c .enum-told .given .1)
 
--- src/curve.rt:38:1
 returns-3 : tie.Need-returns-3
 unfolding spanBound
 returns-3 c = rw (← (c .before .before .before .weights-of .ensures), c .before .n .given .1)

@@ -9,39 +9,30 @@ use Rattle.interval.proofs.Interval.reach.Reads as reach-reads
 use Rattle.interval.proofs.Interval.symmetric.Reads as symmetric-reads
 use Rattle.interval.proofs.reach_sum.Reads as reach-sum-reads
 
--- src/net.rt:89:23
 reach-requires : tie.Need-reach-requires
 reach-requires c κs = search needs
 
--- src/net.rt:89:36
 reach-requires-2 : tie.Need-reach-requires-2
 reach-requires-2 c κs = search needs
 
--- src/net.rt:89:9
 reach-sum-requires : tie.Need-reach-sum-requires
 reach-sum-requires c κs = search needs
 
--- src/net.rt:90:23
 reach-requires-3 : tie.Need-reach-requires-3
 reach-requires-3 c κs = search needs
 
--- src/net.rt:90:36
 reach-requires-4 : tie.Need-reach-requires-4
 reach-requires-4 c κs = search needs
 
--- src/net.rt:90:9
 reach-sum-requires-2 : tie.Need-reach-sum-requires-2
 reach-sum-requires-2 c κs = search needs
 
--- src/net.rt:91:25
 reach-sum-requires-3 : tie.Need-reach-sum-requires-3
 reach-sum-requires-3 c κs = search needs
 
--- src/net.rt:91:5
 symmetric-requires : tie.Need-symmetric-requires
 symmetric-requires c κs = search needs
 
--- src/net.rt:77:1
 returns : tie.Need-returns
 returns c = rw ((c .symmetric .ensures), (c .before .reach-sum3 .ensures), (c .before .before .reach-sum2 .ensures), (c .before .before .before .reach4 .ensures), (c .before .before .before .before .reach3 .ensures), (c .before .before .before .before .before .reach-sum .ensures), (c .before .before .before .before .before .before .reach2 .ensures), (c .before .before .before .before .before .before .before .reach .ensures)) (about-is (c .before .before .before .before .before .before .before .before .args .b) (c .before .before .before .before .before .before .before .before .args .bs) (c .before .before .before .before .before .before .before .before .args .a) (c .before .before .before .before .before .before .before .before .args .s) (c .before .before .before .before .before .before .before .before .args .c) (c .before .before .before .before .before .before .before .before .args .cs) (c .before .before .before .before .before .before .before .before .args .d) (c .before .before .before .before .before .before .before .before .args .t))
 

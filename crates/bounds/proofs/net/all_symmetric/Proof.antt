@@ -6,35 +6,27 @@ use Rattle.bounds.proofs.net.all_symmetric.Reads as reads
 use Rattle.bounds.proofs.net.all_symmetric.Lts as lts
 use Rattle.interval.proofs.Interval.is_symmetric.Reads as is-symmetric-reads
 
--- src/net.rt:61:8
 is-symmetric-requires : tie.Need-is-symmetric-requires
 is-symmetric-requires c κs = search needs
 
--- src/net.rt:62:12
 is-symmetric-requires-2 : tie.Need-is-symmetric-requires-2
 is-symmetric-requires-2 c κs = search needs
 
--- src/net.rt:63:16
 is-symmetric-requires-3 : tie.Need-is-symmetric-requires-3
 is-symmetric-requires-3 c κs = search needs
 
--- src/net.rt:64:17
 is-symmetric-requires-4 : tie.Need-is-symmetric-requires-4
 is-symmetric-requires-4 c κs = search needs
 
--- src/net.rt:58:1
 returns : tie.Need-returns
 returns c = rw (← (c .before .before .before .before .before .before .is-symmetric .ensures), c .before .before .before .before .before .if1 .taken, ← (c .before .before .before .before .is-symmetric2 .ensures), c .before .before .before .if2 .taken, ← (c .before .before .is-symmetric3 .ensures), c .before .if3 .taken) (c .is-symmetric4 .ensures)
 
--- src/net.rt:58:1
 returns-2 : tie.Need-returns-2
 returns-2 c = rw (← (c .before .before .before .before .before .is-symmetric .ensures), c .before .before .before .before .if1 .taken, ← (c .before .before .before .is-symmetric2 .ensures), c .before .before .if2 .taken, ← (c .before .is-symmetric3 .ensures), c .if3 .left)
 
--- src/net.rt:58:1
 returns-3 : tie.Need-returns-3
 returns-3 c = rw (← (c .before .before .before .is-symmetric .ensures), c .before .before .if1 .taken, ← (c .before .is-symmetric2 .ensures), c .if2 .left)
 
--- src/net.rt:58:1
 returns-4 : tie.Need-returns-4
 returns-4 c = rw (← (c .before .is-symmetric .ensures), c .if1 .left)
 

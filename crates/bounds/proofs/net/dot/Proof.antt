@@ -7,19 +7,15 @@ use Rattle.bounds.proofs.net.dot.Lts as lts
 use Rattle.interval.proofs.Interval.add.Reads as add-reads
 use Rattle.interval.proofs.Interval.mul.Reads as mul-reads
 
--- src/net.rt:55:5
 mul-requires : tie.Need-mul-requires
 mul-requires c κs = search needs
 
--- src/net.rt:55:18
 mul-requires-2 : tie.Need-mul-requires-2
 mul-requires-2 c κs = search needs
 
--- src/net.rt:55:5
 add-requires : tie.Need-add-requires
 add-requires c κs = search needs
 
--- src/net.rt:52:1
 returns : tie.Need-returns
 returns c = rw ((c .add .ensures), (c .before .mul2 .ensures), (c .before .before .mul .ensures))
 

@@ -11,35 +11,27 @@ use Rattle.bounds.proofs.jet.Jet.sub.Reads as sub-reads
 use Rattle.bounds.proofs.net.mix_jet.Reads as mix-jet-reads
 use Rattle.interval.proofs.Interval.point.Reads as point-reads
 
--- src/net.rt:59:30
 point-requires : tie.Need-point-requires
 point-requires c κs = search needs
 
--- src/net.rt:59:16
 constant-requires : tie.Need-constant-requires
 constant-requires c κs = search needs
 
--- src/net.rt:59:9
 sub-requires : tie.Need-sub-requires
 sub-requires c κs = search needs
 
--- src/net.rt:61:12
 mix-jet-requires : tie.Need-mix-jet-requires
 mix-jet-requires c κs = search needs
 
--- src/net.rt:62:12
 mix-jet-requires-2 : tie.Need-mix-jet-requires-2
 mix-jet-requires-2 c κs = search needs
 
--- src/net.rt:63:12
 mix-jet-requires-3 : tie.Need-mix-jet-requires-3
 mix-jet-requires-3 c κs = search needs
 
--- src/net.rt:64:12
 mix-jet-requires-4 : tie.Need-mix-jet-requires-4
 mix-jet-requires-4 c κs = search needs
 
--- src/net.rt:56:1
 returns : tie.Need-returns
 unfolding mixOf mixJet ofBits
 returns c = rw ((c .mix-jet4 .ensures), (c .before .mix-jet3 .ensures), (c .before .before .mix-jet2 .ensures), (c .before .before .before .mix-jet .ensures), (c .before .before .before .before .sub .ensures), (c .before .before .before .before .before .constant .ensures), (c .before .before .before .before .before .before .point .ensures))

@@ -9,19 +9,15 @@ use Rattle.bounds.proofs.net.mix_jet.Lts as lts
 use Rattle.bounds.proofs.net.dot.Reads as dot-reads
 use Rattle.bounds.proofs.net.slope.Reads as slope-reads
 
--- src/net.rt:119:12
 dot-requires : tie.Need-dot-requires
 dot-requires c κs = search needs
 
--- src/net.rt:120:13
 slope-requires : tie.Need-slope-requires
 slope-requires c κs = search needs
 
--- src/net.rt:121:13
 slope-requires-2 : tie.Need-slope-requires-2
 slope-requires-2 c κs = search needs
 
--- src/net.rt:113:1
 returns : tie.Need-returns
 unfolding jetAdd jetMul slopeOf
 returns c = rw ((c .slope2 .ensures), (c .before .slope .ensures), (c .before .before .dot .ensures))

@@ -13,63 +13,48 @@ use Rattle.interval.proofs.Interval.add.Reads as add-reads
 use Rattle.interval.proofs.Interval.hi.Reads as hi-reads
 use Rattle.interval.proofs.Interval.mul.Reads as mul-reads
 
--- src/net.rt:117:8
 all-symmetric-requires : tie.Need-all-symmetric-requires
 all-symmetric-requires c κs = search needs
 
--- src/net.rt:118:30
 hi-requires : tie.Need-hi-requires
 hi-requires c κs = search needs
 
--- src/net.rt:118:42
 hi-requires-2 : tie.Need-hi-requires-2
 hi-requires-2 c κs = search needs
 
--- src/net.rt:118:54
 hi-requires-3 : tie.Need-hi-requires-3
 hi-requires-3 c κs = search needs
 
--- src/net.rt:118:66
 hi-requires-4 : tie.Need-hi-requires-4
 hi-requires-4 c κs = search needs
 
--- src/net.rt:118:9
 about-zero-requires : tie.Need-about-zero-requires
 about-zero-requires c κs = search needs
 
--- src/net.rt:118:9
 returns : tie.Need-returns
 returns c = rw ((c .about-zero .ensures), (c .before .hi4 .ensures), (c .before .before .hi3 .ensures), (c .before .before .before .hi2 .ensures), (c .before .before .before .before .hi .ensures)) (slope-is (c .before .before .before .before .before .before .before .args .b) (c .before .before .before .before .before .before .before .args .bd) (c .before .before .before .before .before .before .before .args .a) (c .before .before .before .before .before .before .before .args .ad) (c .before .before .before .before .before .before .before .args .c) (c .before .before .before .before .before .before .before .args .cd) (c .before .before .before .before .before .before .before .args .d) (c .before .before .before .before .before .before .before .args .dd) (sym (c .before .before .before .before .before .before .all-symmetric .ensures) ∙ c .before .before .before .before .before .if1 .taken))
 
--- src/net.rt:120:13
 mul-requires : tie.Need-mul-requires
 mul-requires c κs = search needs
 
--- src/net.rt:120:27
 times-requires : tie.Need-times-requires
 times-requires c κs = search needs
 
--- src/net.rt:120:9
 add-requires : tie.Need-add-requires
 add-requires c κs = search needs
 
--- src/net.rt:121:13
 mul-requires-2 : tie.Need-mul-requires-2
 mul-requires-2 c κs = search needs
 
--- src/net.rt:121:27
 times-requires-2 : tie.Need-times-requires-2
 times-requires-2 c κs = search needs
 
--- src/net.rt:121:9
 add-requires-2 : tie.Need-add-requires-2
 add-requires-2 c κs = search needs
 
--- src/net.rt:122:5
 add-requires-3 : tie.Need-add-requires-3
 add-requires-3 c κs = search needs
 
--- src/net.rt:105:1
 returns-2 : tie.Need-returns-2
 unfolding slopeOf
 returns-2 c = rw ((c .add3 .ensures), (c .before .add2 .ensures), (c .before .before .times2 .ensures), (c .before .before .before .mul2 .ensures), (c .before .before .before .before .add .ensures), (c .before .before .before .before .before .times .ensures), (c .before .before .before .before .before .before .mul .ensures))

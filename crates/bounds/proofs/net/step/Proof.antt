@@ -7,27 +7,21 @@ use Rattle.bounds.proofs.net.step.Lts as lts
 use Rattle.bounds.proofs.net.mix.Reads as mix-reads
 use Rattle.bounds.proofs.net.share_at.Reads as share-at-reads
 
--- src/net.rt:72:11
 share-at-requires : tie.Need-share-at-requires
 share-at-requires c κs = search needs
 
--- src/net.rt:73:23
 enum-known-alpha : tie.Need-enum-known-alpha
 enum-known-alpha c = search needs
 
--- src/net.rt:73:47
 mix-requires : tie.Need-mix-requires
 mix-requires c κs = search needs
 
--- src/net.rt:74:28
 enum-known-n : tie.Need-enum-known-n
 enum-known-n c = search needs
 
--- src/net.rt:69:1
 returns : tie.Need-returns
 returns c = rw (← (c .before .before .before .before .share-at .ensures), c .before .before .alpha .given .1, (c .mix .ensures))
 
--- src/net.rt:69:1
 returns-2 : tie.Need-returns-2
 returns-2 c = rw (← (c .before .before .before .share-at .ensures), c .before .n .given .1)
 

@@ -11,31 +11,24 @@ use Rattle.interval.proofs.Interval.mul.Reads as mul-reads
 use Rattle.interval.proofs.Interval.reach.Reads as reach-reads
 use Rattle.interval.proofs.Interval.symmetric.Reads as symmetric-reads
 
--- src/net.rt:98:8
 is-symmetric-requires : tie.Need-is-symmetric-requires
 is-symmetric-requires c κs = search needs
 
--- src/net.rt:99:44
 hi-requires : tie.Need-hi-requires
 hi-requires c κs = search needs
 
--- src/net.rt:99:36
 reach-requires : tie.Need-reach-requires
 reach-requires c κs = search needs
 
--- src/net.rt:99:9
 symmetric-requires : tie.Need-symmetric-requires
 symmetric-requires c κs = search needs
 
--- src/net.rt:99:9
 returns : tie.Need-returns
 returns c = rw ((c .symmetric .ensures), (c .before .reach .ensures), (c .before .before .hi .ensures)) (times-is (c .before .before .before .before .before .args .a) (c .before .before .before .before .before .args .d) (sym (c .before .before .before .before .is-symmetric .ensures) ∙ c .before .before .before .if1 .taken))
 
--- src/net.rt:101:5
 mul-requires : tie.Need-mul-requires
 mul-requires c κs = search needs
 
--- src/net.rt:95:1
 returns-2 : tie.Need-returns-2
 returns-2 c = c .mul .ensures
 

@@ -9,15 +9,12 @@ use Rattle.bounds.proofs.net.zero_control.Lts as lts
 use Rattle.bounds.proofs.jet.Jet.constant.Reads as constant-reads
 use Rattle.interval.proofs.Interval.point.Reads as point-reads
 
--- src/net.rt:27:30
 point-requires : tie.Need-point-requires
 point-requires c κs = search needs
 
--- src/net.rt:27:9
 constant-requires : tie.Need-constant-requires
 constant-requires c κs = search needs
 
--- src/net.rt:24:1
 returns : tie.Need-returns
 unfolding ofBits
 returns c = rw ((c .constant .ensures), (c .before .point .ensures))

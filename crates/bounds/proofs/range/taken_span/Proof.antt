@@ -11,25 +11,20 @@ use Rattle.bounds.proofs.range.taken_span.Lts as lts
 use Rattle.bounds.proofs.range.has_span.Reads as has-span-reads
 use Rattle.bounds.proofs.range.in_span.Reads as in-span-reads
 
--- src/range.rt:81:8
 has-span-requires : tie.Need-has-span-requires
 has-span-requires c κs = search needs
 
--- src/range.rt:82:12
 in-span-requires : tie.Need-in-span-requires
 in-span-requires c κs = let a = c .before .before .before .before .before .args in let h = has-span (a .degree) (a .s) (now (a .knots)) (now (a .points)) (a .rational) (now (a .weights)) (sym (c .before .has-span .ensures) ∙ c .if1 .taken) in omega (arith, h .degree, h .room)
 
--- src/range.rt:67:1
 returns : tie.Need-returns
 unfolding takenSpan
 returns c = rw (← (c .before .before .before .has-span .ensures), c .before .before .if1 .taken, ← (c .before .in-span .ensures), c .if2 .taken)
 
--- src/range.rt:67:1
 returns-2 : tie.Need-returns-2
 unfolding takenSpan
 returns-2 c = rw (← (c .before .before .before .has-span .ensures), c .before .before .if1 .taken, ← (c .before .in-span .ensures), c .if2 .left)
 
--- src/range.rt:67:1
 returns-3 : tie.Need-returns-3
 unfolding takenSpan
 returns-3 c = rw (← (c .before .has-span .ensures), c .if1 .left)

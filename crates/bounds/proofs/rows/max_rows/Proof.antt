@@ -20,40 +20,31 @@ Inv-loop rational weights row rows nv col cols most₀ m₀ most m = (m ≤ rows
 abbrev μ-loop : tie.MeasureT-loop
 μ-loop rational weights row rows nv col cols most₀ m₀ most m = rows - m
 
--- src/rows.rt:42:5
 loop-holds : tie.Need-loop-holds Inv-loop μ-loop
 unfolding maxRows ofBits
 loop-holds c = (omega arith, refl)
 
--- src/rows.rt:43:17
 add-i : tie.Need-add-i Inv-loop μ-loop
 add-i c = omega (arith, c .before .before .before .pre .few, c .loop-test .taken)
 
--- src/rows.rt:44:52
 mul-max-weight : tie.Need-mul-max-weight Inv-loop μ-loop
 mul-max-weight c = omega (arith, c .before .before .before .pre .small (c .before .loop .m) (c .loop-test .taken))
 
--- src/rows.rt:44:52
 add-max-weight : tie.Need-add-max-weight Inv-loop μ-loop
 add-max-weight c = omega (arith, c .before .before .before .pre .small (c .before .loop .m) (c .loop-test .taken))
 
--- src/rows.rt:44:9
 max-weight-requires : tie.Need-max-weight-requires Inv-loop μ-loop
 max-weight-requires c κs = (c .before .before .before .pre .small (c .before .loop .m) (c .loop-test .taken), λ r. c .before .before .before .pre .inside r (c .before .loop .m) (c .loop-test .taken))
 
--- src/rows.rt:45:9
 add-m : tie.Need-add-m Inv-loop μ-loop
 add-m c = omega (arith, c .before .before .before .before .pre .few, c .before .loop-test .taken)
 
--- src/rows.rt:42:5
 loop-less : tie.Need-loop-less Inv-loop μ-loop
 loop-less c = omega (arith, c .before .before .before .before .pre .few, c .before .loop-test .taken)
 
--- src/rows.rt:42:5
 loop-again : tie.Need-loop-again Inv-loop μ-loop
 loop-again c = let a = c .before .before .before .before .args in (omega (arith, c .before .loop-test .taken), c .max-weight .ensures ∙ ap (λ (x : Float). maxFrom x (λ (k : ℕ). weightAt (a .rational) (now (a .weights)) ((a .row + c .before .before .loop .m) * a .nv + a .col + k)) (a .cols)) (c .before .before .loop .inv .1) ∙ sym (max-rows-more (λ (i : ℕ) (j : ℕ). weightAt (a .rational) (now (a .weights)) ((a .row + i) * a .nv + a .col + j)) (a .cols) (c .before .before .loop .m)))
 
--- src/rows.rt:28:1
 returns : tie.Need-returns Inv-loop μ-loop
 returns c = let a = c .before .before .before .args in let i = c .before .loop .inv in let e : c .before .loop .m ≡ a .rows = omega (arith, i .0, c .loop-test .left) in i .1 ∙ ap (maxRows (λ (i : ℕ) (j : ℕ). weightAt (a .rational) (now (a .weights)) ((a .row + i) * a .nv + a .col + j)) (a .cols)) e
 

@@ -21,44 +21,34 @@ Inv-loop rational weights row rows nv col cols least₀ m₀ least m = (m ≤ ro
 abbrev μ-loop : tie.MeasureT-loop
 μ-loop rational weights row rows nv col cols least₀ m₀ least m = rows - m
 
--- src/rows.rt:62:9
 infinity-requires : tie.Need-infinity-requires Inv-loop μ-loop
 infinity-requires c κs = search needs
 
--- src/rows.rt:64:5
 loop-holds : tie.Need-loop-holds Inv-loop μ-loop
 unfolding minRows
 loop-holds c = (omega arith, c .infinity .ensures)
 
--- src/rows.rt:65:17
 add-i : tie.Need-add-i Inv-loop μ-loop
 add-i c = omega (arith, c .before .before .before .before .pre .few, c .loop-test .taken)
 
--- src/rows.rt:66:54
 mul-min-weight : tie.Need-mul-min-weight Inv-loop μ-loop
 mul-min-weight c = omega (arith, c .before .before .before .before .pre .small (c .before .loop .m) (c .loop-test .taken))
 
--- src/rows.rt:66:54
 add-min-weight : tie.Need-add-min-weight Inv-loop μ-loop
 add-min-weight c = omega (arith, c .before .before .before .before .pre .small (c .before .loop .m) (c .loop-test .taken))
 
--- src/rows.rt:66:9
 min-weight-requires : tie.Need-min-weight-requires Inv-loop μ-loop
 min-weight-requires c κs = (c .before .before .before .before .pre .small (c .before .loop .m) (c .loop-test .taken), λ r. c .before .before .before .before .pre .inside r (c .before .loop .m) (c .loop-test .taken))
 
--- src/rows.rt:67:9
 add-m : tie.Need-add-m Inv-loop μ-loop
 add-m c = omega (arith, c .before .before .before .before .before .pre .few, c .before .loop-test .taken)
 
--- src/rows.rt:64:5
 loop-less : tie.Need-loop-less Inv-loop μ-loop
 loop-less c = omega (arith, c .before .before .before .before .before .pre .few, c .before .loop-test .taken)
 
--- src/rows.rt:64:5
 loop-again : tie.Need-loop-again Inv-loop μ-loop
 loop-again c = let a = c .before .before .before .before .before .args in (omega (arith, c .before .loop-test .taken), c .min-weight .ensures ∙ ap (λ (x : Float). minFrom x (λ (k : ℕ). weightAt (a .rational) (now (a .weights)) ((a .row + c .before .before .loop .m) * a .nv + a .col + k)) (a .cols)) (c .before .before .loop .inv .1) ∙ sym (min-rows-more (λ (i : ℕ) (j : ℕ). weightAt (a .rational) (now (a .weights)) ((a .row + i) * a .nv + a .col + j)) (a .cols) (c .before .before .loop .m)))
 
--- src/rows.rt:50:1
 returns : tie.Need-returns Inv-loop μ-loop
 returns c = let a = c .before .before .before .before .args in let i = c .before .loop .inv in let e : c .before .loop .m ≡ a .rows = omega (arith, i .0, c .loop-test .left) in i .1 ∙ ap (minRows (λ (i : ℕ) (j : ℕ). weightAt (a .rational) (now (a .weights)) ((a .row + i) * a .nv + a .col + j)) (a .cols)) e
 

@@ -17,102 +17,78 @@ use Rattle.bounds.proofs.rows.weights_in.Reads as weights-in-reads
 use Rattle.bounds.proofs.start.point_at.Reads as point-at-reads
 use Rattle.interval.proofs.Interval.new.Reads as new-reads
 
--- src/rows.rt:189:15
 sub-row : tie.Need-sub-row
 sub-row c = omega (arith, c .before .before .before .before .pre .u-low)
 
--- src/rows.rt:190:15
 sub-col : tie.Need-sub-col
 sub-col c = omega (arith, c .before .before .before .before .pre .v-low)
 
--- src/rows.rt:191:46
 add-weights-in : tie.Need-add-weights-in
 add-weights-in c = omega (arith, c .before .before .before .before .pre .p-small)
 
--- src/rows.rt:191:62
 add-weights-in-2 : tie.Need-add-weights-in-2
 add-weights-in-2 c = omega (arith, c .before .before .before .before .pre .q-small)
 
--- src/rows.rt:191:11
 weights-in-requires : tie.Need-weights-in-requires
 weights-in-requires c κs = c .before .before .before .before .pre .fit
 
--- src/rows.rt:192:22
 enum-known-scale : tie.Need-enum-known-scale
 enum-known-scale c = search needs
 
--- src/rows.rt:192:45
 new-requires : tie.Need-new-requires
 new-requires c κs = search needs
 
--- src/rows.rt:193:23
 enum-known-iv : tie.Need-enum-known-iv
 enum-known-iv c = search needs
 
--- src/rows.rt:193:36
 new-requires-2 : tie.Need-new-requires-2
 new-requires-2 c κs = search needs
 
--- src/rows.rt:194:27
 enum-known-iu : tie.Need-enum-known-iu
 enum-known-iu c = search needs
 
--- src/rows.rt:195:46
 mul-point-at : tie.Need-mul-point-at
 mul-point-at c = let z : c .before .before .before .before .before .before .before .before .before .before .before .before .before .before .before .before .args .us - c .before .before .before .before .before .before .before .before .before .before .before .before .before .before .before .before .args .p + 0 ≡ c .before .before .before .before .before .before .before .before .before .before .before .before .before .before .before .before .args .us - c .before .before .before .before .before .before .before .before .before .before .before .before .before .before .before .before .args .p = omega arith in let h = subst (λ (i : ℕ). i * c .before .before .before .before .before .before .before .before .before .before .before .before .before .before .before .before .args .nv + (c .before .before .before .before .before .before .before .before .before .before .before .before .before .before .before .before .args .vs - c .before .before .before .before .before .before .before .before .before .before .before .before .before .before .before .before .args .q) + (c .before .before .before .before .before .before .before .before .before .before .before .before .before .before .before .before .args .q + 1) < 2097152) z (c .before .before .before .before .before .before .before .before .before .before .before .before .before .before .before .before .pre .fit .small 0 (omega arith)) in omega (arith, h)
 
--- src/rows.rt:195:46
 add-point-at : tie.Need-add-point-at
 add-point-at c = let z : c .before .before .before .before .before .before .before .before .before .before .before .before .before .before .before .before .args .us - c .before .before .before .before .before .before .before .before .before .before .before .before .before .before .before .before .args .p + 0 ≡ c .before .before .before .before .before .before .before .before .before .before .before .before .before .before .before .before .args .us - c .before .before .before .before .before .before .before .before .before .before .before .before .before .before .before .before .args .p = omega arith in let h = subst (λ (i : ℕ). i * c .before .before .before .before .before .before .before .before .before .before .before .before .before .before .before .before .args .nv + (c .before .before .before .before .before .before .before .before .before .before .before .before .before .before .before .before .args .vs - c .before .before .before .before .before .before .before .before .before .before .before .before .before .before .before .before .args .q) + (c .before .before .before .before .before .before .before .before .before .before .before .before .before .before .before .before .args .q + 1) < 2097152) z (c .before .before .before .before .before .before .before .before .before .before .before .before .before .before .before .before .pre .fit .small 0 (omega arith)) in omega (arith, h)
 
--- src/rows.rt:195:25
 point-at-requires : tie.Need-point-at-requires
 point-at-requires c κs = let z : c .before .before .before .before .before .before .before .before .before .before .before .before .before .before .before .before .args .us - c .before .before .before .before .before .before .before .before .before .before .before .before .before .before .before .before .args .p + 0 ≡ c .before .before .before .before .before .before .before .before .before .before .before .before .before .before .before .before .args .us - c .before .before .before .before .before .before .before .before .before .before .before .before .before .before .before .before .args .p = omega arith in let h = subst (λ (i : ℕ). (i * c .before .before .before .before .before .before .before .before .before .before .before .before .before .before .before .before .args .nv + (c .before .before .before .before .before .before .before .before .before .before .before .before .before .before .before .before .args .vs - c .before .before .before .before .before .before .before .before .before .before .before .before .before .before .before .before .args .q)) * 3 + (c .before .before .before .before .before .before .before .before .before .before .before .before .before .before .before .before .args .q + 1) * 3 ≤ length (now (c .before .before .before .before .before .before .before .before .before .before .before .before .before .before .before .before .args .points))) z (c .before .before .before .before .before .before .before .before .before .before .before .before .before .before .before .before .pre .inside 0 (omega arith)) in omega (arith, h)
 
--- src/rows.rt:196:25
 second-requires : tie.Need-second-requires
 second-requires c κs = search needs
 
--- src/rows.rt:197:25
 parameter-requires : tie.Need-parameter-requires
 parameter-requires c κs = search needs
 
--- src/rows.rt:199:25
 rows-of-requires : tie.Need-rows-of-requires
 rows-of-requires c κs = (c .before .before .before .before .before .before .before .before .before .before .before .before .before .before .before .before .before .before .before .pre .p-small, (c .before .before .before .before .before .before .before .before .before .before .before .before .before .before .before .before .before .before .before .pre .u-low, (c .before .before .before .before .before .before .before .before .before .before .before .before .before .before .before .before .before .before .before .pre .u-room, (c .before .before .before .before .before .before .before .before .before .before .before .before .before .before .before .before .before .before .before .pre .q-small, (c .before .before .before .before .before .before .before .before .before .before .before .before .before .before .before .before .before .before .before .pre .v-low, (c .before .before .before .before .before .before .before .before .before .before .before .before .before .before .before .before .before .before .before .pre .v-room, (c .before .before .before .before .before .before .before .before .before .before .before .before .before .before .before .before .before .before .before .pre .fit, c .before .before .before .before .before .before .before .before .before .before .before .before .before .before .before .before .before .before .before .pre .inside)))))))
 
--- src/rows.rt:198:21
 cartesian-of-requires : tie.Need-cartesian-of-requires
 cartesian-of-requires c κs = search needs
 
--- src/rows.rt:221:33
 enum-told : tie.Need-enum-told
 enum-told c = search needs
 
--- src/rows.rt:223:29
 enum-told-2 : tie.Need-enum-told-2
 enum-told-2 c = search needs
 
--- src/rows.rt:225:26
 enum-known-n : tie.Need-enum-known-n
 enum-known-n c = search needs
 
--- src/rows.rt:170:1
 returns : tie.Need-returns
 unfolding spansBound rowAt
 returns c = rw (← (c .before .before .before .before .before .before .before .before .before .before .before .before .before .before .before .before .weights-in .ensures), c .before .before .before .before .before .before .before .before .before .before .before .before .before .before .scale .given .1, ← (c .before .before .before .before .before .before .before .before .before .before .before .before .new .ensures), c .before .before .before .before .before .before .before .before .before .before .iv .given .1, ← (c .before .before .before .before .before .before .before .before .new2 .ensures), c .before .before .before .before .before .before .iu .given .1, ← (c .before .before .before .before .point-at .ensures), ← (c .before .before .before .second .ensures), ← (c .before .before .parameter .ensures), ← (c .before .rows-of .ensures)) (c .cartesian-of .ensures)
 
--- src/rows.rt:170:1
 returns-2 : tie.Need-returns-2
 unfolding spansBound rowAt
 returns-2 c = rw (← (c .before .before .before .before .before .before .before .before .before .before .weights-in .ensures), c .before .before .before .before .before .before .before .before .scale .given .1, ← (c .before .before .before .before .before .before .new .ensures), c .before .before .before .before .iv .given .1, ← (c .before .before .new2 .ensures), c .enum-told .given .1)
 
--- src/rows.rt:170:1
 returns-3 : tie.Need-returns-3
 unfolding spansBound rowAt
 returns-3 c = rw (← (c .before .before .before .before .before .before .weights-in .ensures), c .before .before .before .before .scale .given .1, ← (c .before .before .new .ensures), c .enum-told2 .given .1)
 
--- src/rows.rt:170:1
 returns-4 : tie.Need-returns-4
 unfolding spansBound rowAt
 returns-4 c = rw (← (c .before .before .before .weights-in .ensures), c .before .n .given .1)

@@ -26,182 +26,138 @@ Inv-loop2 points weights rational row nv col scale vk q vs uk p us u net₀ m le
 abbrev μ-loop2 : tie.MeasureT-loop2
 μ-loop2 points weights rational row nv col scale vk q vs uk p us u net₀ m level₀ j₀ net level j = (p + 1 - level) * 65 + j
 
--- src/rows.rt:101:20
 zero-control-requires : tie.Need-zero-control-requires Inv-loop μ-loop Inv-loop2 μ-loop2
 zero-control-requires c κs = search needs
 
--- src/rows.rt:103:5
 loop-holds : tie.Need-loop-holds Inv-loop μ-loop Inv-loop2 μ-loop2
 loop-holds c = fill-start (λ (i : ℕ). rowOf (now (c .before .before .before .before .before .args .points)) (now (c .before .before .before .before .before .args .weights)) (c .before .before .before .before .before .args .rational) ((c .before .before .before .before .before .args .row + i) * c .before .before .before .before .before .args .nv + c .before .before .before .before .before .args .col) (c .before .before .before .before .before .args .o) (c .before .before .before .before .before .args .scale) (now (c .before .before .before .before .before .args .vk)) (c .before .before .before .before .before .args .q) (c .before .before .before .before .before .args .vs) (c .before .before .before .before .before .args .v)) (c .before .before .before .before .before .args .p) _ refl
 
--- src/rows.rt:104:17
 add-i : tie.Need-add-i Inv-loop μ-loop Inv-loop2 μ-loop2
 add-i c = omega (arith, c .before .loop .inv .high, c .loop-test .taken, c .before .loop .inv .long, c .before .before .before .before .before .before .before .pre .0, c .before .before .before .before .before .before .before .pre .1 .1 .1 .1 .1 .1 .0 .few, c .before .before .before .before .before .before .before .pre .1 .1 .1 .1 .1 .1 .0 .small (c .before .loop .m) (omega (arith, c .loop-test .taken)))
 
--- src/rows.rt:105:20
 mul-base : tie.Need-mul-base Inv-loop μ-loop Inv-loop2 μ-loop2
 mul-base c = omega (arith, c .before .loop .inv .high, c .loop-test .taken, c .before .loop .inv .long, c .before .before .before .before .before .before .before .pre .0, c .before .before .before .before .before .before .before .pre .1 .1 .1 .1 .1 .1 .0 .few, c .before .before .before .before .before .before .before .pre .1 .1 .1 .1 .1 .1 .0 .small (c .before .loop .m) (omega (arith, c .loop-test .taken)))
 
--- src/rows.rt:105:20
 add-base : tie.Need-add-base Inv-loop μ-loop Inv-loop2 μ-loop2
 add-base c = omega (arith, c .before .loop .inv .high, c .loop-test .taken, c .before .loop .inv .long, c .before .before .before .before .before .before .before .pre .0, c .before .before .before .before .before .before .before .pre .1 .1 .1 .1 .1 .1 .0 .few, c .before .before .before .before .before .before .before .pre .1 .1 .1 .1 .1 .1 .0 .small (c .before .loop .m) (omega (arith, c .loop-test .taken)))
 
--- src/rows.rt:106:15
 row-of-requires : tie.Need-row-of-requires Inv-loop μ-loop Inv-loop2 μ-loop2
 row-of-requires c κs = (c .before .before .before .before .before .before .before .pre .1 .1 .1 .0, (c .before .before .before .before .before .before .before .pre .1 .1 .1 .1 .0, (c .before .before .before .before .before .before .before .pre .1 .1 .1 .1 .1 .0, (omega (arith, c .before .before .before .before .before .before .before .pre .1 .1 .1 .1 .1 .1 .1 (c .before .loop .m) (omega (arith, c .loop-test .taken))), λ x. omega (arith, c .before .before .before .before .before .before .before .pre .1 .1 .1 .1 .1 .1 .0 .inside x (c .before .loop .m) (omega (arith, c .loop-test .taken)))))))
 
--- src/rows.rt:107:27
 enum-known-c : tie.Need-enum-known-c Inv-loop μ-loop Inv-loop2 μ-loop2
 enum-known-c c = search needs
 
--- src/rows.rt:108:17
 mul-net : tie.Need-mul-net Inv-loop μ-loop Inv-loop2 μ-loop2
 mul-net c = omega (arith, c .before .before .before .before .before .loop .inv .high, c .before .before .before .before .loop-test .taken, c .before .before .before .before .before .loop .inv .long, c .before .before .before .before .before .before .before .before .before .before .before .pre .0, c .before .before .before .before .before .before .before .before .before .before .before .pre .1 .1 .1 .1 .1 .1 .0 .few, c .before .before .before .before .before .before .before .before .before .before .before .pre .1 .1 .1 .1 .1 .1 .0 .small (c .before .before .before .before .before .loop .m) (omega (arith, c .before .before .before .before .loop-test .taken)))
 
--- src/rows.rt:108:17
 array-set-from-net : tie.Need-array-set-from-net Inv-loop μ-loop Inv-loop2 μ-loop2
 array-set-from-net c = omega (arith, c .before .before .before .before .before .loop .inv .high, c .before .before .before .before .loop-test .taken, c .before .before .before .before .before .loop .inv .long, c .before .before .before .before .before .before .before .before .before .before .before .pre .0, c .before .before .before .before .before .before .before .before .before .before .before .pre .1 .1 .1 .1 .1 .1 .0 .few, c .before .before .before .before .before .before .before .before .before .before .before .pre .1 .1 .1 .1 .1 .1 .0 .small (c .before .before .before .before .before .loop .m) (omega (arith, c .before .before .before .before .loop-test .taken)))
 
--- src/rows.rt:110:32
 enum-known-n : tie.Need-enum-known-n Inv-loop μ-loop Inv-loop2 μ-loop2
 enum-known-n c = search needs
 
--- src/rows.rt:111:17
 returns : tie.Need-returns Inv-loop μ-loop Inv-loop2 μ-loop2
 returns c = fill-refused (λ (i : ℕ). rowOf (now (c .before .before .before .before .before .before .before .before .before .before .before .args .points)) (now (c .before .before .before .before .before .before .before .before .before .before .before .args .weights)) (c .before .before .before .before .before .before .before .before .before .before .before .args .rational) ((c .before .before .before .before .before .before .before .before .before .before .before .args .row + i) * c .before .before .before .before .before .before .before .before .before .before .before .args .nv + c .before .before .before .before .before .before .before .before .before .before .before .args .col) (c .before .before .before .before .before .before .before .before .before .before .before .args .o) (c .before .before .before .before .before .before .before .before .before .before .before .args .scale) (now (c .before .before .before .before .before .before .before .before .before .before .before .args .vk)) (c .before .before .before .before .before .before .before .before .before .before .before .args .q) (c .before .before .before .before .before .before .before .before .before .before .before .args .vs) (c .before .before .before .before .before .before .before .before .before .before .before .args .v)) (c .before .before .before .before .before .before .before .before .before .before .before .args .p) (now (c .before .before .before .before .before .before .before .before .before .before .before .args .uk)) (c .before .before .before .before .before .before .before .before .before .before .before .args .us) (c .before .before .before .before .before .before .before .before .before .before .before .args .u) (c .before .before .before .before .before .loop .net) (c .before .before .before .before .before .loop .m) (c .before .before .before .before .before .loop .inv) (c .before .before .before .before .loop-test .taken) _ (sym (c .before .before .before .row-of .ensures) ∙ c .before .n .given .1) (row-not-0 _ _ _ _ _ _ _ _ _ _ _ (sym (c .before .before .before .row-of .ensures) ∙ c .before .n .given .1))
 
--- src/rows.rt:114:9
 add-m : tie.Need-add-m Inv-loop μ-loop Inv-loop2 μ-loop2
 add-m c = omega (arith, c .before .before .before .before .before .loop .inv .high, c .before .before .before .before .loop-test .taken, c .before .before .before .before .before .loop .inv .long, c .before .before .before .before .before .before .before .before .before .before .before .pre .0, c .before .before .before .before .before .before .before .before .before .before .before .pre .1 .1 .1 .1 .1 .1 .0 .few, c .before .before .before .before .before .before .before .before .before .before .before .pre .1 .1 .1 .1 .1 .1 .0 .small (c .before .before .before .before .before .loop .m) (omega (arith, c .before .before .before .before .loop-test .taken)))
 
--- src/rows.rt:103:5
 loop-less : tie.Need-loop-less Inv-loop μ-loop Inv-loop2 μ-loop2
 loop-less c = omega (arith, c .before .before .before .before .before .loop .inv .high, c .before .before .before .before .loop-test .taken, c .before .before .before .before .before .loop .inv .long, c .before .before .before .before .before .before .before .before .before .before .before .pre .0, c .before .before .before .before .before .before .before .before .before .before .before .pre .1 .1 .1 .1 .1 .1 .0 .few, c .before .before .before .before .before .before .before .before .before .before .before .pre .1 .1 .1 .1 .1 .1 .0 .small (c .before .before .before .before .before .loop .m) (omega (arith, c .before .before .before .before .loop-test .taken)))
 
--- src/rows.rt:103:5
 loop-again : tie.Need-loop-again Inv-loop μ-loop Inv-loop2 μ-loop2
 loop-again c = fill-step (λ (i : ℕ). rowOf (now (c .before .before .before .before .before .before .before .before .before .before .before .args .points)) (now (c .before .before .before .before .before .before .before .before .before .before .before .args .weights)) (c .before .before .before .before .before .before .before .before .before .before .before .args .rational) ((c .before .before .before .before .before .before .before .before .before .before .before .args .row + i) * c .before .before .before .before .before .before .before .before .before .before .before .args .nv + c .before .before .before .before .before .before .before .before .before .before .before .args .col) (c .before .before .before .before .before .before .before .before .before .before .before .args .o) (c .before .before .before .before .before .before .before .before .before .before .before .args .scale) (now (c .before .before .before .before .before .before .before .before .before .before .before .args .vk)) (c .before .before .before .before .before .before .before .before .before .before .before .args .q) (c .before .before .before .before .before .before .before .before .before .before .before .args .vs) (c .before .before .before .before .before .before .before .before .before .before .before .args .v)) (c .before .before .before .before .before .before .before .before .before .before .before .args .p) (c .before .before .before .before .before .loop .net) (c .before .before .before .before .before .loop .m) (c .before .before .before .before .before .loop .inv) (c .before .before .before .before .loop-test .taken) (c .before .before .before .before .before .before .before .before .before .before .before .pre .0) _ (sym (c .before .before .before .row-of .ensures) ∙ c .before .c .given .1)
 
--- src/rows.rt:118:5
 loop2-holds : tie.Need-loop2-holds Inv-loop μ-loop Inv-loop2 μ-loop2
 loop2-holds c = steps-begin (now (c .before .before .before .before .before .before .before .args .uk)) (c .before .before .before .before .before .before .before .args .p) (c .before .before .before .before .before .before .before .args .us) (c .before .before .before .before .before .before .before .args .u) (c .before .loop .net) (c .before .loop .inv .long) (c .before .before .before .before .before .before .before .pre .0)
 
--- src/rows.rt:119:17
 sub-a : tie.Need-sub-a Inv-loop μ-loop Inv-loop2 μ-loop2
 sub-a c = omega (arith, c .before .loop2 .inv .high, c .before .loop2 .inv .low, c .before .loop2 .inv .top, c .before .loop2 .inv .inner (c .loop2-test .taken), c .before .before .before .before .before .before .before .before .before .pre .0, c .before .before .before .before .before .before .before .before .before .pre .1 .0, c .before .before .before .before .before .before .before .before .before .pre .1 .1 .0)
 
--- src/rows.rt:119:17
 add-a : tie.Need-add-a Inv-loop μ-loop Inv-loop2 μ-loop2
 add-a c = omega (arith, c .before .loop2 .inv .high, c .before .loop2 .inv .low, c .before .loop2 .inv .top, c .before .loop2 .inv .inner (c .loop2-test .taken), c .before .before .before .before .before .before .before .before .before .pre .0, c .before .before .before .before .before .before .before .before .before .pre .1 .0, c .before .before .before .before .before .before .before .before .before .pre .1 .1 .0, c .before .before .before .before .before .before .before .before .before .good .1 .1 .1 .1 .1 .1 .1 .1 .1 .1 .1 .1 .0 .1)
 
--- src/rows.rt:120:17
 add-b : tie.Need-add-b Inv-loop μ-loop Inv-loop2 μ-loop2
 add-b c = omega (arith, c .before .loop2 .inv .high, c .before .loop2 .inv .low, c .before .loop2 .inv .top, c .before .loop2 .inv .inner (c .loop2-test .taken), c .before .before .before .before .before .before .before .before .before .pre .0, c .before .before .before .before .before .before .before .before .before .pre .1 .0, c .before .before .before .before .before .before .before .before .before .pre .1 .1 .0, c .before .before .before .before .before .before .before .before .before .good .1 .1 .1 .1 .1 .1 .1 .1 .1 .1 .1 .1 .0 .1)
 
--- src/rows.rt:120:17
 sub-b : tie.Need-sub-b Inv-loop μ-loop Inv-loop2 μ-loop2
 sub-b c = omega (arith, c .before .loop2 .inv .high, c .before .loop2 .inv .low, c .before .loop2 .inv .top, c .before .loop2 .inv .inner (c .loop2-test .taken), c .before .before .before .before .before .before .before .before .before .pre .0, c .before .before .before .before .before .before .before .before .before .pre .1 .0, c .before .before .before .before .before .before .before .before .before .pre .1 .1 .0)
 
--- src/rows.rt:120:17
 add-b-2 : tie.Need-add-b-2 Inv-loop μ-loop Inv-loop2 μ-loop2
 add-b-2 c = omega (arith, c .before .loop2 .inv .high, c .before .loop2 .inv .low, c .before .loop2 .inv .top, c .before .loop2 .inv .inner (c .loop2-test .taken), c .before .before .before .before .before .before .before .before .before .pre .0, c .before .before .before .before .before .before .before .before .before .pre .1 .0, c .before .before .before .before .before .before .before .before .before .pre .1 .1 .0, c .before .before .before .before .before .before .before .before .before .good .1 .1 .1 .1 .1 .1 .1 .1 .1 .1 .1 .1 .0 .1)
 
--- src/rows.rt:121:17
 sub-k : tie.Need-sub-k Inv-loop μ-loop Inv-loop2 μ-loop2
 sub-k c = omega (arith, c .before .loop2 .inv .high, c .before .loop2 .inv .low, c .before .loop2 .inv .top, c .before .loop2 .inv .inner (c .loop2-test .taken), c .before .before .before .before .before .before .before .before .before .pre .0, c .before .before .before .before .before .before .before .before .before .pre .1 .0, c .before .before .before .before .before .before .before .before .before .pre .1 .1 .0)
 
--- src/rows.rt:122:23
 mul-step : tie.Need-mul-step Inv-loop μ-loop Inv-loop2 μ-loop2
 mul-step c = omega (arith, c .before .loop2 .inv .high, c .before .loop2 .inv .low, c .before .loop2 .inv .top, c .before .loop2 .inv .inner (c .loop2-test .taken), c .before .before .before .before .before .before .before .before .before .pre .0, c .before .before .before .before .before .before .before .before .before .pre .1 .0, c .before .before .before .before .before .before .before .before .before .pre .1 .1 .0, c .before .before .before .before .before .before .before .before .before .good .1 .1 .1 .1 .1 .1 .1 .1 .1 .1 .1 .1 .0 .1)
 
--- src/rows.rt:122:23
 shared-slice-read-step : tie.Need-shared-slice-read-step Inv-loop μ-loop Inv-loop2 μ-loop2
 shared-slice-read-step c = omega (arith, c .before .before .loop2 .inv .high, c .before .before .loop2 .inv .low, c .before .before .loop2 .inv .top, c .before .before .loop2 .inv .inner (c .before .loop2-test .taken), c .before .before .before .before .before .before .before .before .before .before .pre .0, c .before .before .before .before .before .before .before .before .before .before .pre .1 .0, c .before .before .before .before .before .before .before .before .before .before .pre .1 .1 .0)
 
--- src/rows.rt:122:30
 mul-step-2 : tie.Need-mul-step-2 Inv-loop μ-loop Inv-loop2 μ-loop2
 mul-step-2 c = omega (arith, c .before .before .loop2 .inv .high, c .before .before .loop2 .inv .low, c .before .before .loop2 .inv .top, c .before .before .loop2 .inv .inner (c .before .loop2-test .taken), c .before .before .before .before .before .before .before .before .before .before .pre .0, c .before .before .before .before .before .before .before .before .before .before .pre .1 .0, c .before .before .before .before .before .before .before .before .before .before .pre .1 .1 .0, c .before .before .before .before .before .before .before .before .before .before .good .1 .1 .1 .1 .1 .1 .1 .1 .1 .1 .1 .1 .0 .1)
 
--- src/rows.rt:122:30
 shared-slice-read-step-2 : tie.Need-shared-slice-read-step-2 Inv-loop μ-loop Inv-loop2 μ-loop2
 shared-slice-read-step-2 c = omega (arith, c .before .before .before .loop2 .inv .high, c .before .before .before .loop2 .inv .low, c .before .before .before .loop2 .inv .top, c .before .before .before .loop2 .inv .inner (c .before .before .loop2-test .taken), c .before .before .before .before .before .before .before .before .before .before .before .pre .0, c .before .before .before .before .before .before .before .before .before .before .before .pre .1 .0, c .before .before .before .before .before .before .before .before .before .before .before .pre .1 .1 .0)
 
--- src/rows.rt:122:37
 mul-step-3 : tie.Need-mul-step-3 Inv-loop μ-loop Inv-loop2 μ-loop2
 mul-step-3 c = omega (arith, c .before .before .before .loop2 .inv .long, c .before .before .before .loop2 .inv .high, c .before .before .before .loop2 .inv .low, c .before .before .before .loop2 .inv .top, c .before .before .before .loop2 .inv .inner (c .before .before .loop2-test .taken), c .before .before .before .before .before .before .before .before .before .before .before .pre .0, c .before .before .before .before .before .before .before .before .before .before .before .pre .1 .0, c .before .before .before .before .before .before .before .before .before .before .before .pre .1 .1 .0)
 
--- src/rows.rt:122:37
 array-copy-out-step : tie.Need-array-copy-out-step Inv-loop μ-loop Inv-loop2 μ-loop2
 array-copy-out-step c = omega (arith, c .before .before .before .loop2 .inv .long, c .before .before .before .loop2 .inv .high, c .before .before .before .loop2 .inv .low, c .before .before .before .loop2 .inv .top, c .before .before .before .loop2 .inv .inner (c .before .before .loop2-test .taken), c .before .before .before .before .before .before .before .before .before .before .before .pre .0, c .before .before .before .before .before .before .before .before .before .before .before .pre .1 .0, c .before .before .before .before .before .before .before .before .before .before .before .pre .1 .1 .0)
 
--- src/rows.rt:122:45
 mul-step-4 : tie.Need-mul-step-4 Inv-loop μ-loop Inv-loop2 μ-loop2
 mul-step-4 c = omega (arith, c .before .before .before .before .loop2 .inv .long, c .before .before .before .before .loop2 .inv .high, c .before .before .before .before .loop2 .inv .low, c .before .before .before .before .loop2 .inv .top, c .before .before .before .before .loop2 .inv .inner (c .before .before .before .loop2-test .taken), c .before .before .before .before .before .before .before .before .before .before .before .before .pre .0, c .before .before .before .before .before .before .before .before .before .before .before .before .pre .1 .0, c .before .before .before .before .before .before .before .before .before .before .before .before .pre .1 .1 .0)
 
--- src/rows.rt:122:45
 array-copy-out-step-2 : tie.Need-array-copy-out-step-2 Inv-loop μ-loop Inv-loop2 μ-loop2
 array-copy-out-step-2 c = omega (arith, c .before .before .before .before .loop2 .inv .long, c .before .before .before .before .loop2 .inv .high, c .before .before .before .before .loop2 .inv .low, c .before .before .before .before .loop2 .inv .top, c .before .before .before .before .loop2 .inv .inner (c .before .before .before .loop2-test .taken), c .before .before .before .before .before .before .before .before .before .before .before .before .pre .0, c .before .before .before .before .before .before .before .before .before .before .before .before .pre .1 .0, c .before .before .before .before .before .before .before .before .before .before .before .before .pre .1 .1 .0)
 
--- src/rows.rt:122:15
 step-requires : tie.Need-step-requires Inv-loop μ-loop Inv-loop2 μ-loop2
 step-requires c κs = search needs
 
--- src/rows.rt:123:27
 enum-known-c-2 : tie.Need-enum-known-c-2 Inv-loop μ-loop Inv-loop2 μ-loop2
 enum-known-c-2 c = search needs
 
--- src/rows.rt:124:17
 mul-net-2 : tie.Need-mul-net-2 Inv-loop μ-loop Inv-loop2 μ-loop2
 mul-net-2 c = omega (arith, c .before .before .before .before .before .before .before .before .before .loop2 .inv .long, c .before .before .before .before .before .before .before .before .before .loop2 .inv .high, c .before .before .before .before .before .before .before .before .before .loop2 .inv .low, c .before .before .before .before .before .before .before .before .before .loop2 .inv .top, c .before .before .before .before .before .before .before .before .before .loop2 .inv .inner (c .before .before .before .before .before .before .before .before .loop2-test .taken), c .before .before .before .before .before .before .before .before .before .before .before .before .before .before .before .before .before .pre .0, c .before .before .before .before .before .before .before .before .before .before .before .before .before .before .before .before .before .pre .1 .0, c .before .before .before .before .before .before .before .before .before .before .before .before .before .before .before .before .before .pre .1 .1 .0)
 
--- src/rows.rt:124:17
 array-set-from-net-2 : tie.Need-array-set-from-net-2 Inv-loop μ-loop Inv-loop2 μ-loop2
 array-set-from-net-2 c = omega (arith, c .before .before .before .before .before .before .before .before .before .loop2 .inv .long, c .before .before .before .before .before .before .before .before .before .loop2 .inv .high, c .before .before .before .before .before .before .before .before .before .loop2 .inv .low, c .before .before .before .before .before .before .before .before .before .loop2 .inv .top, c .before .before .before .before .before .before .before .before .before .loop2 .inv .inner (c .before .before .before .before .before .before .before .before .loop2-test .taken), c .before .before .before .before .before .before .before .before .before .before .before .before .before .before .before .before .before .pre .0, c .before .before .before .before .before .before .before .before .before .before .before .before .before .before .before .before .before .pre .1 .0, c .before .before .before .before .before .before .before .before .before .before .before .before .before .before .before .before .before .pre .1 .1 .0)
 
--- src/rows.rt:126:32
 enum-known-n-2 : tie.Need-enum-known-n-2 Inv-loop μ-loop Inv-loop2 μ-loop2
 enum-known-n-2 c = search needs
 
--- src/rows.rt:127:17
 returns-2 : tie.Need-returns-2 Inv-loop μ-loop Inv-loop2 μ-loop2
 unfolding shareAt
 returns-2 c = steps-refused (now (c .before .before .before .before .before .before .before .before .before .before .before .before .before .before .before .before .before .args .uk)) (c .before .before .before .before .before .before .before .before .before .before .before .before .before .before .before .before .before .args .p) (c .before .before .before .before .before .before .before .before .before .before .before .before .before .before .before .before .before .args .us) (c .before .before .before .before .before .before .before .before .before .before .before .before .before .before .before .before .before .args .u) (held (c .before .before .before .before .before .before .before .before .before .before .before .loop .net)) (c .before .before .before .before .before .before .before .before .before .loop2 .net) (c .before .before .before .before .before .before .before .before .before .loop2 .level) (c .before .before .before .before .before .before .before .before .before .loop2 .j) (c .before .before .before .before .before .before .before .before .before .loop2 .inv) (c .before .before .before .before .before .before .before .before .loop2-test .taken) _ _ _ (sym (c .before .before .before .step .ensures) ∙ c .before .n2 .given .1) ∙ held-filled (λ (i : ℕ). rowOf (now (c .before .before .before .before .before .before .before .before .before .before .before .before .before .before .before .before .before .args .points)) (now (c .before .before .before .before .before .before .before .before .before .before .before .before .before .before .before .before .before .args .weights)) (c .before .before .before .before .before .before .before .before .before .before .before .before .before .before .before .before .before .args .rational) ((c .before .before .before .before .before .before .before .before .before .before .before .before .before .before .before .before .before .args .row + i) * c .before .before .before .before .before .before .before .before .before .before .before .before .before .before .before .before .before .args .nv + c .before .before .before .before .before .before .before .before .before .before .before .before .before .before .before .before .before .args .col) (c .before .before .before .before .before .before .before .before .before .before .before .before .before .before .before .before .before .args .o) (c .before .before .before .before .before .before .before .before .before .before .before .before .before .before .before .before .before .args .scale) (now (c .before .before .before .before .before .before .before .before .before .before .before .before .before .before .before .before .before .args .vk)) (c .before .before .before .before .before .before .before .before .before .before .before .before .before .before .before .before .before .args .q) (c .before .before .before .before .before .before .before .before .before .before .before .before .before .before .before .before .before .args .vs) (c .before .before .before .before .before .before .before .before .before .before .before .before .before .before .before .before .before .args .v)) (now (c .before .before .before .before .before .before .before .before .before .before .before .before .before .before .before .before .before .args .uk)) (c .before .before .before .before .before .before .before .before .before .before .before .before .before .before .before .before .before .args .p) (c .before .before .before .before .before .before .before .before .before .before .before .before .before .before .before .before .before .args .us) (c .before .before .before .before .before .before .before .before .before .before .before .before .before .before .before .before .before .args .u) (c .before .before .before .before .before .before .before .before .before .before .before .loop .net) (c .before .before .before .before .before .before .before .before .before .before .before .loop .m) (c .before .before .before .before .before .before .before .before .before .before .before .loop .inv) (c .before .before .before .before .before .before .before .before .before .before .loop-test .left)
 
--- src/rows.rt:131:13
 sub-j : tie.Need-sub-j Inv-loop μ-loop Inv-loop2 μ-loop2
 sub-j c = omega (arith, c .before .before .before .before .before .before .before .before .before .before .loop2 .inv .high, c .before .before .before .before .before .before .before .before .before .before .loop2 .inv .low, c .before .before .before .before .before .before .before .before .before .before .loop2 .inv .top, c .before .before .before .before .before .before .before .before .before .before .loop2 .inv .inner (c .before .before .before .before .before .before .before .before .before .loop2-test .taken), c .before .before .before .before .before .before .before .before .before .before .before .before .before .before .before .before .before .before .pre .0, c .before .before .before .before .before .before .before .before .before .before .before .before .before .before .before .before .before .before .pre .1 .0, c .before .before .before .before .before .before .before .before .before .before .before .before .before .before .before .before .before .before .pre .1 .1 .0)
 
--- src/rows.rt:118:5
 loop2-less : tie.Need-loop2-less Inv-loop μ-loop Inv-loop2 μ-loop2
 loop2-less c = omega (arith, c .before .before .before .before .before .before .before .before .before .before .loop2 .inv .high, c .before .before .before .before .before .before .before .before .before .before .loop2 .inv .low, c .before .before .before .before .before .before .before .before .before .before .loop2 .inv .top, c .before .before .before .before .before .before .before .before .before .before .loop2 .inv .inner (c .before .before .before .before .before .before .before .before .before .loop2-test .taken), c .before .before .before .before .before .before .before .before .before .before .before .before .before .before .before .before .before .before .pre .0, c .before .before .before .before .before .before .before .before .before .before .before .before .before .before .before .before .before .before .pre .1 .0, c .before .before .before .before .before .before .before .before .before .before .before .before .before .before .before .before .before .before .pre .1 .1 .0, c .if1 .taken)
 
--- src/rows.rt:118:5
 loop2-again : tie.Need-loop2-again Inv-loop μ-loop Inv-loop2 μ-loop2
 unfolding shareAt
 loop2-again c = steps-down (now (c .before .before .before .before .before .before .before .before .before .before .before .before .before .before .before .before .before .before .args .uk)) (c .before .before .before .before .before .before .before .before .before .before .before .before .before .before .before .before .before .before .args .p) (c .before .before .before .before .before .before .before .before .before .before .before .before .before .before .before .before .before .before .args .us) (c .before .before .before .before .before .before .before .before .before .before .before .before .before .before .before .before .before .before .args .u) (held (c .before .before .before .before .before .before .before .before .before .before .before .before .loop .net)) (c .before .before .before .before .before .before .before .before .before .before .loop2 .net) (c .before .before .before .before .before .before .before .before .before .before .loop2 .level) (c .before .before .before .before .before .before .before .before .before .before .loop2 .j) (c .before .before .before .before .before .before .before .before .before .before .loop2 .inv) (c .before .before .before .before .before .before .before .before .before .loop2-test .taken) (c .before .before .before .before .before .before .before .before .before .before .before .before .before .before .before .before .before .before .pre .0) _ _ _ (λ d. getD-any (c .before .before .before .before .before .before .before .before .before .before .loop2 .net) (c .before .before .before .before .before .before .before .before .before .before .loop2 .j - 1) _ d (omega (arith, c .before .before .before .before .before .before .before .before .before .before .loop2 .inv .long, c .before .before .before .before .before .before .before .before .before .before .loop2 .inv .high, c .before .before .before .before .before .before .before .before .before .before .loop2 .inv .low, c .before .before .before .before .before .before .before .before .before .before .loop2 .inv .top, c .before .before .before .before .before .before .before .before .before .before .loop2 .inv .inner (c .before .before .before .before .before .before .before .before .before .loop2-test .taken), c .before .before .before .before .before .before .before .before .before .before .before .before .before .before .before .before .before .before .pre .0, c .before .before .before .before .before .before .before .before .before .before .before .before .before .before .before .before .before .before .pre .1 .0, c .before .before .before .before .before .before .before .before .before .before .before .before .before .before .before .before .before .before .pre .1 .1 .0))) (λ d. getD-any (c .before .before .before .before .before .before .before .before .before .before .loop2 .net) (c .before .before .before .before .before .before .before .before .before .before .loop2 .j) _ d (omega (arith, c .before .before .before .before .before .before .before .before .before .before .loop2 .inv .long, c .before .before .before .before .before .before .before .before .before .before .loop2 .inv .high, c .before .before .before .before .before .before .before .before .before .before .loop2 .inv .low, c .before .before .before .before .before .before .before .before .before .before .loop2 .inv .top, c .before .before .before .before .before .before .before .before .before .before .loop2 .inv .inner (c .before .before .before .before .before .before .before .before .before .loop2-test .taken), c .before .before .before .before .before .before .before .before .before .before .before .before .before .before .before .before .before .before .pre .0, c .before .before .before .before .before .before .before .before .before .before .before .before .before .before .before .before .before .before .pre .1 .0, c .before .before .before .before .before .before .before .before .before .before .before .before .before .before .before .before .before .before .pre .1 .1 .0))) (sym (c .before .before .before .before .step .ensures) ∙ c .before .before .c2 .given .1) (c .if1 .taken)
 
--- src/rows.rt:133:13
 add-level : tie.Need-add-level Inv-loop μ-loop Inv-loop2 μ-loop2
 add-level c = omega (arith, c .before .before .before .before .before .before .before .before .before .before .loop2 .inv .high, c .before .before .before .before .before .before .before .before .before .before .loop2 .inv .low, c .before .before .before .before .before .before .before .before .before .before .loop2 .inv .top, c .before .before .before .before .before .before .before .before .before .before .loop2 .inv .inner (c .before .before .before .before .before .before .before .before .before .loop2-test .taken), c .before .before .before .before .before .before .before .before .before .before .before .before .before .before .before .before .before .before .pre .0, c .before .before .before .before .before .before .before .before .before .before .before .before .before .before .before .before .before .before .pre .1 .0, c .before .before .before .before .before .before .before .before .before .before .before .before .before .before .before .before .before .before .pre .1 .1 .0, c .if1 .left)
 
--- src/rows.rt:118:5
 loop2-less-2 : tie.Need-loop2-less-2 Inv-loop μ-loop Inv-loop2 μ-loop2
 loop2-less-2 c = omega (arith, c .before .before .before .before .before .before .before .before .before .before .loop2 .inv .high, c .before .before .before .before .before .before .before .before .before .before .loop2 .inv .low, c .before .before .before .before .before .before .before .before .before .before .loop2 .inv .top, c .before .before .before .before .before .before .before .before .before .before .loop2 .inv .inner (c .before .before .before .before .before .before .before .before .before .loop2-test .taken), c .before .before .before .before .before .before .before .before .before .before .before .before .before .before .before .before .before .before .pre .0, c .before .before .before .before .before .before .before .before .before .before .before .before .before .before .before .before .before .before .pre .1 .0, c .before .before .before .before .before .before .before .before .before .before .before .before .before .before .before .before .before .before .pre .1 .1 .0, c .if1 .left)
 
--- src/rows.rt:118:5
 loop2-again-2 : tie.Need-loop2-again-2 Inv-loop μ-loop Inv-loop2 μ-loop2
 unfolding shareAt
 loop2-again-2 c = steps-up (now (c .before .before .before .before .before .before .before .before .before .before .before .before .before .before .before .before .before .before .args .uk)) (c .before .before .before .before .before .before .before .before .before .before .before .before .before .before .before .before .before .before .args .p) (c .before .before .before .before .before .before .before .before .before .before .before .before .before .before .before .before .before .before .args .us) (c .before .before .before .before .before .before .before .before .before .before .before .before .before .before .before .before .before .before .args .u) (held (c .before .before .before .before .before .before .before .before .before .before .before .before .loop .net)) (c .before .before .before .before .before .before .before .before .before .before .loop2 .net) (c .before .before .before .before .before .before .before .before .before .before .loop2 .level) (c .before .before .before .before .before .before .before .before .before .before .loop2 .j) (c .before .before .before .before .before .before .before .before .before .before .loop2 .inv) (c .before .before .before .before .before .before .before .before .before .loop2-test .taken) (c .before .before .before .before .before .before .before .before .before .before .before .before .before .before .before .before .before .before .pre .0) _ _ _ (λ d. getD-any (c .before .before .before .before .before .before .before .before .before .before .loop2 .net) (c .before .before .before .before .before .before .before .before .before .before .loop2 .j - 1) _ d (omega (arith, c .before .before .before .before .before .before .before .before .before .before .loop2 .inv .long, c .before .before .before .before .before .before .before .before .before .before .loop2 .inv .high, c .before .before .before .before .before .before .before .before .before .before .loop2 .inv .low, c .before .before .before .before .before .before .before .before .before .before .loop2 .inv .top, c .before .before .before .before .before .before .before .before .before .before .loop2 .inv .inner (c .before .before .before .before .before .before .before .before .before .loop2-test .taken), c .before .before .before .before .before .before .before .before .before .before .before .before .before .before .before .before .before .before .pre .0, c .before .before .before .before .before .before .before .before .before .before .before .before .before .before .before .before .before .before .pre .1 .0, c .before .before .before .before .before .before .before .before .before .before .before .before .before .before .before .before .before .before .pre .1 .1 .0))) (λ d. getD-any (c .before .before .before .before .before .before .before .before .before .before .loop2 .net) (c .before .before .before .before .before .before .before .before .before .before .loop2 .j) _ d (omega (arith, c .before .before .before .before .before .before .before .before .before .before .loop2 .inv .long, c .before .before .before .before .before .before .before .before .before .before .loop2 .inv .high, c .before .before .before .before .before .before .before .before .before .before .loop2 .inv .low, c .before .before .before .before .before .before .before .before .before .before .loop2 .inv .top, c .before .before .before .before .before .before .before .before .before .before .loop2 .inv .inner (c .before .before .before .before .before .before .before .before .before .loop2-test .taken), c .before .before .before .before .before .before .before .before .before .before .before .before .before .before .before .before .before .before .pre .0, c .before .before .before .before .before .before .before .before .before .before .before .before .before .before .before .before .before .before .pre .1 .0, c .before .before .before .before .before .before .before .before .before .before .before .before .before .before .before .before .before .before .pre .1 .1 .0))) (sym (c .before .before .before .before .step .ensures) ∙ c .before .before .c2 .given .1) (λ q. absurd (omega (arith, q, c .if1 .left)))
 
--- src/rows.rt:137:19
 mul-t56 : tie.Need-mul-t56 Inv-loop μ-loop Inv-loop2 μ-loop2
 mul-t56 c = omega (arith, c .before .loop2 .inv .long, c .before .before .before .before .before .before .before .before .before .pre .0)
 
--- src/rows.rt:137:19
 array-copy-out-t30 : tie.Need-array-copy-out-t30 Inv-loop μ-loop Inv-loop2 μ-loop2
 array-copy-out-t30 c = omega (arith, c .before .loop2 .inv .long, c .before .before .before .before .before .before .before .before .before .pre .0)
 
--- src/rows.rt:73:1
 returns-3 : tie.Need-returns-3 Inv-loop μ-loop Inv-loop2 μ-loop2
 returns-3 c = steps-end (now (c .before .before .before .before .before .before .before .before .before .before .args .uk)) (c .before .before .before .before .before .before .before .before .before .before .args .p) (c .before .before .before .before .before .before .before .before .before .before .args .us) (c .before .before .before .before .before .before .before .before .before .before .args .u) (held (c .before .before .before .before .loop .net)) (c .before .before .loop2 .net) (c .before .before .loop2 .level) (c .before .before .loop2 .j) (c .before .before .loop2 .inv) (c .before .loop2-test .left) zeroControl _ (getD-any (c .before .before .loop2 .net) (c .before .before .before .before .before .before .before .before .before .before .args .p) _ zeroControl (omega (arith, c .before .before .loop2 .inv .long, c .before .before .before .before .before .before .before .before .before .before .pre .0))) ∙ held-filled (λ (i : ℕ). rowOf (now (c .before .before .before .before .before .before .before .before .before .before .args .points)) (now (c .before .before .before .before .before .before .before .before .before .before .args .weights)) (c .before .before .before .before .before .before .before .before .before .before .args .rational) ((c .before .before .before .before .before .before .before .before .before .before .args .row + i) * c .before .before .before .before .before .before .before .before .before .before .args .nv + c .before .before .before .before .before .before .before .before .before .before .args .col) (c .before .before .before .before .before .before .before .before .before .before .args .o) (c .before .before .before .before .before .before .before .before .before .before .args .scale) (now (c .before .before .before .before .before .before .before .before .before .before .args .vk)) (c .before .before .before .before .before .before .before .before .before .before .args .q) (c .before .before .before .before .before .before .before .before .before .before .args .vs) (c .before .before .before .before .before .before .before .before .before .before .args .v)) (now (c .before .before .before .before .before .before .before .before .before .before .args .uk)) (c .before .before .before .before .before .before .before .before .before .before .args .p) (c .before .before .before .before .before .before .before .before .before .before .args .us) (c .before .before .before .before .before .before .before .before .before .before .args .u) (c .before .before .before .before .loop .net) (c .before .before .before .before .loop .m) (c .before .before .before .before .loop .inv) (c .before .before .before .loop-test .left)
 

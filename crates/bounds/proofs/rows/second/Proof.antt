@@ -8,15 +8,12 @@ use Rattle.bounds.proofs.rows.second.Reads as reads
 use Rattle.bounds.proofs.rows.second.Lts as lts
 use Rattle.interval.proofs.Interval.point.Reads as point-reads
 
--- src/rows.rt:146:13
 point-requires : tie.Need-point-requires
 point-requires c κs = search needs
 
--- src/rows.rt:147:13
 point-requires-2 : tie.Need-point-requires-2
 point-requires-2 c κs = search needs
 
--- src/rows.rt:141:1
 returns : tie.Need-returns
 unfolding secondOf ofBits
 returns c = rw ((c .point2 .ensures), (c .before .point .ensures))

@@ -11,19 +11,15 @@ use Rattle.bounds.proofs.rows.max_rows.Reads as max-rows-reads
 use Rattle.bounds.proofs.rows.min_rows.Reads as min-rows-reads
 use Rattle.bounds.proofs.start.range_of.Reads as range-of-reads
 
--- src/rows.rt:164:9
 max-rows-requires : tie.Need-max-rows-requires
 max-rows-requires c κs = c .before .pre
 
--- src/rows.rt:165:9
 min-rows-requires : tie.Need-min-rows-requires
 min-rows-requires c κs = c .before .before .pre
 
--- src/rows.rt:166:5
 range-of-requires : tie.Need-range-of-requires
 range-of-requires c κs = search needs
 
--- src/rows.rt:152:1
 returns : tie.Need-returns
 returns c = rw ((c .range-of .ensures), (c .before .min-rows .ensures), (c .before .before .max-rows .ensures))
 

@@ -10,31 +10,24 @@ use Rattle.bounds.proofs.start.moved.Reads as moved-reads
 use Rattle.interval.proofs.Interval.mul.Reads as mul-reads
 use Rattle.interval.proofs.Interval.point.Reads as point-reads
 
--- src/start.rt:107:13
 point-requires : tie.Need-point-requires
 point-requires c κs = search needs
 
--- src/start.rt:107:9
 mul-requires : tie.Need-mul-requires
 mul-requires c κs = search needs
 
--- src/start.rt:109:12
 moved-requires : tie.Need-moved-requires
 moved-requires c κs = search needs
 
--- src/start.rt:110:12
 moved-requires-2 : tie.Need-moved-requires-2
 moved-requires-2 c κs = search needs
 
--- src/start.rt:111:12
 moved-requires-3 : tie.Need-moved-requires-3
 moved-requires-3 c κs = search needs
 
--- src/start.rt:112:12
 constant-requires : tie.Need-constant-requires
 constant-requires c κs = search needs
 
--- src/start.rt:104:1
 returns : tie.Need-returns
 unfolding controlOf
 returns c = rw ((c .constant .ensures), (c .before .moved3 .ensures), (c .before .before .moved2 .ensures), (c .before .before .before .moved .ensures), (c .before .before .before .before .mul .ensures), (c .before .before .before .before .before .point .ensures))

@@ -20,36 +20,28 @@ Inv-loop best rational weights first count least₀ m₀ least m = (m ≤ count)
 abbrev μ-loop : tie.MeasureT-loop
 μ-loop best rational weights first count least₀ m₀ least m = count - m
 
--- src/start.rt:50:5
 loop-holds : tie.Need-loop-holds Inv-loop μ-loop
 unfolding minFrom
 loop-holds c = (omega arith, refl)
 
--- src/start.rt:51:57
 add-weight-at : tie.Need-add-weight-at Inv-loop μ-loop
 add-weight-at c = search needs
 
--- src/start.rt:51:28
 weight-at-requires : tie.Need-weight-at-requires Inv-loop μ-loop
 weight-at-requires c κs = λ r. let h = c .before .before .before .pre .1 r in omega arith
 
--- src/start.rt:51:9
 min-requires : tie.Need-min-requires Inv-loop μ-loop
 min-requires c κs = search needs
 
--- src/start.rt:52:9
 add-m : tie.Need-add-m Inv-loop μ-loop
 add-m c = search needs
 
--- src/start.rt:50:5
 loop-less : tie.Need-loop-less Inv-loop μ-loop
 loop-less c = search needs
 
--- src/start.rt:50:5
 loop-again : tie.Need-loop-again Inv-loop μ-loop
 loop-again c = let a = c .before .before .before .before .before .args in (omega arith, c .min .ensures ∙ ap₂ fmin (c .before .before .before .loop .inv .1) (c .before .weight-at .ensures) ∙ sym (min-more (a .best) (λ (k : ℕ). weightAt (a .rational) (now (a .weights)) (a .first + k)) (c .before .before .before .loop .m)))
 
--- src/start.rt:43:1
 returns : tie.Need-returns Inv-loop μ-loop
 returns c = let a = c .before .before .before .args in let i = c .before .loop .inv in let e : c .before .loop .m ≡ a .count = omega arith in i .1 ∙ ap (minFrom (a .best) (λ (k : ℕ). weightAt (a .rational) (now (a .weights)) (a .first + k))) e
 

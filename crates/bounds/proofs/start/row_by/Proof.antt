@@ -29,171 +29,130 @@ Inv-loop2 points weights rational base knots degree span t net₀ m level₀ j�
 abbrev μ-loop2 : tie.MeasureT-loop2
 μ-loop2 points weights rational base knots degree span t net₀ m level₀ j₀ net level j = (degree + 1 - level) * 65 + j
 
--- src/start.rt:148:20
 zero-control-requires : tie.Need-zero-control-requires Inv-loop μ-loop Inv-loop2 μ-loop2
 zero-control-requires c κs = search needs
 
--- src/start.rt:150:5
 loop-holds : tie.Need-loop-holds Inv-loop μ-loop Inv-loop2 μ-loop2
 loop-holds c = fill-start (λ (i : ℕ). N.Is ((startAt (now (c .before .before .before .before .args .points)) (now (c .before .before .before .before .args .weights)) (c .before .before .before .before .args .rational) (c .before .before .before .before .args .base) (c .before .before .before .before .args .o) (c .before .before .before .before .args .r)) i)) (c .before .before .before .before .args .degree) _ refl
 
--- src/start.rt:151:17
 add-i : tie.Need-add-i Inv-loop μ-loop Inv-loop2 μ-loop2
 add-i c = omega (arith, c .before .loop .inv .high, c .loop-test .taken, c .before .loop .inv .long, c .before .before .before .before .before .before .pre .0, c .before .before .before .before .before .before .pre .1 .1 .1 .0)
 
--- src/start.rt:152:26
 point-at-requires : tie.Need-point-at-requires Inv-loop μ-loop Inv-loop2 μ-loop2
 point-at-requires c κs = omega (arith, c .before .loop .inv .high, c .loop-test .taken, c .before .loop .inv .long, c .before .before .before .before .before .before .pre .0, c .before .before .before .before .before .before .pre .1 .1 .1 .0)
 
--- src/start.rt:152:50
 weight-at-requires : tie.Need-weight-at-requires Inv-loop μ-loop Inv-loop2 μ-loop2
 weight-at-requires c κs = λ x. omega (arith, c .before .before .before .before .before .before .before .pre .1 .1 .1 .1 x, c .before .loop-test .taken)
 
--- src/start.rt:152:18
 control-requires : tie.Need-control-requires Inv-loop μ-loop Inv-loop2 μ-loop2
 control-requires c κs = search needs
 
--- src/start.rt:152:9
 mul-net : tie.Need-mul-net Inv-loop μ-loop Inv-loop2 μ-loop2
 mul-net c = omega (arith, c .before .before .before .before .loop .inv .high, c .before .before .before .loop-test .taken, c .before .before .before .before .loop .inv .long, c .before .before .before .before .before .before .before .before .before .pre .0, c .before .before .before .before .before .before .before .before .before .pre .1 .1 .1 .0)
 
--- src/start.rt:152:9
 array-set-from-net : tie.Need-array-set-from-net Inv-loop μ-loop Inv-loop2 μ-loop2
 array-set-from-net c = omega (arith, c .before .before .before .before .loop .inv .high, c .before .before .before .loop-test .taken, c .before .before .before .before .loop .inv .long, c .before .before .before .before .before .before .before .before .before .pre .0, c .before .before .before .before .before .before .before .before .before .pre .1 .1 .1 .0)
 
--- src/start.rt:153:9
 add-m : tie.Need-add-m Inv-loop μ-loop Inv-loop2 μ-loop2
 add-m c = omega (arith, c .before .before .before .before .loop .inv .high, c .before .before .before .loop-test .taken, c .before .before .before .before .loop .inv .long, c .before .before .before .before .before .before .before .before .before .pre .0, c .before .before .before .before .before .before .before .before .before .pre .1 .1 .1 .0)
 
--- src/start.rt:150:5
 loop-less : tie.Need-loop-less Inv-loop μ-loop Inv-loop2 μ-loop2
 loop-less c = omega (arith, c .before .before .before .before .loop .inv .high, c .before .before .before .loop-test .taken, c .before .before .before .before .loop .inv .long, c .before .before .before .before .before .before .before .before .before .pre .0, c .before .before .before .before .before .before .before .before .before .pre .1 .1 .1 .0)
 
--- src/start.rt:150:5
 loop-again : tie.Need-loop-again Inv-loop μ-loop Inv-loop2 μ-loop2
 unfolding startAt
 loop-again c = fill-step (λ (i : ℕ). N.Is ((startAt (now (c .before .before .before .before .before .before .before .before .before .args .points)) (now (c .before .before .before .before .before .before .before .before .before .args .weights)) (c .before .before .before .before .before .before .before .before .before .args .rational) (c .before .before .before .before .before .before .before .before .before .args .base) (c .before .before .before .before .before .before .before .before .before .args .o) (c .before .before .before .before .before .before .before .before .before .args .r)) i)) (c .before .before .before .before .before .before .before .before .before .args .degree) (c .before .before .before .before .loop .net) (c .before .before .before .before .loop .m) (c .before .before .before .before .loop .inv) (c .before .before .before .loop-test .taken) (c .before .before .before .before .before .before .before .before .before .pre .0) _ (ap N.Is (sym (rw ((c .control .ensures), (c .before .weight-at .ensures), (c .before .before .point-at .ensures)))))
 
--- src/start.rt:157:5
 loop2-holds : tie.Need-loop2-holds Inv-loop μ-loop Inv-loop2 μ-loop2
 loop2-holds c = steps-begin (now (c .before .before .before .before .before .before .args .knots)) (c .before .before .before .before .before .before .args .degree) (c .before .before .before .before .before .before .args .span) (c .before .before .before .before .before .before .args .t) (c .before .loop .net) (c .before .loop .inv .long) (c .before .before .before .before .before .before .pre .0)
 
--- src/start.rt:158:17
 sub-a : tie.Need-sub-a Inv-loop μ-loop Inv-loop2 μ-loop2
 sub-a c = omega (arith, c .before .loop2 .inv .high, c .before .loop2 .inv .low, c .before .loop2 .inv .top, c .before .loop2 .inv .inner (c .loop2-test .taken), c .before .before .before .before .before .before .before .before .pre .0, c .before .before .before .before .before .before .before .before .pre .1 .0, c .before .before .before .before .before .before .before .before .pre .1 .1 .0)
 
--- src/start.rt:158:17
 add-a : tie.Need-add-a Inv-loop μ-loop Inv-loop2 μ-loop2
 add-a c = omega (arith, c .before .loop2 .inv .high, c .before .loop2 .inv .low, c .before .loop2 .inv .top, c .before .loop2 .inv .inner (c .loop2-test .taken), c .before .before .before .before .before .before .before .before .pre .0, c .before .before .before .before .before .before .before .before .pre .1 .0, c .before .before .before .before .before .before .before .before .pre .1 .1 .0, c .before .before .before .before .before .before .before .before .good .1 .1 .1 .1 .1 .1 .0 .1)
 
--- src/start.rt:159:17
 add-b : tie.Need-add-b Inv-loop μ-loop Inv-loop2 μ-loop2
 add-b c = omega (arith, c .before .loop2 .inv .high, c .before .loop2 .inv .low, c .before .loop2 .inv .top, c .before .loop2 .inv .inner (c .loop2-test .taken), c .before .before .before .before .before .before .before .before .pre .0, c .before .before .before .before .before .before .before .before .pre .1 .0, c .before .before .before .before .before .before .before .before .pre .1 .1 .0, c .before .before .before .before .before .before .before .before .good .1 .1 .1 .1 .1 .1 .0 .1)
 
--- src/start.rt:159:17
 sub-b : tie.Need-sub-b Inv-loop μ-loop Inv-loop2 μ-loop2
 sub-b c = omega (arith, c .before .loop2 .inv .high, c .before .loop2 .inv .low, c .before .loop2 .inv .top, c .before .loop2 .inv .inner (c .loop2-test .taken), c .before .before .before .before .before .before .before .before .pre .0, c .before .before .before .before .before .before .before .before .pre .1 .0, c .before .before .before .before .before .before .before .before .pre .1 .1 .0)
 
--- src/start.rt:159:17
 add-b-2 : tie.Need-add-b-2 Inv-loop μ-loop Inv-loop2 μ-loop2
 add-b-2 c = omega (arith, c .before .loop2 .inv .high, c .before .loop2 .inv .low, c .before .loop2 .inv .top, c .before .loop2 .inv .inner (c .loop2-test .taken), c .before .before .before .before .before .before .before .before .pre .0, c .before .before .before .before .before .before .before .before .pre .1 .0, c .before .before .before .before .before .before .before .before .pre .1 .1 .0, c .before .before .before .before .before .before .before .before .good .1 .1 .1 .1 .1 .1 .0 .1)
 
--- src/start.rt:160:17
 sub-k : tie.Need-sub-k Inv-loop μ-loop Inv-loop2 μ-loop2
 sub-k c = omega (arith, c .before .loop2 .inv .high, c .before .loop2 .inv .low, c .before .loop2 .inv .top, c .before .loop2 .inv .inner (c .loop2-test .taken), c .before .before .before .before .before .before .before .before .pre .0, c .before .before .before .before .before .before .before .before .pre .1 .0, c .before .before .before .before .before .before .before .before .pre .1 .1 .0)
 
--- src/start.rt:161:23
 mul-step : tie.Need-mul-step Inv-loop μ-loop Inv-loop2 μ-loop2
 mul-step c = omega (arith, c .before .loop2 .inv .high, c .before .loop2 .inv .low, c .before .loop2 .inv .top, c .before .loop2 .inv .inner (c .loop2-test .taken), c .before .before .before .before .before .before .before .before .pre .0, c .before .before .before .before .before .before .before .before .pre .1 .0, c .before .before .before .before .before .before .before .before .pre .1 .1 .0, c .before .before .before .before .before .before .before .before .good .1 .1 .1 .1 .1 .1 .0 .1)
 
--- src/start.rt:161:23
 shared-slice-read-step : tie.Need-shared-slice-read-step Inv-loop μ-loop Inv-loop2 μ-loop2
 shared-slice-read-step c = omega (arith, c .before .before .loop2 .inv .high, c .before .before .loop2 .inv .low, c .before .before .loop2 .inv .top, c .before .before .loop2 .inv .inner (c .before .loop2-test .taken), c .before .before .before .before .before .before .before .before .before .pre .0, c .before .before .before .before .before .before .before .before .before .pre .1 .0, c .before .before .before .before .before .before .before .before .before .pre .1 .1 .0)
 
--- src/start.rt:161:33
 mul-step-2 : tie.Need-mul-step-2 Inv-loop μ-loop Inv-loop2 μ-loop2
 mul-step-2 c = omega (arith, c .before .before .loop2 .inv .high, c .before .before .loop2 .inv .low, c .before .before .loop2 .inv .top, c .before .before .loop2 .inv .inner (c .before .loop2-test .taken), c .before .before .before .before .before .before .before .before .before .pre .0, c .before .before .before .before .before .before .before .before .before .pre .1 .0, c .before .before .before .before .before .before .before .before .before .pre .1 .1 .0, c .before .before .before .before .before .before .before .before .before .good .1 .1 .1 .1 .1 .1 .0 .1)
 
--- src/start.rt:161:33
 shared-slice-read-step-2 : tie.Need-shared-slice-read-step-2 Inv-loop μ-loop Inv-loop2 μ-loop2
 shared-slice-read-step-2 c = omega (arith, c .before .before .before .loop2 .inv .high, c .before .before .before .loop2 .inv .low, c .before .before .before .loop2 .inv .top, c .before .before .before .loop2 .inv .inner (c .before .before .loop2-test .taken), c .before .before .before .before .before .before .before .before .before .before .pre .0, c .before .before .before .before .before .before .before .before .before .before .pre .1 .0, c .before .before .before .before .before .before .before .before .before .before .pre .1 .1 .0)
 
--- src/start.rt:161:43
 mul-step-3 : tie.Need-mul-step-3 Inv-loop μ-loop Inv-loop2 μ-loop2
 mul-step-3 c = omega (arith, c .before .before .before .loop2 .inv .long, c .before .before .before .loop2 .inv .high, c .before .before .before .loop2 .inv .low, c .before .before .before .loop2 .inv .top, c .before .before .before .loop2 .inv .inner (c .before .before .loop2-test .taken), c .before .before .before .before .before .before .before .before .before .before .pre .0, c .before .before .before .before .before .before .before .before .before .before .pre .1 .0, c .before .before .before .before .before .before .before .before .before .before .pre .1 .1 .0)
 
--- src/start.rt:161:43
 array-copy-out-step : tie.Need-array-copy-out-step Inv-loop μ-loop Inv-loop2 μ-loop2
 array-copy-out-step c = omega (arith, c .before .before .before .loop2 .inv .long, c .before .before .before .loop2 .inv .high, c .before .before .before .loop2 .inv .low, c .before .before .before .loop2 .inv .top, c .before .before .before .loop2 .inv .inner (c .before .before .loop2-test .taken), c .before .before .before .before .before .before .before .before .before .before .pre .0, c .before .before .before .before .before .before .before .before .before .before .pre .1 .0, c .before .before .before .before .before .before .before .before .before .before .pre .1 .1 .0)
 
--- src/start.rt:161:51
 mul-step-4 : tie.Need-mul-step-4 Inv-loop μ-loop Inv-loop2 μ-loop2
 mul-step-4 c = omega (arith, c .before .before .before .before .loop2 .inv .long, c .before .before .before .before .loop2 .inv .high, c .before .before .before .before .loop2 .inv .low, c .before .before .before .before .loop2 .inv .top, c .before .before .before .before .loop2 .inv .inner (c .before .before .before .loop2-test .taken), c .before .before .before .before .before .before .before .before .before .before .before .pre .0, c .before .before .before .before .before .before .before .before .before .before .before .pre .1 .0, c .before .before .before .before .before .before .before .before .before .before .before .pre .1 .1 .0)
 
--- src/start.rt:161:51
 array-copy-out-step-2 : tie.Need-array-copy-out-step-2 Inv-loop μ-loop Inv-loop2 μ-loop2
 array-copy-out-step-2 c = omega (arith, c .before .before .before .before .loop2 .inv .long, c .before .before .before .before .loop2 .inv .high, c .before .before .before .before .loop2 .inv .low, c .before .before .before .before .loop2 .inv .top, c .before .before .before .before .loop2 .inv .inner (c .before .before .before .loop2-test .taken), c .before .before .before .before .before .before .before .before .before .before .before .pre .0, c .before .before .before .before .before .before .before .before .before .before .before .pre .1 .0, c .before .before .before .before .before .before .before .before .before .before .before .pre .1 .1 .0)
 
--- src/start.rt:161:15
 step-requires : tie.Need-step-requires Inv-loop μ-loop Inv-loop2 μ-loop2
 step-requires c κs = search needs
 
--- src/start.rt:162:27
 enum-known-c : tie.Need-enum-known-c Inv-loop μ-loop Inv-loop2 μ-loop2
 enum-known-c c = search needs
 
--- src/start.rt:163:17
 mul-net-2 : tie.Need-mul-net-2 Inv-loop μ-loop Inv-loop2 μ-loop2
 mul-net-2 c = omega (arith, c .before .before .before .before .before .before .before .before .before .loop2 .inv .long, c .before .before .before .before .before .before .before .before .before .loop2 .inv .high, c .before .before .before .before .before .before .before .before .before .loop2 .inv .low, c .before .before .before .before .before .before .before .before .before .loop2 .inv .top, c .before .before .before .before .before .before .before .before .before .loop2 .inv .inner (c .before .before .before .before .before .before .before .before .loop2-test .taken), c .before .before .before .before .before .before .before .before .before .before .before .before .before .before .before .before .pre .0, c .before .before .before .before .before .before .before .before .before .before .before .before .before .before .before .before .pre .1 .0, c .before .before .before .before .before .before .before .before .before .before .before .before .before .before .before .before .pre .1 .1 .0)
 
--- src/start.rt:163:17
 array-set-from-net-2 : tie.Need-array-set-from-net-2 Inv-loop μ-loop Inv-loop2 μ-loop2
 array-set-from-net-2 c = omega (arith, c .before .before .before .before .before .before .before .before .before .loop2 .inv .long, c .before .before .before .before .before .before .before .before .before .loop2 .inv .high, c .before .before .before .before .before .before .before .before .before .loop2 .inv .low, c .before .before .before .before .before .before .before .before .before .loop2 .inv .top, c .before .before .before .before .before .before .before .before .before .loop2 .inv .inner (c .before .before .before .before .before .before .before .before .loop2-test .taken), c .before .before .before .before .before .before .before .before .before .before .before .before .before .before .before .before .pre .0, c .before .before .before .before .before .before .before .before .before .before .before .before .before .before .before .before .pre .1 .0, c .before .before .before .before .before .before .before .before .before .before .before .before .before .before .before .before .pre .1 .1 .0)
 
--- src/start.rt:165:32
 enum-known-n : tie.Need-enum-known-n Inv-loop μ-loop Inv-loop2 μ-loop2
 enum-known-n c = search needs
 
--- src/start.rt:166:17
 returns : tie.Need-returns Inv-loop μ-loop Inv-loop2 μ-loop2
 unfolding shareAt
 returns c = steps-refused (now (c .before .before .before .before .before .before .before .before .before .before .before .before .before .before .before .before .args .knots)) (c .before .before .before .before .before .before .before .before .before .before .before .before .before .before .before .before .args .degree) (c .before .before .before .before .before .before .before .before .before .before .before .before .before .before .before .before .args .span) (c .before .before .before .before .before .before .before .before .before .before .before .before .before .before .before .before .args .t) (held (c .before .before .before .before .before .before .before .before .before .before .before .loop .net)) (c .before .before .before .before .before .before .before .before .before .loop2 .net) (c .before .before .before .before .before .before .before .before .before .loop2 .level) (c .before .before .before .before .before .before .before .before .before .loop2 .j) (c .before .before .before .before .before .before .before .before .before .loop2 .inv) (c .before .before .before .before .before .before .before .before .loop2-test .taken) _ _ _ (sym (c .before .before .before .step .ensures) ∙ c .before .n .given .1) ∙ held-is (startAt (now (c .before .before .before .before .before .before .before .before .before .before .before .before .before .before .before .before .args .points)) (now (c .before .before .before .before .before .before .before .before .before .before .before .before .before .before .before .before .args .weights)) (c .before .before .before .before .before .before .before .before .before .before .before .before .before .before .before .before .args .rational) (c .before .before .before .before .before .before .before .before .before .before .before .before .before .before .before .before .args .base) (c .before .before .before .before .before .before .before .before .before .before .before .before .before .before .before .before .args .o) (c .before .before .before .before .before .before .before .before .before .before .before .before .before .before .before .before .args .r)) (now (c .before .before .before .before .before .before .before .before .before .before .before .before .before .before .before .before .args .knots)) (c .before .before .before .before .before .before .before .before .before .before .before .before .before .before .before .before .args .degree) (c .before .before .before .before .before .before .before .before .before .before .before .before .before .before .before .before .args .span) (c .before .before .before .before .before .before .before .before .before .before .before .before .before .before .before .before .args .t) (c .before .before .before .before .before .before .before .before .before .before .before .loop .net) (c .before .before .before .before .before .before .before .before .before .before .before .loop .m) (c .before .before .before .before .before .before .before .before .before .before .before .loop .inv) (c .before .before .before .before .before .before .before .before .before .before .loop-test .left)
 
--- src/start.rt:170:13
 sub-j : tie.Need-sub-j Inv-loop μ-loop Inv-loop2 μ-loop2
 sub-j c = omega (arith, c .before .before .before .before .before .before .before .before .before .before .loop2 .inv .high, c .before .before .before .before .before .before .before .before .before .before .loop2 .inv .low, c .before .before .before .before .before .before .before .before .before .before .loop2 .inv .top, c .before .before .before .before .before .before .before .before .before .before .loop2 .inv .inner (c .before .before .before .before .before .before .before .before .before .loop2-test .taken), c .before .before .before .before .before .before .before .before .before .before .before .before .before .before .before .before .before .pre .0, c .before .before .before .before .before .before .before .before .before .before .before .before .before .before .before .before .before .pre .1 .0, c .before .before .before .before .before .before .before .before .before .before .before .before .before .before .before .before .before .pre .1 .1 .0)
 
--- src/start.rt:157:5
 loop2-less : tie.Need-loop2-less Inv-loop μ-loop Inv-loop2 μ-loop2
 loop2-less c = omega (arith, c .before .before .before .before .before .before .before .before .before .before .loop2 .inv .high, c .before .before .before .before .before .before .before .before .before .before .loop2 .inv .low, c .before .before .before .before .before .before .before .before .before .before .loop2 .inv .top, c .before .before .before .before .before .before .before .before .before .before .loop2 .inv .inner (c .before .before .before .before .before .before .before .before .before .loop2-test .taken), c .before .before .before .before .before .before .before .before .before .before .before .before .before .before .before .before .before .pre .0, c .before .before .before .before .before .before .before .before .before .before .before .before .before .before .before .before .before .pre .1 .0, c .before .before .before .before .before .before .before .before .before .before .before .before .before .before .before .before .before .pre .1 .1 .0, c .if1 .taken)
 
--- src/start.rt:157:5
 loop2-again : tie.Need-loop2-again Inv-loop μ-loop Inv-loop2 μ-loop2
 unfolding shareAt
 loop2-again c = steps-down (now (c .before .before .before .before .before .before .before .before .before .before .before .before .before .before .before .before .before .args .knots)) (c .before .before .before .before .before .before .before .before .before .before .before .before .before .before .before .before .before .args .degree) (c .before .before .before .before .before .before .before .before .before .before .before .before .before .before .before .before .before .args .span) (c .before .before .before .before .before .before .before .before .before .before .before .before .before .before .before .before .before .args .t) (held (c .before .before .before .before .before .before .before .before .before .before .before .before .loop .net)) (c .before .before .before .before .before .before .before .before .before .before .loop2 .net) (c .before .before .before .before .before .before .before .before .before .before .loop2 .level) (c .before .before .before .before .before .before .before .before .before .before .loop2 .j) (c .before .before .before .before .before .before .before .before .before .before .loop2 .inv) (c .before .before .before .before .before .before .before .before .before .loop2-test .taken) (c .before .before .before .before .before .before .before .before .before .before .before .before .before .before .before .before .before .pre .0) _ _ _ (λ d. getD-any (c .before .before .before .before .before .before .before .before .before .before .loop2 .net) (c .before .before .before .before .before .before .before .before .before .before .loop2 .j - 1) _ d (omega (arith, c .before .before .before .before .before .before .before .before .before .before .loop2 .inv .long, c .before .before .before .before .before .before .before .before .before .before .loop2 .inv .high, c .before .before .before .before .before .before .before .before .before .before .loop2 .inv .low, c .before .before .before .before .before .before .before .before .before .before .loop2 .inv .top, c .before .before .before .before .before .before .before .before .before .before .loop2 .inv .inner (c .before .before .before .before .before .before .before .before .before .loop2-test .taken), c .before .before .before .before .before .before .before .before .before .before .before .before .before .before .before .before .before .pre .0, c .before .before .before .before .before .before .before .before .before .before .before .before .before .before .before .before .before .pre .1 .0, c .before .before .before .before .before .before .before .before .before .before .before .before .before .before .before .before .before .pre .1 .1 .0))) (λ d. getD-any (c .before .before .before .before .before .before .before .before .before .before .loop2 .net) (c .before .before .before .before .before .before .before .before .before .before .loop2 .j) _ d (omega (arith, c .before .before .before .before .before .before .before .before .before .before .loop2 .inv .long, c .before .before .before .before .before .before .before .before .before .before .loop2 .inv .high, c .before .before .before .before .before .before .before .before .before .before .loop2 .inv .low, c .before .before .before .before .before .before .before .before .before .before .loop2 .inv .top, c .before .before .before .before .before .before .before .before .before .before .loop2 .inv .inner (c .before .before .before .before .before .before .before .before .before .loop2-test .taken), c .before .before .before .before .before .before .before .before .before .before .before .before .before .before .before .before .before .pre .0, c .before .before .before .before .before .before .before .before .before .before .before .before .before .before .before .before .before .pre .1 .0, c .before .before .before .before .before .before .before .before .before .before .before .before .before .before .before .before .before .pre .1 .1 .0))) (sym (c .before .before .before .before .step .ensures) ∙ c .before .before .c .given .1) (c .if1 .taken)
 
--- src/start.rt:172:13
 add-level : tie.Need-add-level Inv-loop μ-loop Inv-loop2 μ-loop2
 add-level c = omega (arith, c .before .before .before .before .before .before .before .before .before .before .loop2 .inv .high, c .before .before .before .before .before .before .before .before .before .before .loop2 .inv .low, c .before .before .before .before .before .before .before .before .before .before .loop2 .inv .top, c .before .before .before .before .before .before .before .before .before .before .loop2 .inv .inner (c .before .before .before .before .before .before .before .before .before .loop2-test .taken), c .before .before .before .before .before .before .before .before .before .before .before .before .before .before .before .before .before .pre .0, c .before .before .before .before .before .before .before .before .before .before .before .before .before .before .before .before .before .pre .1 .0, c .before .before .before .before .before .before .before .before .before .before .before .before .before .before .before .before .before .pre .1 .1 .0, c .if1 .left)
 
--- src/start.rt:157:5
 loop2-less-2 : tie.Need-loop2-less-2 Inv-loop μ-loop Inv-loop2 μ-loop2
 loop2-less-2 c = omega (arith, c .before .before .before .before .before .before .before .before .before .before .loop2 .inv .high, c .before .before .before .before .before .before .before .before .before .before .loop2 .inv .low, c .before .before .before .before .before .before .before .before .before .before .loop2 .inv .top, c .before .before .before .before .before .before .before .before .before .before .loop2 .inv .inner (c .before .before .before .before .before .before .before .before .before .loop2-test .taken), c .before .before .before .before .before .before .before .before .before .before .before .before .before .before .before .before .before .pre .0, c .before .before .before .before .before .before .before .before .before .before .before .before .before .before .before .before .before .pre .1 .0, c .before .before .before .before .before .before .before .before .before .before .before .before .before .before .before .before .before .pre .1 .1 .0, c .if1 .left)
 
--- src/start.rt:157:5
 loop2-again-2 : tie.Need-loop2-again-2 Inv-loop μ-loop Inv-loop2 μ-loop2
 unfolding shareAt
 loop2-again-2 c = steps-up (now (c .before .before .before .before .before .before .before .before .before .before .before .before .before .before .before .before .before .args .knots)) (c .before .before .before .before .before .before .before .before .before .before .before .before .before .before .before .before .before .args .degree) (c .before .before .before .before .before .before .before .before .before .before .before .before .before .before .before .before .before .args .span) (c .before .before .before .before .before .before .before .before .before .before .before .before .before .before .before .before .before .args .t) (held (c .before .before .before .before .before .before .before .before .before .before .before .before .loop .net)) (c .before .before .before .before .before .before .before .before .before .before .loop2 .net) (c .before .before .before .before .before .before .before .before .before .before .loop2 .level) (c .before .before .before .before .before .before .before .before .before .before .loop2 .j) (c .before .before .before .before .before .before .before .before .before .before .loop2 .inv) (c .before .before .before .before .before .before .before .before .before .loop2-test .taken) (c .before .before .before .before .before .before .before .before .before .before .before .before .before .before .before .before .before .pre .0) _ _ _ (λ d. getD-any (c .before .before .before .before .before .before .before .before .before .before .loop2 .net) (c .before .before .before .before .before .before .before .before .before .before .loop2 .j - 1) _ d (omega (arith, c .before .before .before .before .before .before .before .before .before .before .loop2 .inv .long, c .before .before .before .before .before .before .before .before .before .before .loop2 .inv .high, c .before .before .before .before .before .before .before .before .before .before .loop2 .inv .low, c .before .before .before .before .before .before .before .before .before .before .loop2 .inv .top, c .before .before .before .before .before .before .before .before .before .before .loop2 .inv .inner (c .before .before .before .before .before .before .before .before .before .loop2-test .taken), c .before .before .before .before .before .before .before .before .before .before .before .before .before .before .before .before .before .pre .0, c .before .before .before .before .before .before .before .before .before .before .before .before .before .before .before .before .before .pre .1 .0, c .before .before .before .before .before .before .before .before .before .before .before .before .before .before .before .before .before .pre .1 .1 .0))) (λ d. getD-any (c .before .before .before .before .before .before .before .before .before .before .loop2 .net) (c .before .before .before .before .before .before .before .before .before .before .loop2 .j) _ d (omega (arith, c .before .before .before .before .before .before .before .before .before .before .loop2 .inv .long, c .before .before .before .before .before .before .before .before .before .before .loop2 .inv .high, c .before .before .before .before .before .before .before .before .before .before .loop2 .inv .low, c .before .before .before .before .before .before .before .before .before .before .loop2 .inv .top, c .before .before .before .before .before .before .before .before .before .before .loop2 .inv .inner (c .before .before .before .before .before .before .before .before .before .loop2-test .taken), c .before .before .before .before .before .before .before .before .before .before .before .before .before .before .before .before .before .pre .0, c .before .before .before .before .before .before .before .before .before .before .before .before .before .before .before .before .before .pre .1 .0, c .before .before .before .before .before .before .before .before .before .before .before .before .before .before .before .before .before .pre .1 .1 .0))) (sym (c .before .before .before .before .step .ensures) ∙ c .before .before .c .given .1) (λ q. absurd (omega (arith, q, c .if1 .left)))
 
--- src/start.rt:176:19
 mul-t48 : tie.Need-mul-t48 Inv-loop μ-loop Inv-loop2 μ-loop2
 mul-t48 c = omega (arith, c .before .loop2 .inv .long, c .before .before .before .before .before .before .before .before .pre .0)
 
--- src/start.rt:176:19
 array-copy-out-t21 : tie.Need-array-copy-out-t21 Inv-loop μ-loop Inv-loop2 μ-loop2
 array-copy-out-t21 c = omega (arith, c .before .loop2 .inv .long, c .before .before .before .before .before .before .before .before .pre .0)
 
--- src/start.rt:129:1
 returns-2 : tie.Need-returns-2 Inv-loop μ-loop Inv-loop2 μ-loop2
 returns-2 c = steps-end (now (c .before .before .before .before .before .before .before .before .before .args .knots)) (c .before .before .before .before .before .before .before .before .before .args .degree) (c .before .before .before .before .before .before .before .before .before .args .span) (c .before .before .before .before .before .before .before .before .before .args .t) (held (c .before .before .before .before .loop .net)) (c .before .before .loop2 .net) (c .before .before .loop2 .level) (c .before .before .loop2 .j) (c .before .before .loop2 .inv) (c .before .loop2-test .left) zeroControl _ (getD-any (c .before .before .loop2 .net) (c .before .before .before .before .before .before .before .before .before .args .degree) _ zeroControl (omega (arith, c .before .before .loop2 .inv .long, c .before .before .before .before .before .before .before .before .before .pre .0))) ∙ held-is (startAt (now (c .before .before .before .before .before .before .before .before .before .args .points)) (now (c .before .before .before .before .before .before .before .before .before .args .weights)) (c .before .before .before .before .before .before .before .before .before .args .rational) (c .before .before .before .before .before .before .before .before .before .args .base) (c .before .before .before .before .before .before .before .before .before .args .o) (c .before .before .before .before .before .before .before .before .before .args .r)) (now (c .before .before .before .before .before .before .before .before .before .args .knots)) (c .before .before .before .before .before .before .before .before .before .args .degree) (c .before .before .before .before .before .before .before .before .before .args .span) (c .before .before .before .before .before .before .before .before .before .args .t) (c .before .before .before .before .loop .net) (c .before .before .before .before .loop .m) (c .before .before .before .before .loop .inv) (c .before .before .before .loop-test .left)
 

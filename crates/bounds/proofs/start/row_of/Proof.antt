@@ -12,41 +12,32 @@ use Rattle.bounds.proofs.start.row_by.Reads as row-by-reads
 use Rattle.interval.proofs.Interval.point.Reads as point-reads
 use Rattle.interval.proofs.reciprocal.Reads as reciprocal-reads
 
--- src/start.rt:199:32
 point-requires : tie.Need-point-requires
 point-requires c κs = search needs
 
--- src/start.rt:199:11
 reciprocal-requires : tie.Need-reciprocal-requires
 reciprocal-requires c κs = search needs
 
--- src/start.rt:200:22
 enum-known-r : tie.Need-enum-known-r
 enum-known-r c = search needs
 
--- src/start.rt:200:28
 row-by-requires : tie.Need-row-by-requires
 row-by-requires c κs = c .before .before .before .before .before .before .before .before .pre
 
--- src/start.rt:212:32
 enum-told : tie.Need-enum-told
 enum-told c = search needs
 
--- src/start.rt:213:32
 enum-told-2 : tie.Need-enum-told-2
 enum-told-2 c = search needs
 
--- src/start.rt:180:1
 returns : tie.Need-returns
 unfolding rowOf
 returns c = rw (← (c .before .before .before .before .before .point .ensures), ← (c .before .before .before .before .reciprocal .ensures), c .before .before .r .given .1) (c .row-by .ensures)
 
--- src/start.rt:180:1
 returns-2 : tie.Need-returns-2
 unfolding rowOf
 returns-2 c = rw (← (c .before .before .before .point .ensures), ← (c .before .before .reciprocal .ensures), c .enum-told .given .1)
 
--- src/start.rt:180:1
 returns-3 : tie.Need-returns-3
 unfolding rowOf
 returns-3 c = rw (← (c .before .before .before .point .ensures), ← (c .before .before .reciprocal .ensures), c .enum-told2 .given .1)

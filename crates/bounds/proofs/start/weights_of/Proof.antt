@@ -14,23 +14,18 @@ use Rattle.bounds.proofs.start.min_weight.Reads as min-weight-reads
 use Rattle.bounds.proofs.start.range_of.Reads as range-of-reads
 use Rattle.interval.proofs.float.infinity.Reads as infinity-reads
 
--- src/start.rt:87:9
 max-weight-requires : tie.Need-max-weight-requires
 max-weight-requires c κs = search needs
 
--- src/start.rt:88:28
 infinity-requires : tie.Need-infinity-requires
 infinity-requires c κs = search needs
 
--- src/start.rt:88:9
 min-weight-requires : tie.Need-min-weight-requires
 min-weight-requires c κs = search needs
 
--- src/start.rt:89:5
 range-of-requires : tie.Need-range-of-requires
 range-of-requires c κs = search needs
 
--- src/start.rt:82:1
 returns : tie.Need-returns
 unfolding weightsOf ofBits
 returns c = rw ((c .range-of .ensures), (c .before .min-weight .ensures), (c .before .before .infinity .ensures), (c .before .before .before .max-weight .ensures))

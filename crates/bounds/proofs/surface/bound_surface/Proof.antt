@@ -15,20 +15,16 @@ use Rattle.bounds.proofs.surface.bound_surface.Lts as lts
 use Rattle.bounds.proofs.surface.bound_valid.Reads as bound-valid-reads
 use Rattle.knots.proofs.surface.surface_refusal.Reads as surface-refusal-reads
 
--- src/surface.rt:112:9
 surface-refusal-requires : tie.Need-surface-refusal-requires
 surface-refusal-requires c κs = search needs
 
--- src/surface.rt:124:9
 returns : tie.Need-returns
 unfolding surfaceOf
 returns c = rw (stop (c .before .before .surface-refusal .ensures) (c .if1 .taken)) (ap Refused (c .before .before .surface-refusal .ensures))
 
--- src/surface.rt:126:5
 bound-valid-requires : tie.Need-bound-valid-requires
 bound-valid-requires c κs = ap (λ (x : Refusal). x .number) (sym (c .before .before .surface-refusal .ensures)) ∙ c .if1 .left
 
--- src/surface.rt:95:1
 returns-2 : tie.Need-returns-2
 unfolding surfaceOf
 returns-2 c = rw (skip (c .before .before .before .surface-refusal .ensures) (c .before .if1 .left)) (c .bound-valid .ensures)

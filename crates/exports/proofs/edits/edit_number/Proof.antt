@@ -6,23 +6,18 @@ use Rattle.exports.proofs.edits.edit_number.Reads as reads
 use Rattle.exports.proofs.edits.edit_number.Lts as lts
 use Rattle.exports.proofs.tables.packed.Reads as packed-reads
 
--- src/edits.rt:20:30
 enum-known-a : tie.Need-enum-known-a
 enum-known-a c = search needs
 
--- src/edits.rt:21:29
 enum-known-a-2 : tie.Need-enum-known-a-2
 enum-known-a-2 c = search needs
 
--- src/edits.rt:21:35
 packed-requires : tie.Need-packed-requires
 packed-requires c κs = search needs
 
--- src/edits.rt:16:1
 returns : tie.Need-returns
 returns c = search needs
 
--- src/edits.rt:16:1
 returns-2 : tie.Need-returns-2
 returns-2 c = rw (c .before .before .a2 .given .1) (c .packed .ensures)
 

@@ -7,31 +7,24 @@ use Rattle.exports.proofs.edits.tasulogi_trim.Lts as lts
 use Rattle.exports.proofs.edits.edit_number.Reads as edit-number-reads
 use Rattle.trimming.proofs.trim.trim.Reads as trim-reads
 
--- src/edits.rt:74:17
 trim-requires : tie.Need-trim-requires
 trim-requires c κs = search needs
 
--- src/edits.rt:74:5
 edit-number-requires : tie.Need-edit-number-requires
 edit-number-requires c κs = search needs
 
--- src/edits.rt:57:1
 same-length : tie.Need-same-length
 same-length c = search needs
 
--- src/edits.rt:57:1
 same-length-2 : tie.Need-same-length-2
 same-length-2 c = search needs
 
--- src/edits.rt:57:1
 same-length-3 : tie.Need-same-length-3
 same-length-3 c = search needs
 
--- src/edits.rt:57:1
 same-length-4 : tie.Need-same-length-4
 same-length-4 c = search needs
 
--- src/edits.rt:57:1
 returns : tie.Need-returns
 returns c = settled-edit (c .edit-number .ensures) (c .before .before .before .before .before .before .before .before .before .trim .ensures)
 

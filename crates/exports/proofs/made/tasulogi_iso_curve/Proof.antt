@@ -7,23 +7,18 @@ use Rattle.exports.proofs.made.tasulogi_iso_curve.Lts as lts
 use Rattle.evaluate.proofs.iso_curve.iso_curve.Reads as iso-curve-reads
 use Rattle.exports.proofs.tables.packed.Reads as packed-reads
 
--- src/made.rt:58:12
 iso-curve-requires : tie.Need-iso-curve-requires
 iso-curve-requires c κs = search needs
 
--- src/made.rt:58:5
 packed-requires : tie.Need-packed-requires
 packed-requires c κs = search needs
 
--- src/made.rt:39:1
 same-length : tie.Need-same-length
 same-length c = search needs
 
--- src/made.rt:39:1
 same-length-2 : tie.Need-same-length-2
 same-length-2 c = search needs
 
--- src/made.rt:39:1
 returns : tie.Need-returns
 returns c = settled-iso (c .packed .ensures) (c .before .before .before .before .before .iso-curve .ensures)
 

@@ -7,27 +7,21 @@ use Rattle.exports.proofs.made.tasulogi_reversed.Lts as lts
 use Rattle.evaluate.proofs.reverse.reversed.Reads as reversed-reads
 use Rattle.exports.proofs.tables.packed.Reads as packed-reads
 
--- src/made.rt:26:12
 reversed-requires : tie.Need-reversed-requires
 reversed-requires c κs = search needs
 
--- src/made.rt:26:5
 packed-requires : tie.Need-packed-requires
 packed-requires c κs = search needs
 
--- src/made.rt:12:1
 same-length : tie.Need-same-length
 same-length c = search needs
 
--- src/made.rt:12:1
 same-length-2 : tie.Need-same-length-2
 same-length-2 c = search needs
 
--- src/made.rt:12:1
 same-length-3 : tie.Need-same-length-3
 same-length-3 c = search needs
 
--- src/made.rt:12:1
 returns : tie.Need-returns
 returns c = settled-reverse (c .packed .ensures) (c .before .before .before .before .before .before .before .reversed .ensures)
 

@@ -11,31 +11,24 @@ use Rattle.exports.proofs.points.put_vectors.Lts as lts
 use Rattle.exports.proofs.points.store_vector.Reads as store-vector-reads
 use Rattle.knots.proofs.clear.clear.Reads as clear-reads
 
--- src/points.rt:36:5
 clear-requires : tie.Need-clear-requires
 clear-requires c κs = search needs
 
--- src/points.rt:38:9
 same-length : tie.Need-same-length
 same-length c = search needs
 
--- src/points.rt:38:9
 returns : tie.Need-returns
 returns c = let a = c .before .before .before .before .before .before .args in leaves-short (twoOf (a .a) (a .b)) (now (a .out)) _ (c .before .before .before .clear .ensures) (omega arith)
 
--- src/points.rt:40:5
 store-vector-requires : tie.Need-store-vector-requires
 store-vector-requires c κs = search needs
 
--- src/points.rt:41:5
 store-vector-requires-2 : tie.Need-store-vector-requires-2
 store-vector-requires-2 c κs = search needs
 
--- src/points.rt:33:1
 same-length-2 : tie.Need-same-length-2
 same-length-2 c = search needs
 
--- src/points.rt:33:1
 returns-2 : tie.Need-returns-2
 returns-2 c = let a = c .before .before .before .before .before .before .before .before .before .before .before .before .before .before .args in leaves-vectors (a .a) (a .b) (now (a .out)) _ _ _ (c .before .before .before .before .before .before .before .before .before .before .before .clear .ensures) (omega arith) (c .before .before .before .before .before .before .store-vector .ensures) (c .before .before .store-vector2 .ensures)
 

@@ -7,43 +7,33 @@ use Rattle.exports.proofs.points.store_vector.Tie as tie
 use Rattle.exports.proofs.points.store_vector.Reads as reads
 use Rattle.exports.proofs.points.store_vector.Lts as lts
 
--- src/points.rt:27:5
 mul-out : tie.Need-mul-out
 mul-out c = search needs
 
--- src/points.rt:27:5
 slice-write-out : tie.Need-slice-write-out
 slice-write-out c = search needs
 
--- src/points.rt:28:9
 add-out : tie.Need-add-out
 add-out c = search needs
 
--- src/points.rt:28:5
 mul-out-2 : tie.Need-mul-out-2
 mul-out-2 c = search needs
 
--- src/points.rt:28:5
 slice-write-out-2 : tie.Need-slice-write-out-2
 slice-write-out-2 c = omega (arith, length-set (now (c .args .out)) (c .args .at) (c .args .v .x), c .pre)
 
--- src/points.rt:29:9
 add-out-2 : tie.Need-add-out-2
 add-out-2 c = search needs
 
--- src/points.rt:29:5
 mul-out-3 : tie.Need-mul-out-3
 mul-out-3 c = search needs
 
--- src/points.rt:29:5
 slice-write-out-3 : tie.Need-slice-write-out-3
 slice-write-out-3 c = search needs
 
--- src/points.rt:23:1
 same-length : tie.Need-same-length
 same-length c = search needs
 
--- src/points.rt:23:1
 returns : tie.Need-returns
 returns c = search needs
 

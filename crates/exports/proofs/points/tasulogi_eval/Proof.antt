@@ -12,43 +12,33 @@ use Rattle.exports.proofs.answer.refuse.Reads as refuse-reads
 use Rattle.exports.proofs.points.put_vectors.Reads as put-vectors-reads
 use Rattle.exports.proofs.tables.packed.Reads as packed-reads
 
--- src/points.rt:87:11
 eval-requires : tie.Need-eval-requires
 eval-requires c κs = search needs
 
--- src/points.rt:88:25
 enum-known-d : tie.Need-enum-known-d
 enum-known-d c = search needs
 
--- src/points.rt:88:31
 put-vectors-requires : tie.Need-put-vectors-requires
 put-vectors-requires c κs = search needs
 
--- src/points.rt:89:30
 enum-known-r : tie.Need-enum-known-r
 enum-known-r c = search needs
 
--- src/points.rt:89:48
 packed-requires : tie.Need-packed-requires
 packed-requires c κs = search needs
 
--- src/points.rt:89:36
 refuse-requires : tie.Need-refuse-requires
 refuse-requires c κs = search needs
 
--- src/points.rt:75:1
 same-length : tie.Need-same-length
 same-length c = search needs
 
--- src/points.rt:75:1
 returns : tie.Need-returns
 returns c = leaves-by (ap curveAnswer (sym (c .before .before .before .before .before .d .given .1) ∙ c .before .before .before .before .before .before .before .eval .ensures)) (c .before .before .put-vectors .ensures)
 
--- src/points.rt:75:1
 same-length-2 : tie.Need-same-length-2
 same-length-2 c = search needs
 
--- src/points.rt:75:1
 returns-2 : tie.Need-returns-2
 returns-2 c = leaves-by (ap curveAnswer (sym (c .before .before .before .before .before .before .r .given .1) ∙ c .before .before .before .before .before .before .before .before .eval .ensures)) (leaves-by (ap refused (c .before .before .before .packed .ensures)) (c .before .before .refuse .ensures))
 

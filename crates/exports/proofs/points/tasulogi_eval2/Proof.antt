@@ -12,43 +12,33 @@ use Rattle.exports.proofs.answer.refuse.Reads as refuse-reads
 use Rattle.exports.proofs.points.put_three_vectors.Reads as put-three-vectors-reads
 use Rattle.exports.proofs.tables.packed.Reads as packed-reads
 
--- src/points.rt:106:11
 eval2-requires : tie.Need-eval2-requires
 eval2-requires c κs = search needs
 
--- src/points.rt:107:26
 enum-known-d : tie.Need-enum-known-d
 enum-known-d c = search needs
 
--- src/points.rt:107:32
 put-three-vectors-requires : tie.Need-put-three-vectors-requires
 put-three-vectors-requires c κs = search needs
 
--- src/points.rt:108:31
 enum-known-r : tie.Need-enum-known-r
 enum-known-r c = search needs
 
--- src/points.rt:108:49
 packed-requires : tie.Need-packed-requires
 packed-requires c κs = search needs
 
--- src/points.rt:108:37
 refuse-requires : tie.Need-refuse-requires
 refuse-requires c κs = search needs
 
--- src/points.rt:94:1
 same-length : tie.Need-same-length
 same-length c = search needs
 
--- src/points.rt:94:1
 returns : tie.Need-returns
 returns c = leaves-by (ap curve2Answer (sym (c .before .before .before .before .before .d .given .1) ∙ c .before .before .before .before .before .before .before .eval2 .ensures)) (c .before .before .put-three-vectors .ensures)
 
--- src/points.rt:94:1
 same-length-2 : tie.Need-same-length-2
 same-length-2 c = search needs
 
--- src/points.rt:94:1
 returns-2 : tie.Need-returns-2
 returns-2 c = leaves-by (ap curve2Answer (sym (c .before .before .before .before .before .before .r .given .1) ∙ c .before .before .before .before .before .before .before .before .eval2 .ensures)) (leaves-by (ap refused (c .before .before .before .packed .ensures)) (c .before .before .refuse .ensures))
 

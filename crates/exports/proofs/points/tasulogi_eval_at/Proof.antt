@@ -12,43 +12,33 @@ use Rattle.exports.proofs.answer.refuse.Reads as refuse-reads
 use Rattle.exports.proofs.points.put_vectors.Reads as put-vectors-reads
 use Rattle.exports.proofs.tables.packed.Reads as packed-reads
 
--- src/points.rt:107:11
 eval-at-requires : tie.Need-eval-at-requires
 eval-at-requires c κs = search needs
 
--- src/points.rt:108:25
 enum-known-d : tie.Need-enum-known-d
 enum-known-d c = search needs
 
--- src/points.rt:108:31
 put-vectors-requires : tie.Need-put-vectors-requires
 put-vectors-requires c κs = search needs
 
--- src/points.rt:109:30
 enum-known-r : tie.Need-enum-known-r
 enum-known-r c = search needs
 
--- src/points.rt:109:48
 packed-requires : tie.Need-packed-requires
 packed-requires c κs = search needs
 
--- src/points.rt:109:36
 refuse-requires : tie.Need-refuse-requires
 refuse-requires c κs = search needs
 
--- src/points.rt:95:1
 same-length : tie.Need-same-length
 same-length c = search needs
 
--- src/points.rt:95:1
 returns : tie.Need-returns
 returns c = leaves-by (ap curveAnswer (sym (c .before .before .before .before .before .d .given .1) ∙ c .before .before .before .before .before .before .before .eval-at .ensures)) (c .before .before .put-vectors .ensures)
 
--- src/points.rt:95:1
 same-length-2 : tie.Need-same-length-2
 same-length-2 c = search needs
 
--- src/points.rt:95:1
 returns-2 : tie.Need-returns-2
 returns-2 c = leaves-by (ap curveAnswer (sym (c .before .before .before .before .before .before .r .given .1) ∙ c .before .before .before .before .before .before .before .before .eval-at .ensures)) (leaves-by (ap refused (c .before .before .before .packed .ensures)) (c .before .before .refuse .ensures))
 

@@ -12,43 +12,33 @@ use Rattle.exports.proofs.answer.refuse.Reads as refuse-reads
 use Rattle.exports.proofs.points.put_three_vectors.Reads as put-three-vectors-reads
 use Rattle.exports.proofs.tables.packed.Reads as packed-reads
 
--- src/points.rt:130:11
 eval-surface-requires : tie.Need-eval-surface-requires
 eval-surface-requires c κs = search needs
 
--- src/points.rt:143:27
 enum-known-d : tie.Need-enum-known-d
 enum-known-d c = search needs
 
--- src/points.rt:143:33
 put-three-vectors-requires : tie.Need-put-three-vectors-requires
 put-three-vectors-requires c κs = search needs
 
--- src/points.rt:144:32
 enum-known-r : tie.Need-enum-known-r
 enum-known-r c = search needs
 
--- src/points.rt:144:50
 packed-requires : tie.Need-packed-requires
 packed-requires c κs = search needs
 
--- src/points.rt:144:38
 refuse-requires : tie.Need-refuse-requires
 refuse-requires c κs = search needs
 
--- src/points.rt:113:1
 same-length : tie.Need-same-length
 same-length c = search needs
 
--- src/points.rt:113:1
 returns : tie.Need-returns
 returns c = leaves-by (ap surfaceAnswer (sym (c .before .before .before .before .before .d .given .1) ∙ c .before .before .before .before .before .before .before .eval-surface .ensures)) (c .before .before .put-three-vectors .ensures)
 
--- src/points.rt:113:1
 same-length-2 : tie.Need-same-length-2
 same-length-2 c = search needs
 
--- src/points.rt:113:1
 returns-2 : tie.Need-returns-2
 returns-2 c = leaves-by (ap surfaceAnswer (sym (c .before .before .before .before .before .before .r .given .1) ∙ c .before .before .before .before .before .before .before .before .eval-surface .ensures)) (leaves-by (ap refused (c .before .before .before .packed .ensures)) (c .before .before .refuse .ensures))
 

@@ -3,55 +3,42 @@ use borrow.Author.Needs.{needs}
 use Rattle.insertion.proofs.lay.given_row.Statement.{statement}
 use Rattle.insertion.proofs.lay.given_row.Tie as tie
 
--- src/lay.rt:26:14
 mul-at : tie.Need-mul-at
 mul-at c = search needs
 
--- src/lay.rt:27:13
 mul-x : tie.Need-mul-x
 mul-x c = search needs
 
--- src/lay.rt:27:13
 shared-slice-read-x : tie.Need-shared-slice-read-x
 shared-slice-read-x c = search needs
 
--- src/lay.rt:28:20
 add-y : tie.Need-add-y
 add-y c = search needs
 
--- src/lay.rt:28:13
 mul-y : tie.Need-mul-y
 mul-y c = search needs
 
--- src/lay.rt:28:13
 shared-slice-read-y : tie.Need-shared-slice-read-y
 shared-slice-read-y c = search needs
 
--- src/lay.rt:29:20
 add-z : tie.Need-add-z
 add-z c = search needs
 
--- src/lay.rt:29:13
 mul-z : tie.Need-mul-z
 mul-z c = search needs
 
--- src/lay.rt:29:13
 shared-slice-read-z : tie.Need-shared-slice-read-z
 shared-slice-read-z c = search needs
 
--- src/lay.rt:35:16
 mul-t16 : tie.Need-mul-t16
 mul-t16 c = search needs
 
--- src/lay.rt:35:16
 shared-slice-read-t18 : tie.Need-shared-slice-read-t18
 shared-slice-read-t18 c = c .before .before .before .before .before .pre .1 (c .before .if1 .taken)
 
--- src/lay.rt:31:9
 returns : tie.Need-returns
 returns c = simp (c .before .if1 .taken)
 
--- src/lay.rt:21:1
 returns-2 : tie.Need-returns-2
 unfolding ofBits
 returns-2 c = simp (c .if1 .left)

@@ -6,19 +6,15 @@ use borrow.Author.Needs.{needs}
 use Rattle.insertion.proofs.lay.lay_into.Statement.{statement}
 use Rattle.insertion.proofs.lay.lay_into.Tie as tie
 
--- src/insert.rt:44:5
 lay-rows-requires : tie.Need-lay-rows-requires
 lay-rows-requires c κs = let q = c .before .before .before .before .before .pre .1 in let x = q .0 in let y = q .1 in (omega arith, (c .before .before .before .before .before .pre .0, omega arith))
 
--- src/insert.rt:45:5
 lay-knots-requires : tie.Need-lay-knots-requires
 lay-knots-requires c κs = let q = c .before .before .before .before .before .before .before .before .before .pre .1 in let y = q .1 in let w = c .before .before .work .given in omega arith
 
--- src/insert.rt:32:1
 same-length : tie.Need-same-length
 same-length c = c .before .work2 .given ∙ c .before .before .before .before .before .work .given
 
--- src/insert.rt:32:1
 returns : tie.Need-returns
 returns c = curve-in (c .before .before .before .before .before .before .before .before .before .before .before .before .args .a) (now (c .before .before .before .before .before .before .before .before .before .before .before .before .args .knots)) (now (c .before .before .before .before .before .before .before .before .before .before .before .before .args .points)) (c .before .before .before .before .before .before .before .before .before .before .before .before .args .rational) (now (c .before .before .before .before .before .before .before .before .before .before .before .before .args .weights)) (now (c .before .before .before .before .before .before .before .before .before .before .before .before .args .work)) _ _ (c .before .before .before .before .before .before .before .before .before .before .before .before .pre .1 .0) (c .before .before .before .before .before .before .lay-rows .ensures) (c .before .before .lay-knots .ensures)
 

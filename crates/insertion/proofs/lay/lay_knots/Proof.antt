@@ -13,47 +13,36 @@ Inv-loop knots a work₀ i₀ work i = InKnots a knots work₀ work i
 abbrev μ-loop : tie.MeasureT-loop
 μ-loop knots a work₀ i₀ work i = length knots - i
 
--- src/lay.rt:61:5
 loop-holds : tie.Need-loop-holds Inv-loop μ-loop
 loop-holds c = knots-start (c .args .a) (now (c .args .knots)) (now (c .args .work))
 
--- src/lay.rt:62:18
 add-at : tie.Need-add-at Inv-loop μ-loop
 add-at c = let t = c .loop-test .taken in let p = c .before .before .pre in let g = c .before .before .good in let f = c .before .before .fits in search needs
 
--- src/lay.rt:63:20
 mul-work : tie.Need-mul-work Inv-loop μ-loop
 mul-work c = search needs
 
--- src/lay.rt:63:20
 shared-slice-read-work : tie.Need-shared-slice-read-work Inv-loop μ-loop
 shared-slice-read-work c = c .before .loop-test .taken
 
--- src/lay.rt:63:9
 mul-work-2 : tie.Need-mul-work-2 Inv-loop μ-loop
 mul-work-2 c = search needs
 
--- src/lay.rt:63:9
 slice-write-work : tie.Need-slice-write-work Inv-loop μ-loop
 slice-write-work c = let t = c .before .loop-test .taken in let p = c .before .before .before .pre in let l = c .before .before .loop .inv .long in omega arith
 
--- src/lay.rt:64:9
 add-i : tie.Need-add-i Inv-loop μ-loop
 add-i c = search needs
 
--- src/lay.rt:61:5
 loop-less : tie.Need-loop-less Inv-loop μ-loop
 loop-less c = search needs
 
--- src/lay.rt:61:5
 loop-again : tie.Need-loop-again Inv-loop μ-loop
 loop-again c = knots-more (c .before .before .before .args .a) (now (c .before .before .before .args .knots)) (now (c .before .before .before .args .work)) _ (c .before .before .loop .i) (c .before .before .loop .inv) (c .before .loop-test .taken) (c .before .before .before .pre)
 
--- src/lay.rt:56:1
 same-length : tie.Need-same-length Inv-loop μ-loop
 same-length c = c .before .loop .inv .long
 
--- src/lay.rt:56:1
 returns : tie.Need-returns Inv-loop μ-loop
 returns c = knots-end (c .before .before .args .a) (now (c .before .before .args .knots)) (now (c .before .before .args .work)) _ (c .before .loop .i) (c .before .loop .inv) (c .loop-test .left) (c .before .before .pre)
 

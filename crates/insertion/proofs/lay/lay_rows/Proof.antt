@@ -12,35 +12,27 @@ Inv-loop n points rational weights rows₀ i₀ rows i = InLay n points rational
 abbrev μ-loop : tie.MeasureT-loop
 μ-loop n points rational weights rows₀ i₀ rows i = n - i
 
--- src/lay.rt:49:5
 loop-holds : tie.Need-loop-holds Inv-loop μ-loop
 loop-holds c = lay-start (c .before .before .before .args .n) (now (c .before .before .before .args .points)) (c .before .before .before .args .rational) (now (c .before .before .before .args .weights)) (now (c .before .before .before .args .rows))
 
--- src/lay.rt:50:36
 given-row-requires : tie.Need-given-row-requires Inv-loop μ-loop
 given-row-requires c κs = let t = c .before .loop-test .taken in let l = c .before .before .before .before .before .before .pre .0 in (omega arith, (λ g. let w = c .before .before .before .before .before .before .pre .1 .0 g in omega arith))
 
--- src/lay.rt:50:9
 put-row-requires : tie.Need-put-row-requires Inv-loop μ-loop
 put-row-requires c κs = let t = c .before .before .loop-test .taken in let l = c .before .before .before .before .before .before .before .pre .1 .1 in let L = c .before .before .before .loop .inv .done .long in omega arith
 
--- src/lay.rt:51:9
 add-i : tie.Need-add-i Inv-loop μ-loop
 add-i c = search needs
 
--- src/lay.rt:49:5
 loop-less : tie.Need-loop-less Inv-loop μ-loop
 loop-less c = search needs
 
--- src/lay.rt:49:5
 loop-again : tie.Need-loop-again Inv-loop μ-loop
 loop-again c = lay-more (c .before .before .before .before .before .before .before .before .before .before .args .n) (now (c .before .before .before .before .before .before .before .before .before .before .args .points)) (c .before .before .before .before .before .before .before .before .before .before .args .rational) (now (c .before .before .before .before .before .before .before .before .before .before .args .weights)) (now (c .before .before .before .before .before .before .before .before .before .before .args .rows)) _ (c .before .before .before .before .before .before .loop .i) (c .before .before .before .before .before .before .loop .inv) (c .before .before .before .before .before .loop-test .taken) _ (c .before .before .before .given-row .ensures) _ (c .before .rows .given) (c .before .before .put-row .ensures)
 
--- src/lay.rt:42:1
 same-length : tie.Need-same-length Inv-loop μ-loop
 same-length c = c .before .loop .inv .done .long
 
--- src/lay.rt:42:1
 returns : tie.Need-returns Inv-loop μ-loop
 returns c = lay-end (c .before .before .before .before .before .args .n) (now (c .before .before .before .before .before .args .points)) (c .before .before .before .before .before .args .rational) (now (c .before .before .before .before .before .args .weights)) (now (c .before .before .before .before .before .args .rows)) _ (c .before .loop .i) (c .before .loop .inv) (c .loop-test .left)
 

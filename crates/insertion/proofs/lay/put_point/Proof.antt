@@ -6,47 +6,36 @@ use borrow.Author.Needs.{needs}
 use Rattle.insertion.proofs.lay.put_point.Statement.{statement}
 use Rattle.insertion.proofs.lay.put_point.Tie as tie
 
--- src/lay.rt:72:14
 mul-at : tie.Need-mul-at
 mul-at c = search needs
 
--- src/lay.rt:73:5
 mul-points : tie.Need-mul-points
 mul-points c = search needs
 
--- src/lay.rt:73:5
 slice-write-points : tie.Need-slice-write-points
 slice-write-points c = search needs
 
--- src/lay.rt:74:12
 add-points : tie.Need-add-points
 add-points c = search needs
 
--- src/lay.rt:74:5
 mul-points-2 : tie.Need-mul-points-2
 mul-points-2 c = search needs
 
--- src/lay.rt:74:5
 slice-write-points-2 : tie.Need-slice-write-points-2
 slice-write-points-2 c = let l = length-set (now (c .args .points)) (c .args .i * 3) (c .args .v .x) in let p = c .pre in omega arith
 
--- src/lay.rt:75:12
 add-points-2 : tie.Need-add-points-2
 add-points-2 c = search needs
 
--- src/lay.rt:75:5
 mul-points-3 : tie.Need-mul-points-3
 mul-points-3 c = search needs
 
--- src/lay.rt:75:5
 slice-write-points-3 : tie.Need-slice-write-points-3
 slice-write-points-3 c = let p = c .pre in simp length-set (omega arith)
 
--- src/lay.rt:68:1
 same-length : tie.Need-same-length
 same-length c = search needs
 
--- src/lay.rt:68:1
 returns : tie.Need-returns
 returns c = search needs
 

@@ -2,23 +2,18 @@ use borrow.Author.Needs.{needs}
 use Rattle.insertion.proofs.lay.put_weight.Statement.{statement}
 use Rattle.insertion.proofs.lay.put_weight.Tie as tie
 
--- src/lay.rt:84:9
 mul-weights : tie.Need-mul-weights
 mul-weights c = let h = c .before .pre (c .if1 .taken) in search needs
 
--- src/lay.rt:84:9
 slice-write-weights : tie.Need-slice-write-weights
 slice-write-weights c = c .before .pre (c .if1 .taken)
 
--- src/lay.rt:79:1
 same-length : tie.Need-same-length
 same-length c = search needs
 
--- src/lay.rt:79:1
 returns : tie.Need-returns
 returns c = simp (c .if1 .taken)
 
--- src/lay.rt:79:1
 returns-2 : tie.Need-returns-2
 returns-2 c = search needs
 

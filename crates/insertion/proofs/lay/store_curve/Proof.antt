@@ -12,95 +12,72 @@ use borrow.Author.Needs.{needs}
 use Rattle.insertion.proofs.lay.store_curve.Statement.{statement}
 use Rattle.insertion.proofs.lay.store_curve.Tie as tie
 
--- src/lay.rt:132:16
 add-from : tie.Need-add-from
 add-from c = let q = c .before .before .before .before .pre .0 .1 in let g = c .before .before .before .before .good in let f = c .before .before .before .before .fits in search needs
 
--- src/lay.rt:133:23
 add-end : tie.Need-add-end
 add-end c = let q = c .before .before .before .before .pre .0 .1 in let g = c .before .before .before .before .good in let f = c .before .before .before .before .fits in search needs
 
--- src/lay.rt:133:23
 add-end-2 : tie.Need-add-end-2
 add-end-2 c = let q = c .before .before .before .before .pre .0 .1 in let g = c .before .before .before .before .good in let f = c .before .before .before .before .fits in search needs
 
--- src/lay.rt:133:15
 add-end-3 : tie.Need-add-end-3
 add-end-3 c = let q = c .before .before .before .before .pre .0 .1 in let g = c .before .before .before .before .good in let f = c .before .before .before .before .fits in search needs
 
--- src/lay.rt:134:14
 mul-copy-run : tie.Need-mul-copy-run
 mul-copy-run c = search needs
 
--- src/lay.rt:134:14
 sub-copy-run : tie.Need-sub-copy-run
 sub-copy-run c = search needs
 
--- src/lay.rt:134:14
 part-copy-run-start : tie.Need-part-copy-run-start
 part-copy-run-start c = search needs
 
--- src/lay.rt:134:14
 part-copy-run-end : tie.Need-part-copy-run-end
 part-copy-run-end c = let q = c .before .before .before .before .pre .0 .1 in omega arith
 
--- src/lay.rt:134:5
 copy-run-requires : tie.Need-copy-run-requires
 copy-run-requires c κs = let q = c .before .before .before .before .before .before .pre .0 .1 in let k = c .before .before .before .before .before .before .pre .1 .0 in let e = slice-is (c .before .before .before .before .before .before .args .a + c .before .before .before .before .before .before .args .f) (c .before .before .before .before .before .before .args .m + c .before .before .before .before .before .before .args .p + 1) (now (c .before .before .before .before .before .before .args .work)) in rw e (simp length-take (omega arith))
 
--- src/lay.rt:135:17
 mul-first : tie.Need-mul-first
 mul-first c = let q = c .before .before .before .before .before .before .before .before .before .pre .0 .1 in let p = c .before .before .before .before .before .before .before .before .before .pre .0 .0 in let g = c .before .before .before .before .before .before .before .before .before .good in let f = c .before .before .before .before .before .before .before .before .before .fits in search needs
 
--- src/lay.rt:136:28
 mul-take-rows : tie.Need-mul-take-rows
 mul-take-rows c = search needs
 
--- src/lay.rt:136:28
 sub-take-rows : tie.Need-sub-take-rows
 sub-take-rows c = search needs
 
--- src/lay.rt:136:28
 part-take-rows-start : tie.Need-part-take-rows-start
 part-take-rows-start c = let q = c .before .before .before .before .before .before .before .before .before .pre .0 .1 in let p = c .before .before .before .before .before .before .before .before .before .pre .0 .0 in omega arith
 
--- src/lay.rt:136:28
 part-take-rows-end : tie.Need-part-take-rows-end
 part-take-rows-end c = search needs
 
--- src/lay.rt:136:5
 take-rows-requires : tie.Need-take-rows-requires
 take-rows-requires c κs = let q = c .before .before .before .before .before .before .before .before .before .before .before .before .pre .0 .1 in let p = c .before .before .before .before .before .before .before .before .before .before .before .before .pre .0 .0 in let e = length-drop (c .before .before .before .before .before .before .before .before .before .before .before .before .args .f * 4) (now (c .before .before .before .before .before .before .before .before .before .before .before .before .args .work)) in (simp length-take (omega arith), (c .before .before .before .before .before .before .before .before .before .before .before .before .pre .1 .1 .0, given-room (c .before .before .before .before .before .before .before .before .before .before .before .before .args .rational) (c .before .before .before .before .before .before .before .before .before .before .before .before .args .m) _ (c .before .before .before .before .before .before .before .before .before .before .before .before .pre .1 .1 .1)))
 
--- src/lay.rt:137:24
 mul-clear-from : tie.Need-mul-clear-from
 mul-clear-from c = let q = c .before .before .before .before .before .before .before .before .before .before .before .before .before .before .before .before .before .before .pre .1 .1 .0 in let g = c .before .before .before .before .before .before .before .before .before .before .before .before .before .before .before .before .before .before .good in let f = c .before .before .before .before .before .before .before .before .before .before .before .before .before .before .before .before .before .before .fits in search needs
 
--- src/lay.rt:137:5
 clear-from-requires : tie.Need-clear-from-requires
 clear-from-requires c κs = let q = c .before .before .before .before .before .before .before .before .before .before .before .before .before .before .before .before .before .before .pre .1 .1 .0 in let l = c .before .before .before .before .points .given in omega arith
 
--- src/lay.rt:138:25
 given-count-requires : tie.Need-given-count-requires
 given-count-requires c κs = search needs
 
--- src/lay.rt:138:5
 clear-from-requires-2 : tie.Need-clear-from-requires-2
 clear-from-requires-2 c κs = let q = c .before .before .before .before .before .before .before .before .before .before .before .before .before .before .before .before .before .before .before .before .before .before .before .pre .1 .1 .1 in let l = c .before .before .before .before .before .before .before .weights .given in let e = c .given-count .ensures in omega arith
 
--- src/lay.rt:113:1
 same-length : tie.Need-same-length
 same-length c = c .before .before .before .before .before .before .before .before .before .before .before .before .before .before .before .before .before .before .knots .given
 
--- src/lay.rt:113:1
 same-length-2 : tie.Need-same-length-2
 same-length-2 c = c .before .before .before .before .before .before .points2 .given ∙ c .before .before .before .before .before .before .before .before .before .before .before .before .points .given
 
--- src/lay.rt:113:1
 same-length-3 : tie.Need-same-length-3
 same-length-3 c = c .before .weights2 .given ∙ c .before .before .before .before .before .before .before .before .before .before .weights .given
 
--- src/lay.rt:113:1
 returns : tie.Need-returns
 returns c = (c .before .before .before .before .before .before .before .before .before .before .before .before .before .before .before .before .before .before .before .copy-run .ensures ∙ ap (padded _) (slice-is (c .before .before .before .before .before .before .before .before .before .before .before .before .before .before .before .before .before .before .before .before .before .before .before .before .before .before .args .a + c .before .before .before .before .before .before .before .before .before .before .before .before .before .before .before .before .before .before .before .before .before .before .before .before .before .before .args .f) (c .before .before .before .before .before .before .before .before .before .before .before .before .before .before .before .before .before .before .before .before .before .before .before .before .before .before .args .m + c .before .before .before .before .before .before .before .before .before .before .before .before .before .before .before .before .before .before .before .before .before .before .before .before .before .before .args .p + 1) (now (c .before .before .before .before .before .before .before .before .before .before .before .before .before .before .before .before .before .before .before .before .before .before .before .before .before .before .args .work))), (points-stored (c .before .before .before .before .before .before .before .before .before .before .before .before .before .before .before .before .before .before .before .before .before .before .before .before .before .before .args .rational) (c .before .before .before .before .before .before .before .before .before .before .before .before .before .before .before .before .before .before .before .before .before .before .before .before .before .before .args .m) (c .before .before .before .before .before .before .before .before .before .before .before .before .before .before .before .before .before .before .before .before .before .before .before .before .before .before .args .f * 4) (now (c .before .before .before .before .before .before .before .before .before .before .before .before .before .before .before .before .before .before .before .before .before .before .before .before .before .before .args .work)) (rest-all (c .before .before .before .before .before .before .before .before .before .before .before .before .before .before .before .before .before .before .before .before .before .before .before .before .before .before .args .f * 4) (now (c .before .before .before .before .before .before .before .before .before .before .before .before .before .before .before .before .before .before .before .before .before .before .before .before .before .before .args .work))) _ _ _ (c .before .before .before .before .before .before .before .before .before .before .before .before .before .take-rows .ensures .0) (c .before .before .before .before .before .before .before .before .before .before .before .before .points .given) (c .before .before .before .before .before .before .before .clear-from .ensures), weights-stored (c .before .before .before .before .before .before .before .before .before .before .before .before .before .before .before .before .before .before .before .before .before .before .before .before .before .before .args .rational) (c .before .before .before .before .before .before .before .before .before .before .before .before .before .before .before .before .before .before .before .before .before .before .before .before .before .before .args .m) (c .before .before .before .before .before .before .before .before .before .before .before .before .before .before .before .before .before .before .before .before .before .before .before .before .before .before .args .f * 4) (now (c .before .before .before .before .before .before .before .before .before .before .before .before .before .before .before .before .before .before .before .before .before .before .before .before .before .before .args .work)) (rest-all (c .before .before .before .before .before .before .before .before .before .before .before .before .before .before .before .before .before .before .before .before .before .before .before .before .before .before .args .f * 4) (now (c .before .before .before .before .before .before .before .before .before .before .before .before .before .before .before .before .before .before .before .before .before .before .before .before .before .before .args .work))) _ (c .before .before .before .given-count .ensures) _ _ _ (c .before .before .before .before .before .before .before .before .before .before .before .before .before .take-rows .ensures .1) (c .before .before .before .before .before .before .before .before .before .before .weights .given) (c .before .before .clear-from2 .ensures)))
 

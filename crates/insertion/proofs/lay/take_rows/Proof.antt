@@ -13,47 +13,36 @@ Inv-loop n rational rows points₀ weights₀ i₀ points weights i = InTake rat
 abbrev μ-loop : tie.MeasureT-loop
 μ-loop n rational rows points₀ weights₀ i₀ points weights i = n - i
 
--- src/lay.rt:97:5
 loop-holds : tie.Need-loop-holds Inv-loop μ-loop
 loop-holds c = take-start (c .before .before .before .args .rational) (c .before .before .before .args .n) (now (c .before .before .before .args .rows)) (now (c .before .before .before .args .points)) (now (c .before .before .before .args .weights))
 
--- src/lay.rt:98:13
 row-at-requires : tie.Need-row-at-requires Inv-loop μ-loop
 row-at-requires c κs = let l = c .before .before .before .before .before .pre .0 in let t = c .loop-test .taken in omega arith
 
--- src/lay.rt:99:30
 vector-of-requires : tie.Need-vector-of-requires Inv-loop μ-loop
 vector-of-requires c κs = search needs
 
--- src/lay.rt:99:9
 put-point-requires : tie.Need-put-point-requires Inv-loop μ-loop
 put-point-requires c κs = let l = c .before .before .before .before .before .before .before .before .pre .1 .0 in let t = c .before .before .before .loop-test .taken in let L = c .before .before .before .before .loop .inv .long-points in omega arith
 
--- src/lay.rt:100:9
 put-weight-requires : tie.Need-put-weight-requires Inv-loop μ-loop
 put-weight-requires c κs = λ g. let l = c .before .before .before .before .before .before .before .before .before .before .before .before .pre .1 .1 g in let t = c .before .before .before .before .before .before .before .loop-test .taken in let L = c .before .before .before .before .before .before .before .before .loop .inv .long-weights in omega arith
 
--- src/lay.rt:101:9
 add-i : tie.Need-add-i Inv-loop μ-loop
 add-i c = search needs
 
--- src/lay.rt:97:5
 loop-less : tie.Need-loop-less Inv-loop μ-loop
 loop-less c = search needs
 
--- src/lay.rt:97:5
 loop-again : tie.Need-loop-again Inv-loop μ-loop
 loop-again c = take-more (c .before .before .before .before .before .before .before .before .before .before .before .before .before .before .before .args .rational) (c .before .before .before .before .before .before .before .before .before .before .before .before .before .before .before .args .n) (now (c .before .before .before .before .before .before .before .before .before .before .before .before .before .before .before .args .rows)) (now (c .before .before .before .before .before .before .before .before .before .before .before .before .before .before .before .args .points)) (now (c .before .before .before .before .before .before .before .before .before .before .before .before .before .before .before .args .weights)) _ _ (c .before .before .before .before .before .before .before .before .before .before .before .loop .i) (c .before .before .before .before .before .before .before .before .before .before .before .loop .inv) (c .before .before .before .before .before .before .before .before .before .before .loop-test .taken) (c .before .before .before .before .before .before .before .before .before .before .before .before .before .before .before .pre .1 .0) (c .before .before .before .before .before .before .before .before .before .before .before .before .before .before .before .pre .1 .1) _ (c .before .before .before .before .before .before .before .before .before .row-at .ensures) _ (c .before .before .before .before .before .before .before .vector-of .ensures) _ _ (c .before .before .before .before .before .before .put-point .ensures) (c .before .before .put-weight .ensures)
 
--- src/lay.rt:89:1
 same-length : tie.Need-same-length Inv-loop μ-loop
 same-length c = c .before .loop .inv .long-points
 
--- src/lay.rt:89:1
 same-length-2 : tie.Need-same-length-2 Inv-loop μ-loop
 same-length-2 c = c .before .loop .inv .long-weights
 
--- src/lay.rt:89:1
 returns : tie.Need-returns Inv-loop μ-loop
 returns c = take-end (c .before .before .before .before .before .args .rational) (c .before .before .before .before .before .args .n) (now (c .before .before .before .before .before .args .rows)) (now (c .before .before .before .before .before .args .points)) (now (c .before .before .before .before .before .args .weights)) _ _ (c .before .loop .i) (c .before .loop .inv) (c .loop-test .left)
 

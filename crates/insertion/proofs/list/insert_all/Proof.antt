@@ -16,55 +16,42 @@ Inv-loop p n rational inserted a work₀ i₀ work i = InTurns a p rational n (l
 abbrev μ-loop : tie.MeasureT-loop
 μ-loop p n rational inserted a work₀ i₀ work i = length inserted - i
 
--- src/list.rt:27:5
 loop-holds : tie.Need-loop-holds Inv-loop μ-loop
 loop-holds c = turns-start (c .before .before .args .a) (c .before .before .args .p) (c .before .before .args .rational) (c .before .before .args .n) (length (now (c .before .before .args .inserted))) (now (c .before .before .args .inserted)) (λ k. drop k (now (c .before .before .args .inserted))) (now (c .before .before .args .work)) refl (c .before .before .pre .0)
 
--- src/list.rt:28:17
 mul-t : tie.Need-mul-t Inv-loop μ-loop
 mul-t c = search needs
 
--- src/list.rt:28:17
 shared-slice-read-t : tie.Need-shared-slice-read-t Inv-loop μ-loop
 shared-slice-read-t c = c .before .loop-test .taken
 
--- src/list.rt:29:37
 add-insert-one : tie.Need-add-insert-one Inv-loop μ-loop
 add-insert-one c = let q = c .before .before .before .before .before .pre .1 .1 in let t = c .before .loop-test .taken in let g = c .before .before .before .before .before .good in let f = c .before .before .before .before .before .fits in search needs
 
--- src/list.rt:29:13
 insert-one-requires : tie.Need-insert-one-requires Inv-loop μ-loop
 insert-one-requires c κs = turns-room (c .before .before .before .before .before .before .args .a) (c .before .before .before .before .before .before .args .p) (c .before .before .before .before .before .before .args .rational) (c .before .before .before .before .before .before .args .n) (length (now (c .before .before .before .before .before .before .args .inserted))) (now (c .before .before .before .before .before .before .args .inserted)) (λ k. drop k (now (c .before .before .before .before .before .before .args .inserted))) (now (c .before .before .before .before .before .before .args .work)) _ (c .before .before .before .loop .i) (c .before .before .before .loop .inv) (c .before .before .loop-test .taken) (c .before .before .before .before .before .before .pre .1 .0) (c .before .before .before .before .before .before .pre .1 .1)
 
--- src/list.rt:31:13
 same-length : tie.Need-same-length Inv-loop μ-loop
 same-length c = c .before .before .before .work .given ∙ c .before .before .before .before .before .before .before .before .loop .inv .long
 
--- src/list.rt:31:13
 returns : tie.Need-returns Inv-loop μ-loop
 returns c = turns-stop (c .before .before .before .before .before .before .before .before .before .before .before .args .a) (c .before .before .before .before .before .before .before .before .before .before .before .args .p) (c .before .before .before .before .before .before .before .before .before .before .before .args .rational) (c .before .before .before .before .before .before .before .before .before .before .before .args .n) (length (now (c .before .before .before .before .before .before .before .before .before .before .before .args .inserted))) (now (c .before .before .before .before .before .before .before .before .before .before .before .args .inserted)) (λ k. drop k (now (c .before .before .before .before .before .before .before .before .before .before .before .args .inserted))) (now (c .before .before .before .before .before .before .before .before .before .before .before .args .work)) _ (c .before .before .before .before .before .before .before .before .loop .i) (c .before .before .before .before .before .before .before .before .loop .inv) (c .before .before .before .before .before .before .before .loop-test .taken) _ (drop-next (now (c .before .before .before .before .before .before .before .before .before .before .before .args .inserted)) (c .before .before .before .before .before .before .before .before .loop .i) (c .before .before .before .before .before .before .before .loop-test .taken)) _ _ (c .before .before .before .before .insert-one .ensures) (c .if1 .taken)
 
--- src/list.rt:33:9
 add-i : tie.Need-add-i Inv-loop μ-loop
 add-i c = search needs
 
--- src/list.rt:27:5
 loop-less : tie.Need-loop-less Inv-loop μ-loop
 loop-less c = search needs
 
--- src/list.rt:27:5
 loop-again : tie.Need-loop-again Inv-loop μ-loop
 loop-again c = turns-more (c .before .before .before .before .before .before .before .before .before .before .before .args .a) (c .before .before .before .before .before .before .before .before .before .before .before .args .p) (c .before .before .before .before .before .before .before .before .before .before .before .args .rational) (c .before .before .before .before .before .before .before .before .before .before .before .args .n) (length (now (c .before .before .before .before .before .before .before .before .before .before .before .args .inserted))) (now (c .before .before .before .before .before .before .before .before .before .before .before .args .inserted)) (λ k. drop k (now (c .before .before .before .before .before .before .before .before .before .before .before .args .inserted))) (now (c .before .before .before .before .before .before .before .before .before .before .before .args .work)) _ (c .before .before .before .before .before .before .before .before .loop .i) (c .before .before .before .before .before .before .before .before .loop .inv) (c .before .before .before .before .before .before .before .loop-test .taken) _ (drop-next (now (c .before .before .before .before .before .before .before .before .before .before .before .args .inserted)) (c .before .before .before .before .before .before .before .before .loop .i) (c .before .before .before .before .before .before .before .loop-test .taken)) _ _ (c .before .before .before .before .insert-one .ensures) (c .if1 .left) (c .before .before .before .work .given)
 
--- src/list.rt:35:5
 refuse-requires : tie.Need-refuse-requires Inv-loop μ-loop
 refuse-requires c κs = search needs
 
--- src/list.rt:14:1
 same-length-2 : tie.Need-same-length-2 Inv-loop μ-loop
 same-length-2 c = c .before .before .loop .inv .long
 
--- src/list.rt:14:1
 returns-2 : tie.Need-returns-2 Inv-loop μ-loop
 returns-2 c = turns-end (c .before .before .before .before .before .args .a) (c .before .before .before .before .before .args .p) (c .before .before .before .before .before .args .rational) (c .before .before .before .before .before .args .n) (length (now (c .before .before .before .before .before .args .inserted))) (now (c .before .before .before .before .before .args .inserted)) (λ k. drop k (now (c .before .before .before .before .before .args .inserted))) (now (c .before .before .before .before .before .args .work)) _ (c .before .before .loop .i) (c .before .before .loop .inv) (c .before .loop-test .left) (drop-last (now (c .before .before .before .before .before .args .inserted))) _ (ap (λ (r : Refusal). r .number) (c .refuse .ensures))
 

@@ -17,47 +17,36 @@ Inv-loop p n rational t m a work₀ j₀ work j = InTurns a p rational n m (repl
 abbrev μ-loop : tie.MeasureT-loop
 μ-loop p n rational t m a work₀ j₀ work j = m - j
 
--- src/list.rt:53:5
 loop-holds : tie.Need-loop-holds Inv-loop μ-loop
 loop-holds c = turns-start (c .before .args .a) (c .before .args .p) (c .before .args .rational) (c .before .args .n) (c .before .args .m) (replicate (c .before .args .m) (c .before .args .t)) (λ k. replicate (c .before .args .m - k) (c .before .args .t)) (now (c .before .args .work)) (more-first (c .before .args .t) (c .before .args .m)) (c .before .pre .0)
 
--- src/list.rt:54:37
 add-insert-one : tie.Need-add-insert-one Inv-loop μ-loop
 add-insert-one c = let q = c .before .before .before .pre .1 .1 in let t = c .loop-test .taken in let g = c .before .before .before .good in let f = c .before .before .before .fits in search needs
 
--- src/list.rt:54:13
 insert-one-requires : tie.Need-insert-one-requires Inv-loop μ-loop
 insert-one-requires c κs = turns-room (c .before .before .before .before .args .a) (c .before .before .before .before .args .p) (c .before .before .before .before .args .rational) (c .before .before .before .before .args .n) (c .before .before .before .before .args .m) (replicate (c .before .before .before .before .args .m) (c .before .before .before .before .args .t)) (λ k. replicate (c .before .before .before .before .args .m - k) (c .before .before .before .before .args .t)) (now (c .before .before .before .before .args .work)) _ (c .before .before .loop .j) (c .before .before .loop .inv) (c .before .loop-test .taken) (c .before .before .before .before .pre .1 .0) (c .before .before .before .before .pre .1 .1)
 
--- src/list.rt:56:13
 same-length : tie.Need-same-length Inv-loop μ-loop
 same-length c = c .before .before .before .work .given ∙ c .before .before .before .before .before .before .before .loop .inv .long
 
--- src/list.rt:56:13
 returns : tie.Need-returns Inv-loop μ-loop
 returns c = turns-stop (c .before .before .before .before .before .before .before .before .before .args .a) (c .before .before .before .before .before .before .before .before .before .args .p) (c .before .before .before .before .before .before .before .before .before .args .rational) (c .before .before .before .before .before .before .before .before .before .args .n) (c .before .before .before .before .before .before .before .before .before .args .m) (replicate (c .before .before .before .before .before .before .before .before .before .args .m) (c .before .before .before .before .before .before .before .before .before .args .t)) (λ k. replicate (c .before .before .before .before .before .before .before .before .before .args .m - k) (c .before .before .before .before .before .before .before .before .before .args .t)) (now (c .before .before .before .before .before .before .before .before .before .args .work)) _ (c .before .before .before .before .before .before .before .loop .j) (c .before .before .before .before .before .before .before .loop .inv) (c .before .before .before .before .before .before .loop-test .taken) (c .before .before .before .before .before .before .before .before .before .args .t) (more-next (c .before .before .before .before .before .before .before .before .before .args .t) (c .before .before .before .before .before .before .before .before .before .args .m) (c .before .before .before .before .before .before .before .loop .j) (c .before .before .before .before .before .before .loop-test .taken)) _ _ (c .before .before .before .before .insert-one .ensures) (c .if1 .taken)
 
--- src/list.rt:58:9
 add-j : tie.Need-add-j Inv-loop μ-loop
 add-j c = search needs
 
--- src/list.rt:53:5
 loop-less : tie.Need-loop-less Inv-loop μ-loop
 loop-less c = search needs
 
--- src/list.rt:53:5
 loop-again : tie.Need-loop-again Inv-loop μ-loop
 loop-again c = turns-more (c .before .before .before .before .before .before .before .before .before .args .a) (c .before .before .before .before .before .before .before .before .before .args .p) (c .before .before .before .before .before .before .before .before .before .args .rational) (c .before .before .before .before .before .before .before .before .before .args .n) (c .before .before .before .before .before .before .before .before .before .args .m) (replicate (c .before .before .before .before .before .before .before .before .before .args .m) (c .before .before .before .before .before .before .before .before .before .args .t)) (λ k. replicate (c .before .before .before .before .before .before .before .before .before .args .m - k) (c .before .before .before .before .before .before .before .before .before .args .t)) (now (c .before .before .before .before .before .before .before .before .before .args .work)) _ (c .before .before .before .before .before .before .before .loop .j) (c .before .before .before .before .before .before .before .loop .inv) (c .before .before .before .before .before .before .loop-test .taken) (c .before .before .before .before .before .before .before .before .before .args .t) (more-next (c .before .before .before .before .before .before .before .before .before .args .t) (c .before .before .before .before .before .before .before .before .before .args .m) (c .before .before .before .before .before .before .before .loop .j) (c .before .before .before .before .before .before .loop-test .taken)) _ _ (c .before .before .before .before .insert-one .ensures) (c .if1 .left) (c .before .before .before .work .given)
 
--- src/list.rt:60:5
 refuse-requires : tie.Need-refuse-requires Inv-loop μ-loop
 refuse-requires c κs = search needs
 
--- src/list.rt:39:1
 same-length-2 : tie.Need-same-length-2 Inv-loop μ-loop
 same-length-2 c = c .before .before .loop .inv .long
 
--- src/list.rt:39:1
 returns-2 : tie.Need-returns-2 Inv-loop μ-loop
 returns-2 c = turns-end (c .before .before .before .before .args .a) (c .before .before .before .before .args .p) (c .before .before .before .before .args .rational) (c .before .before .before .before .args .n) (c .before .before .before .before .args .m) (replicate (c .before .before .before .before .args .m) (c .before .before .before .before .args .t)) (λ k. replicate (c .before .before .before .before .args .m - k) (c .before .before .before .before .args .t)) (now (c .before .before .before .before .args .work)) _ (c .before .before .loop .j) (c .before .before .loop .inv) (c .before .loop-test .left) (more-last (c .before .before .before .before .args .t) (c .before .before .before .before .args .m)) _ (ap (λ (r : Refusal). r .number) (c .refuse .ensures))
 

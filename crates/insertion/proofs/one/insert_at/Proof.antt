@@ -11,67 +11,51 @@ use borrow.Author.Needs.{needs}
 use Rattle.insertion.proofs.one.insert_at.Statement.{statement}
 use Rattle.insertion.proofs.one.insert_at.Tie as tie
 
--- src/one.rt:54:23
 row-at-requires : tie.Need-row-at-requires
 row-at-requires c κs = let q = c .before .before .pre .1 .0 in let k = c .before .before .pre .0 .2 in let x = q .0 in let y = q .1 in omega arith
 
--- src/one.rt:54:9
 vector-of-requires : tie.Need-vector-of-requires
 vector-of-requires c κs = search needs
 
--- src/one.rt:55:9
 lift-rows-requires : tie.Need-lift-rows-requires
 lift-rows-requires c κs = let q = c .before .before .before .before .before .pre .1 .0 in let x = q .0 in let y = q .1 in omega arith
 
--- src/one.rt:56:9
 refuse-requires : tie.Need-refuse-requires
 refuse-requires c κs = search needs
 
--- src/one.rt:56:9
 same-length : tie.Need-same-length
 same-length c = c .before .before .before .work .given
 
--- src/one.rt:56:9
 returns : tie.Need-returns
 returns c = form-19 (c .before .before .before .before .before .before .before .before .before .before .args .a) (c .before .before .before .before .before .before .before .before .before .before .args .spot .p) (c .before .before .before .before .before .before .before .before .before .before .args .n) (c .before .before .before .before .before .before .before .before .before .before .args .spot .k) (c .before .before .before .before .before .before .before .before .before .before .args .spot .s) (c .before .before .before .before .before .before .before .before .before .before .args .spot .t) (c .before .before .before .before .before .before .before .before .before .before .args .rational) (now (c .before .before .before .before .before .before .before .before .before .before .args .work)) (c .before .before .before .before .before .before .before .before .before .before .pre .0 .2) _ (c .before .before .before .before .before .before .vector-of .ensures ∙ ap vectorOf (c .before .before .before .before .before .before .before .row-at .ensures)) _ _ (c .before .before .before .before .lift-rows .ensures) (not-true _ (c .before .if1 .taken)) _ (c .refuse .ensures) _
 
--- src/one.rt:58:9
 lower-rows-requires : tie.Need-lower-rows-requires
 lower-rows-requires c κs = let q = c .before .before .before .before .before .before .before .before .before .before .pre .1 .0 in let x = q .0 in let y = q .1 in let w = c .before .before .before .work .given in ((c .before .before .before .before .before .before .before .before .before .before .pre .0 .0, c .before .before .before .before .before .before .before .before .before .before .pre .0 .1), ((c .before .before .before .before .before .before .before .before .before .before .pre .0 .2, x), omega arith))
 
--- src/one.rt:60:9
 same-length-2 : tie.Need-same-length-2
 same-length-2 c = c .before .before .before .work2 .given ∙ c .before .before .before .before .before .before .before .before .work .given
 
--- src/one.rt:60:9
 returns-2 : tie.Need-returns-2
 returns-2 c = form-late (c .before .before .before .before .before .before .before .before .before .before .before .before .before .before .before .args .a) (c .before .before .before .before .before .before .before .before .before .before .before .before .before .before .before .args .spot .p) (c .before .before .before .before .before .before .before .before .before .before .before .before .before .before .before .args .n) (c .before .before .before .before .before .before .before .before .before .before .before .before .before .before .before .args .spot .k) (c .before .before .before .before .before .before .before .before .before .before .before .before .before .before .before .args .spot .s) (c .before .before .before .before .before .before .before .before .before .before .before .before .before .before .before .args .spot .t) (c .before .before .before .before .before .before .before .before .before .before .before .before .before .before .before .args .rational) (now (c .before .before .before .before .before .before .before .before .before .before .before .before .before .before .before .args .work)) (c .before .before .before .before .before .before .before .before .before .before .before .before .before .before .before .pre .0 .2) _ (c .before .before .before .before .before .before .before .before .before .before .before .vector-of .ensures ∙ ap vectorOf (c .before .before .before .before .before .before .before .before .before .before .before .before .row-at .ensures)) _ _ (c .before .before .before .before .before .before .before .before .before .lift-rows .ensures) (not-false _ (c .before .before .before .before .before .before .if1 .left)) (c .before .before .before .before .before .before .before .before .before .before .before .before .before .before .before .pre .0 .0) (c .before .before .before .before .before .before .before .before .before .before .before .before .before .before .before .pre .0 .1) (c .before .before .before .before .before .before .before .before .before .before .before .before .before .before .before .pre .1 .0 .0) (c .before .before .before .before .before .before .before .before .before .before .before .before .before .before .before .pre .1 .0 .1) (c .before .before .before .before .before .before .before .before .work .given) (c .before .before .before .before .before .before .before .before .before .before .before .before .before .before .before .pre .1 .1) _ _ (c .before .before .before .before .lower-rows .ensures) (c .if2 .taken)
 
--- src/one.rt:62:14
 add-at : tie.Need-add-at
 add-at c = let q = c .before .before .before .before .before .before .before .before .before .before .before .before .before .before .before .before .pre .1 .0 in let k = c .before .before .before .before .before .before .before .before .before .before .before .before .before .before .before .before .pre .0 .2 in let y = q .1 in let g = c .before .before .before .before .before .before .before .before .before .before .before .before .before .before .before .before .good in let f = c .before .before .before .before .before .before .before .before .before .before .before .before .before .before .before .before .fits in omega (arith, g, f)
 
--- src/one.rt:63:20
 add-end : tie.Need-add-end
 add-end c = let q = c .before .before .before .before .before .before .before .before .before .before .before .before .before .before .before .before .before .pre .1 .0 in let y = q .1 in let g = c .before .before .before .before .before .before .before .before .before .before .before .before .before .before .before .before .before .good in let f = c .before .before .before .before .before .before .before .before .before .before .before .before .before .before .before .before .before .fits in omega (arith, g, f)
 
--- src/one.rt:63:20
 add-end-2 : tie.Need-add-end-2
 add-end-2 c = let q = c .before .before .before .before .before .before .before .before .before .before .before .before .before .before .before .before .before .pre .1 .0 in let y = q .1 in let g = c .before .before .before .before .before .before .before .before .before .before .before .before .before .before .before .before .before .good in let f = c .before .before .before .before .before .before .before .before .before .before .before .before .before .before .before .before .before .fits in omega (arith, g, f)
 
--- src/one.rt:63:15
 add-end-3 : tie.Need-add-end-3
 add-end-3 c = let q = c .before .before .before .before .before .before .before .before .before .before .before .before .before .before .before .before .before .pre .1 .0 in let y = q .1 in let g = c .before .before .before .before .before .before .before .before .before .before .before .before .before .before .before .before .before .good in let f = c .before .before .before .before .before .before .before .before .before .before .before .before .before .before .before .before .before .fits in omega (arith, g, f)
 
--- src/one.rt:64:5
 put-knot-requires : tie.Need-put-knot-requires
 put-knot-requires c κs = let q = c .before .before .before .before .before .before .before .before .before .before .before .before .before .before .before .before .before .before .pre .1 .0 in let k = c .before .before .before .before .before .before .before .before .before .before .before .before .before .before .before .before .before .before .pre .0 .2 in let y = q .1 in let w = c .before .before .before .before .before .before .before .before .before .before .before .work .given in let v = c .before .before .before .before .before .before .work2 .given in (omega arith, omega arith)
 
--- src/one.rt:48:1
 same-length-3 : tie.Need-same-length-3
 same-length-3 c = c .before .work3 .given ∙ (c .before .before .before .before .before .before .before .before .before .work2 .given ∙ c .before .before .before .before .before .before .before .before .before .before .before .before .before .before .work .given)
 
--- src/one.rt:48:1
 returns-3 : tie.Need-returns-3
 returns-3 c = form-end (c .before .before .before .before .before .before .before .before .before .before .before .before .before .before .before .before .before .before .before .before .before .args .a) (c .before .before .before .before .before .before .before .before .before .before .before .before .before .before .before .before .before .before .before .before .before .args .spot .p) (c .before .before .before .before .before .before .before .before .before .before .before .before .before .before .before .before .before .before .before .before .before .args .n) (c .before .before .before .before .before .before .before .before .before .before .before .before .before .before .before .before .before .before .before .before .before .args .spot .k) (c .before .before .before .before .before .before .before .before .before .before .before .before .before .before .before .before .before .before .before .before .before .args .spot .s) (c .before .before .before .before .before .before .before .before .before .before .before .before .before .before .before .before .before .before .before .before .before .args .spot .t) (c .before .before .before .before .before .before .before .before .before .before .before .before .before .before .before .before .before .before .before .before .before .args .rational) (now (c .before .before .before .before .before .before .before .before .before .before .before .before .before .before .before .before .before .before .before .before .before .args .work)) (c .before .before .before .before .before .before .before .before .before .before .before .before .before .before .before .before .before .before .before .before .before .pre .0 .2) _ (c .before .before .before .before .before .before .before .before .before .before .before .before .before .before .before .before .before .vector-of .ensures ∙ ap vectorOf (c .before .before .before .before .before .before .before .before .before .before .before .before .before .before .before .before .before .before .row-at .ensures)) _ _ (c .before .before .before .before .before .before .before .before .before .before .before .before .before .before .before .lift-rows .ensures) (not-false _ (c .before .before .before .before .before .before .before .before .before .before .before .before .if1 .left)) (c .before .before .before .before .before .before .before .before .before .before .before .before .before .before .before .before .before .before .before .before .before .pre .0 .0) (c .before .before .before .before .before .before .before .before .before .before .before .before .before .before .before .before .before .before .before .before .before .pre .0 .1) (c .before .before .before .before .before .before .before .before .before .before .before .before .before .before .before .before .before .before .before .before .before .pre .1 .0 .0) (c .before .before .before .before .before .before .before .before .before .before .before .before .before .before .before .before .before .before .before .before .before .pre .1 .0 .1) (c .before .before .before .before .before .before .before .before .before .before .before .before .before .before .work .given) (c .before .before .before .before .before .before .before .before .before .before .before .before .before .before .before .before .before .before .before .before .before .pre .1 .1) _ _ (c .before .before .before .before .before .before .before .before .before .before .lower-rows .ensures) (c .before .before .before .before .before .before .before .before .before .work2 .given) _ (c .before .work3 .given) (c .before .before .put-knot .ensures)
 

@@ -16,79 +16,60 @@ use borrow.Author.Needs.{needs}
 use Rattle.insertion.proofs.one.insert_one.Statement.{statement}
 use Rattle.insertion.proofs.one.insert_one.Tie as tie
 
--- src/one.rt:81:20
 add-end : tie.Need-add-end
 add-end c = search needs
 
--- src/one.rt:81:20
 add-end-2 : tie.Need-add-end-2
 add-end-2 c = search needs
 
--- src/one.rt:81:15
 add-end-3 : tie.Need-add-end-3
 add-end-3 c = search needs
 
--- src/one.rt:82:14
 mul-ks : tie.Need-mul-ks
 mul-ks c = search needs
 
--- src/one.rt:82:14
 sub-ks : tie.Need-sub-ks
 sub-ks c = search needs
 
--- src/one.rt:82:14
 part-ks-start : tie.Need-part-ks-start
 part-ks-start c = search needs
 
--- src/one.rt:82:14
 part-ks-end : tie.Need-part-ks-end
 part-ks-end c = search needs
 
--- src/one.rt:83:9
 multiplicity-requires : tie.Need-multiplicity-requires
 multiplicity-requires c κs = search needs
 
--- src/one.rt:84:30
 mul-spot-refusal : tie.Need-mul-spot-refusal
 mul-spot-refusal c = search needs
 
--- src/one.rt:84:30
 shared-slice-read-spot-refusal : tie.Need-shared-slice-read-spot-refusal
 shared-slice-read-spot-refusal c = search needs
 
--- src/one.rt:84:37
 mul-spot-refusal-2 : tie.Need-mul-spot-refusal-2
 mul-spot-refusal-2 c = search needs
 
--- src/one.rt:84:37
 shared-slice-read-spot-refusal-2 : tie.Need-shared-slice-read-spot-refusal-2
 shared-slice-read-spot-refusal-2 c = search needs
 
--- src/one.rt:84:9
 spot-refusal-requires : tie.Need-spot-refusal-requires
 spot-refusal-requires c κs = search needs
 
--- src/one.rt:86:9
 same-length : tie.Need-same-length
 same-length c = search needs
 
--- src/one.rt:86:9
 returns : tie.Need-returns
 returns c = insert-early (c .before .before .before .before .before .before .before .before .before .args .p) (c .before .before .before .before .before .before .before .before .before .args .n) (knotsFrom (c .before .before .before .before .before .before .before .before .before .args .a) (c .before .before .before .before .before .before .before .before .before .args .p) (c .before .before .before .before .before .before .before .before .before .args .n) (now (c .before .before .before .before .before .before .before .before .before .args .work))) (pointsFrom (c .before .before .before .before .before .before .before .before .before .args .n) (now (c .before .before .before .before .before .before .before .before .before .args .work))) (c .before .before .before .before .before .before .before .before .before .args .rational) (weightsFrom (c .before .before .before .before .before .before .before .before .before .args .rational) (c .before .before .before .before .before .before .before .before .before .args .n) (now (c .before .before .before .before .before .before .before .before .before .args .work))) (c .before .before .before .before .before .before .before .before .before .args .t) (c .before .before .before .before .before .before .before .before .before .args .a) (now (c .before .before .before .before .before .before .before .before .before .args .work)) _ _ (c .before .before .before .before .before .before .before .before .before .args .n) (c .before .before .before .before .before .multiplicity .ensures ∙ ap (λ (ks : List Float). multiplicityOf ks (c .before .before .before .before .before .before .before .before .before .args .t)) (slice-is (c .before .before .before .before .before .before .before .before .before .args .a) (c .before .before .before .before .before .before .before .before .before .args .n + c .before .before .before .before .before .before .before .before .before .args .p + 1) (now (c .before .before .before .before .before .before .before .before .before .args .work)))) _ (c .before .before .spot-refusal .ensures ∙ ap (λ (ks : List Float). spotRefusal (at ks (c .before .before .before .before .before .before .before .before .before .args .p)) (at ks (c .before .before .before .before .before .before .before .before .before .args .n)) (c .before .before .before .before .before .before .before .before .before .args .t) (c .before .before .before .before .before .before .before .before .before .args .p) (c .before .before .before .before .before .multiplicity .result)) (slice-is (c .before .before .before .before .before .before .before .before .before .args .a) (c .before .before .before .before .before .before .before .before .before .args .n + c .before .before .before .before .before .before .before .before .before .args .p + 1) (now (c .before .before .before .before .before .before .before .before .before .args .work)))) (c .if1 .taken)
 
--- src/one.rt:88:9
 span-of-requires : tie.Need-span-of-requires
 span-of-requires c κs = search needs
 
--- src/one.rt:90:5
 insert-at-requires : tie.Need-insert-at-requires
 insert-at-requires c κs = let o = spot-open (c .before .before .before .before .before .before .before .before .before .before .before .args .p) (c .before .before .before .before .before .before .before .before .before .before .before .args .n) (knotsFrom (c .before .before .before .before .before .before .before .before .before .before .before .args .a) (c .before .before .before .before .before .before .before .before .before .before .before .args .p) (c .before .before .before .before .before .before .before .before .before .before .before .args .n) (now (c .before .before .before .before .before .before .before .before .before .before .before .args .work))) (pointsFrom (c .before .before .before .before .before .before .before .before .before .before .before .args .n) (now (c .before .before .before .before .before .before .before .before .before .before .before .args .work))) (c .before .before .before .before .before .before .before .before .before .before .before .args .rational) (weightsFrom (c .before .before .before .before .before .before .before .before .before .before .before .args .rational) (c .before .before .before .before .before .before .before .before .before .before .before .args .n) (now (c .before .before .before .before .before .before .before .before .before .before .before .args .work))) (c .before .before .before .before .before .before .before .before .before .before .before .args .t) _ (c .before .before .before .before .before .before .before .before .before .before .before .pre .0) (sym (ap (λ (r : Refusal). r .number) (c .before .before .before .before .spot-refusal .ensures ∙ ap (λ (ks : List Float). spotRefusal (at ks (c .before .before .before .before .before .before .before .before .before .before .before .args .p)) (at ks (c .before .before .before .before .before .before .before .before .before .before .before .args .n)) (c .before .before .before .before .before .before .before .before .before .before .before .args .t) (c .before .before .before .before .before .before .before .before .before .before .before .args .p) (c .before .before .before .before .before .before .before .multiplicity .result)) (slice-is (c .before .before .before .before .before .before .before .before .before .before .before .args .a) (c .before .before .before .before .before .before .before .before .before .before .before .args .n + c .before .before .before .before .before .before .before .before .before .before .before .args .p + 1) (now (c .before .before .before .before .before .before .before .before .before .before .before .args .work))))) ∙ c .before .before .if1 .left) in let s = spot-found (c .before .before .before .before .before .before .before .before .before .before .before .args .p) (c .before .before .before .before .before .before .before .before .before .before .before .args .n) (knotsFrom (c .before .before .before .before .before .before .before .before .before .before .before .args .a) (c .before .before .before .before .before .before .before .before .before .before .before .args .p) (c .before .before .before .before .before .before .before .before .before .before .before .args .n) (now (c .before .before .before .before .before .before .before .before .before .before .before .args .work))) (pointsFrom (c .before .before .before .before .before .before .before .before .before .before .before .args .n) (now (c .before .before .before .before .before .before .before .before .before .before .before .args .work))) (c .before .before .before .before .before .before .before .before .before .before .before .args .rational) (weightsFrom (c .before .before .before .before .before .before .before .before .before .before .before .args .rational) (c .before .before .before .before .before .before .before .before .before .before .before .args .n) (now (c .before .before .before .before .before .before .before .before .before .before .before .args .work))) (c .before .before .before .before .before .before .before .before .before .before .before .args .t) _ _ (c .before .before .before .before .before .before .before .multiplicity .ensures ∙ ap (λ (ks : List Float). multiplicityOf ks (c .before .before .before .before .before .before .before .before .before .before .before .args .t)) (slice-is (c .before .before .before .before .before .before .before .before .before .before .before .args .a) (c .before .before .before .before .before .before .before .before .before .before .before .args .n + c .before .before .before .before .before .before .before .before .before .before .before .args .p + 1) (now (c .before .before .before .before .before .before .before .before .before .before .before .args .work)))) (c .before .before .before .before .before .before .before .before .before .before .before .pre .0) o (moved-span (slice-is (c .before .before .before .before .before .before .before .before .before .before .before .args .a) (c .before .before .before .before .before .before .before .before .before .before .before .args .n + c .before .before .before .before .before .before .before .before .before .before .before .args .p + 1) (now (c .before .before .before .before .before .before .before .before .before .before .before .args .work))) (c .before .span-of .ensures)) in ((o .room, s .0 .from, s .0 .below), (c .before .before .before .before .before .before .before .before .before .before .before .pre .1, s .2))
 
--- src/one.rt:69:1
 same-length-2 : tie.Need-same-length-2
 same-length-2 c = search needs
 
--- src/one.rt:69:1
 returns-2 : tie.Need-returns-2
 returns-2 c = let o = spot-open (c .before .before .before .before .before .before .before .before .before .before .before .before .before .before .args .p) (c .before .before .before .before .before .before .before .before .before .before .before .before .before .before .args .n) (knotsFrom (c .before .before .before .before .before .before .before .before .before .before .before .before .before .before .args .a) (c .before .before .before .before .before .before .before .before .before .before .before .before .before .before .args .p) (c .before .before .before .before .before .before .before .before .before .before .before .before .before .before .args .n) (now (c .before .before .before .before .before .before .before .before .before .before .before .before .before .before .args .work))) (pointsFrom (c .before .before .before .before .before .before .before .before .before .before .before .before .before .before .args .n) (now (c .before .before .before .before .before .before .before .before .before .before .before .before .before .before .args .work))) (c .before .before .before .before .before .before .before .before .before .before .before .before .before .before .args .rational) (weightsFrom (c .before .before .before .before .before .before .before .before .before .before .before .before .before .before .args .rational) (c .before .before .before .before .before .before .before .before .before .before .before .before .before .before .args .n) (now (c .before .before .before .before .before .before .before .before .before .before .before .before .before .before .args .work))) (c .before .before .before .before .before .before .before .before .before .before .before .before .before .before .args .t) _ (c .before .before .before .before .before .before .before .before .before .before .before .before .before .before .pre .0) (sym (ap (λ (r : Refusal). r .number) (c .before .before .before .before .before .before .before .spot-refusal .ensures ∙ ap (λ (ks : List Float). spotRefusal (at ks (c .before .before .before .before .before .before .before .before .before .before .before .before .before .before .args .p)) (at ks (c .before .before .before .before .before .before .before .before .before .before .before .before .before .before .args .n)) (c .before .before .before .before .before .before .before .before .before .before .before .before .before .before .args .t) (c .before .before .before .before .before .before .before .before .before .before .before .before .before .before .args .p) (c .before .before .before .before .before .before .before .before .before .before .multiplicity .result)) (slice-is (c .before .before .before .before .before .before .before .before .before .before .before .before .before .before .args .a) (c .before .before .before .before .before .before .before .before .before .before .before .before .before .before .args .n + c .before .before .before .before .before .before .before .before .before .before .before .before .before .before .args .p + 1) (now (c .before .before .before .before .before .before .before .before .before .before .before .before .before .before .args .work))))) ∙ c .before .before .before .before .before .if1 .left) in let s = spot-found (c .before .before .before .before .before .before .before .before .before .before .before .before .before .before .args .p) (c .before .before .before .before .before .before .before .before .before .before .before .before .before .before .args .n) (knotsFrom (c .before .before .before .before .before .before .before .before .before .before .before .before .before .before .args .a) (c .before .before .before .before .before .before .before .before .before .before .before .before .before .before .args .p) (c .before .before .before .before .before .before .before .before .before .before .before .before .before .before .args .n) (now (c .before .before .before .before .before .before .before .before .before .before .before .before .before .before .args .work))) (pointsFrom (c .before .before .before .before .before .before .before .before .before .before .before .before .before .before .args .n) (now (c .before .before .before .before .before .before .before .before .before .before .before .before .before .before .args .work))) (c .before .before .before .before .before .before .before .before .before .before .before .before .before .before .args .rational) (weightsFrom (c .before .before .before .before .before .before .before .before .before .before .before .before .before .before .args .rational) (c .before .before .before .before .before .before .before .before .before .before .before .before .before .before .args .n) (now (c .before .before .before .before .before .before .before .before .before .before .before .before .before .before .args .work))) (c .before .before .before .before .before .before .before .before .before .before .before .before .before .before .args .t) _ _ (c .before .before .before .before .before .before .before .before .before .before .multiplicity .ensures ∙ ap (λ (ks : List Float). multiplicityOf ks (c .before .before .before .before .before .before .before .before .before .before .before .before .before .before .args .t)) (slice-is (c .before .before .before .before .before .before .before .before .before .before .before .before .before .before .args .a) (c .before .before .before .before .before .before .before .before .before .before .before .before .before .before .args .n + c .before .before .before .before .before .before .before .before .before .before .before .before .before .before .args .p + 1) (now (c .before .before .before .before .before .before .before .before .before .before .before .before .before .before .args .work)))) (c .before .before .before .before .before .before .before .before .before .before .before .before .before .before .pre .0) o (moved-span (slice-is (c .before .before .before .before .before .before .before .before .before .before .before .before .before .before .args .a) (c .before .before .before .before .before .before .before .before .before .before .before .before .before .before .args .n + c .before .before .before .before .before .before .before .before .before .before .before .before .before .before .args .p + 1) (now (c .before .before .before .before .before .before .before .before .before .before .before .before .before .before .args .work))) (c .before .before .before .before .span-of .ensures)) in insert-done (c .before .before .before .before .before .before .before .before .before .before .before .before .before .before .args .p) (c .before .before .before .before .before .before .before .before .before .before .before .before .before .before .args .n) (knotsFrom (c .before .before .before .before .before .before .before .before .before .before .before .before .before .before .args .a) (c .before .before .before .before .before .before .before .before .before .before .before .before .before .before .args .p) (c .before .before .before .before .before .before .before .before .before .before .before .before .before .before .args .n) (now (c .before .before .before .before .before .before .before .before .before .before .before .before .before .before .args .work))) (pointsFrom (c .before .before .before .before .before .before .before .before .before .before .before .before .before .before .args .n) (now (c .before .before .before .before .before .before .before .before .before .before .before .before .before .before .args .work))) (c .before .before .before .before .before .before .before .before .before .before .before .before .before .before .args .rational) (weightsFrom (c .before .before .before .before .before .before .before .before .before .before .before .before .before .before .args .rational) (c .before .before .before .before .before .before .before .before .before .before .before .before .before .before .args .n) (now (c .before .before .before .before .before .before .before .before .before .before .before .before .before .before .args .work))) (c .before .before .before .before .before .before .before .before .before .before .before .before .before .before .args .t) (c .before .before .before .before .before .before .before .before .before .before .before .before .before .before .args .a) (now (c .before .before .before .before .before .before .before .before .before .before .before .before .before .before .args .work)) _ _ _ (c .before .before .before .before .before .before .before .before .before .before .multiplicity .ensures ∙ ap (λ (ks : List Float). multiplicityOf ks (c .before .before .before .before .before .before .before .before .before .before .before .before .before .before .args .t)) (slice-is (c .before .before .before .before .before .before .before .before .before .before .before .before .before .before .args .a) (c .before .before .before .before .before .before .before .before .before .before .before .before .before .before .args .n + c .before .before .before .before .before .before .before .before .before .before .before .before .before .before .args .p + 1) (now (c .before .before .before .before .before .before .before .before .before .before .before .before .before .before .args .work)))) _ _ (c .before .before .before .before .before .before .before .spot-refusal .ensures ∙ ap (λ (ks : List Float). spotRefusal (at ks (c .before .before .before .before .before .before .before .before .before .before .before .before .before .before .args .p)) (at ks (c .before .before .before .before .before .before .before .before .before .before .before .before .before .before .args .n)) (c .before .before .before .before .before .before .before .before .before .before .before .before .before .before .args .t) (c .before .before .before .before .before .before .before .before .before .before .before .before .before .before .args .p) (c .before .before .before .before .before .before .before .before .before .before .multiplicity .result)) (slice-is (c .before .before .before .before .before .before .before .before .before .before .before .before .before .before .args .a) (c .before .before .before .before .before .before .before .before .before .before .before .before .before .before .args .n + c .before .before .before .before .before .before .before .before .before .before .before .before .before .before .args .p + 1) (now (c .before .before .before .before .before .before .before .before .before .before .before .before .before .before .args .work)))) (c .before .before .before .before .before .if1 .left) (s .1) (c .before .before .insert-at .ensures)
 

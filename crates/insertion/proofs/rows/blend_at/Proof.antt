@@ -6,61 +6,47 @@ use borrow.Author.Needs.{needs}
 use Rattle.insertion.proofs.rows.blend_at.Statement.{statement}
 use Rattle.insertion.proofs.rows.blend_at.Tie as tie
 
--- src/rows.rt:144:13
 sub-if1 : tie.Need-sub-if1
 sub-if1 c = search needs
 
--- src/rows.rt:145:9
 returns : tie.Need-returns
 unfolding blendOne
 returns c = simp (le-leb _ _ (c .if1 .taken))
 
--- src/rows.rt:147:13
 sub-if2 : tie.Need-sub-if2
 sub-if2 c = search needs
 
--- src/rows.rt:148:20
 add-left : tie.Need-add-left
 add-left c = search needs
 
--- src/rows.rt:149:26
 add-right : tie.Need-add-right
 add-right c = search needs
 
--- src/rows.rt:149:21
 add-right-2 : tie.Need-add-right-2
 add-right-2 c = search needs
 
--- src/rows.rt:150:34
 mul-share-of : tie.Need-mul-share-of
 mul-share-of c = search needs
 
--- src/rows.rt:150:34
 shared-slice-read-share-of : tie.Need-shared-slice-read-share-of
 shared-slice-read-share-of c = search needs
 
--- src/rows.rt:150:46
 mul-share-of-2 : tie.Need-mul-share-of-2
 mul-share-of-2 c = search needs
 
--- src/rows.rt:150:46
 shared-slice-read-share-of-2 : tie.Need-shared-slice-read-share-of-2
 shared-slice-read-share-of-2 c = search needs
 
--- src/rows.rt:150:13
 share-of-requires : tie.Need-share-of-requires
 share-of-requires c κs = search needs
 
--- src/rows.rt:151:9
 blend-of-requires : tie.Need-blend-of-requires
 blend-of-requires c κs = search needs
 
--- src/rows.rt:151:9
 returns-2 : tie.Need-returns-2
 unfolding blendOne
 returns-2 c = simp (lt-leb _ _ (c .before .before .before .before .before .before .before .if1 .left), le-leb _ _ (c .before .before .before .before .before .if2 .taken)) (c .blend-of .ensures ∙ ap (blendOf (c .before .before .before .before .before .before .before .before .before .before .args .before) (c .before .before .before .before .before .before .before .before .before .before .args .here)) (c .before .share-of .ensures))
 
--- src/rows.rt:132:1
 returns-3 : tie.Need-returns-3
 unfolding blendOne
 returns-3 c = simp (lt-leb _ _ (c .before .before .if1 .left), lt-leb _ _ (c .if2 .left))

@@ -17,44 +17,34 @@ Inv-loop n rows a₀ i₀ a i = (a ≡ largestFrom zero+ (λ k. at rows (k * 4 +
 abbrev μ-loop : tie.MeasureT-loop
 μ-loop n rows a₀ i₀ a i = n - i
 
--- src/rows.rt:84:5
 loop-holds : tie.Need-loop-holds Inv-loop μ-loop
 unfolding ofBits
 loop-holds c = (largest-none _ _, omega arith)
 
--- src/rows.rt:85:18
 mul-at : tie.Need-mul-at Inv-loop μ-loop
 mul-at c = let l = c .before .before .before .pre in let t = c .loop-test .taken in let g = c .before .before .before .good in search needs
 
--- src/rows.rt:85:18
 add-at : tie.Need-add-at Inv-loop μ-loop
 add-at c = let l = c .before .before .before .pre in let t = c .loop-test .taken in let g = c .before .before .before .good in search needs
 
--- src/rows.rt:86:26
 mul-larger-of : tie.Need-mul-larger-of Inv-loop μ-loop
 mul-larger-of c = search needs
 
--- src/rows.rt:86:26
 shared-slice-read-larger-of : tie.Need-shared-slice-read-larger-of Inv-loop μ-loop
 shared-slice-read-larger-of c = let l = c .before .before .before .before .pre in let t = c .before .loop-test .taken in omega arith
 
--- src/rows.rt:86:9
 larger-of-requires : tie.Need-larger-of-requires Inv-loop μ-loop
 larger-of-requires c κs = search needs
 
--- src/rows.rt:87:9
 add-i : tie.Need-add-i Inv-loop μ-loop
 add-i c = search needs
 
--- src/rows.rt:84:5
 loop-less : tie.Need-loop-less Inv-loop μ-loop
 loop-less c = search needs
 
--- src/rows.rt:84:5
 loop-again : tie.Need-loop-again Inv-loop μ-loop
 loop-again c = let t = c .before .before .loop-test .taken in (largest-more zero+ (λ k. at (now (c .before .before .before .before .before .args .rows)) (k * 4 + 3)) (c .before .before .before .loop .i) _ _ (c .before .before .before .loop .inv .0) (c .larger-of .ensures), omega arith)
 
--- src/rows.rt:78:1
 returns : tie.Need-returns Inv-loop μ-loop
 returns c = let t = c .loop-test .left in let u = c .before .loop .inv .1 in let e : c .before .loop .i ≡ c .before .before .before .args .n = omega arith in subst (λ k. c .before .loop .a ≡ largestFrom zero+ (λ j. at (now (c .before .before .before .args .rows)) (j * 4 + 3)) k) e (c .before .loop .inv .0)
 

@@ -7,27 +7,21 @@ use borrow.Author.Needs.{needs}
 use Rattle.insertion.proofs.rows.lift_row.Statement.{statement}
 use Rattle.insertion.proofs.rows.lift_row.Tie as tie
 
--- src/rows.rt:108:27
 vector-of-requires : tie.Need-vector-of-requires
 vector-of-requires c κs = search needs
 
--- src/rows.rt:108:9
 lift-of-requires : tie.Need-lift-of-requires
 lift-of-requires c κs = search needs
 
--- src/rows.rt:108:9
 returns : tie.Need-returns
 returns c = simp (c .before .before .before .if1 .taken) (c .lift-of .ensures ∙ ap (λ (v : Vector). liftOf (c .before .before .before .before .args .o) v (div binary64 (c .before .before .before .before .args .q .w) (c .before .before .before .before .args .scale))) (c .before .before .vector-of .ensures))
 
--- src/rows.rt:110:16
 vector-of-requires-2 : tie.Need-vector-of-requires-2
 vector-of-requires-2 c κs = search needs
 
--- src/rows.rt:110:5
 lift-of-requires-2 : tie.Need-lift-of-requires-2
 lift-of-requires-2 c κs = search needs
 
--- src/rows.rt:104:1
 returns-2 : tie.Need-returns-2
 unfolding ofBits
 returns-2 c = simp (c .before .before .if1 .left) (c .lift-of2 .ensures ∙ ap (λ (v : Vector). liftOf (c .before .before .before .args .o) v one+) (c .before .vector-of2 .ensures))

@@ -17,55 +17,42 @@ Inv-loop n o rational rows₀ scale i₀ rows i = (scale ≡ scaleOf rational (w
 abbrev μ-loop : tie.MeasureT-loop
 μ-loop n o rational rows₀ scale i₀ rows i = n - i
 
--- src/rows.rt:118:9
 scale-of-requires : tie.Need-scale-of-requires Inv-loop μ-loop
 scale-of-requires c κs = c .before .before .pre
 
--- src/rows.rt:120:5
 loop-holds : tie.Need-loop-holds Inv-loop μ-loop
 loop-holds c = (c .scale-of .ensures, lift-start (c .before .before .before .args .rational) (c .before .before .before .args .o) (c .before .before .before .args .n) (now (c .before .before .before .args .rows)))
 
--- src/rows.rt:121:46
 row-at-requires : tie.Need-row-at-requires Inv-loop μ-loop
 row-at-requires c κs = let t = c .before .loop-test .taken in let p = c .before .before .before .before .before .before .pre in let l = c .before .before .loop .inv .1 .done .long in omega arith
 
--- src/rows.rt:121:13
 lift-row-requires : tie.Need-lift-row-requires Inv-loop μ-loop
 lift-row-requires c κs = search needs
 
--- src/rows.rt:122:13
 is-lifted-requires : tie.Need-is-lifted-requires Inv-loop μ-loop
 is-lifted-requires c κs = search needs
 
--- src/rows.rt:123:13
 same-length : tie.Need-same-length Inv-loop μ-loop
 same-length c = c .before .before .before .before .before .before .loop .inv .1 .done .long
 
--- src/rows.rt:123:13
 returns : tie.Need-returns Inv-loop μ-loop
 returns c = lift-stop (c .before .before .before .before .before .before .before .before .before .before .args .rational) (c .before .before .before .before .before .before .before .before .before .before .args .o) (c .before .before .before .before .before .before .before .before .before .before .args .n) (now (c .before .before .before .before .before .before .before .before .before .before .args .rows)) _ (c .before .before .before .before .before .before .loop .i) (c .before .before .before .before .before .before .loop .inv .1) (c .before .before .before .before .before .loop-test .taken) _ (c .before .before .before .before .before .before .loop .inv .0) _ (c .before .before .lift-row .ensures ∙ ap (liftRow _ (c .before .before .before .before .before .before .before .before .before .before .args .o) (c .before .before .before .before .before .before .before .before .before .before .args .rational)) (c .before .before .before .row-at .ensures)) (sym (c .before .is-lifted .ensures) ∙ not-true _ (c .if1 .taken))
 
--- src/rows.rt:125:9
 put-row-requires : tie.Need-put-row-requires Inv-loop μ-loop
 put-row-requires c κs = let t = c .before .before .before .before .before .before .loop-test .taken in let p = c .before .before .before .before .before .before .before .before .before .before .before .pre in let l = c .before .before .before .before .before .before .before .loop .inv .1 .done .long in omega arith
 
--- src/rows.rt:126:9
 add-i : tie.Need-add-i Inv-loop μ-loop
 add-i c = search needs
 
--- src/rows.rt:120:5
 loop-less : tie.Need-loop-less Inv-loop μ-loop
 loop-less c = search needs
 
--- src/rows.rt:120:5
 loop-again : tie.Need-loop-again Inv-loop μ-loop
 loop-again c = (c .before .before .before .before .before .before .before .before .before .before .loop .inv .0, lift-more (c .before .before .before .before .before .before .before .before .before .before .before .before .before .before .args .rational) (c .before .before .before .before .before .before .before .before .before .before .before .before .before .before .args .o) (c .before .before .before .before .before .before .before .before .before .before .before .before .before .before .args .n) (now (c .before .before .before .before .before .before .before .before .before .before .before .before .before .before .args .rows)) _ (c .before .before .before .before .before .before .before .before .before .before .loop .i) (c .before .before .before .before .before .before .before .before .before .before .loop .inv .1) (c .before .before .before .before .before .before .before .before .before .loop-test .taken) _ (c .before .before .before .before .before .before .before .before .before .before .loop .inv .0) _ (c .before .before .before .before .before .before .lift-row .ensures ∙ ap (liftRow _ (c .before .before .before .before .before .before .before .before .before .before .before .before .before .before .args .o) (c .before .before .before .before .before .before .before .before .before .before .before .before .before .before .args .rational)) (c .before .before .before .before .before .before .before .row-at .ensures)) (sym (c .before .before .before .before .before .is-lifted .ensures) ∙ not-false _ (c .before .before .before .before .if1 .left)) _ (c .before .rows .given) (c .before .before .put-row .ensures))
 
--- src/rows.rt:114:1
 same-length-2 : tie.Need-same-length-2 Inv-loop μ-loop
 same-length-2 c = c .before .loop .inv .1 .done .long
 
--- src/rows.rt:114:1
 returns-2 : tie.Need-returns-2 Inv-loop μ-loop
 returns-2 c = lift-end (c .before .before .before .before .before .args .rational) (c .before .before .before .before .before .args .o) (c .before .before .before .before .before .args .n) (now (c .before .before .before .before .before .args .rows)) _ (c .before .loop .i) (c .before .loop .inv .1) (c .loop-test .left)
 

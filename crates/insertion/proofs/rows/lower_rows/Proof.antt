@@ -17,91 +17,69 @@ Inv-loop spot n a o rational rows₀ fine₀ before₀ i₀ rows fine before i =
 abbrev μ-loop : tie.MeasureT-loop
 μ-loop spot n a o rational rows₀ fine₀ before₀ i₀ rows fine before i = n + 1 - i
 
--- src/rows.rt:190:9
 row-at-requires : tie.Need-row-at-requires Inv-loop μ-loop
 row-at-requires c κs = let p = c .before .before .pre in let q = p .1 .0 .1 in let l = p .1 .1 in omega arith
 
--- src/rows.rt:192:5
 loop-holds : tie.Need-loop-holds Inv-loop μ-loop
 loop-holds c = lower-start (c .before .before .before .args .spot .p) (c .before .before .before .args .spot .k) (c .before .before .before .args .spot .s) (c .before .before .before .args .spot .t) (c .before .before .before .args .n) (c .before .before .before .args .a) (c .before .before .before .args .o) (c .before .before .before .args .rational) (now (c .before .before .before .args .rows)) _ (c .row-at .ensures)
 
--- src/rows.rt:193:13
 row-at-requires-2 : tie.Need-row-at-requires-2 Inv-loop μ-loop
 row-at-requires-2 c κs = let t = c .before .loop-test .taken in let p = c .before .before .before .before .before .before .pre in let q = p .1 .0 .1 in let r = p .1 .1 in let l = c .before .before .loop .inv .done .long in omega arith
 
--- src/rows.rt:194:13
 blend-at-requires : tie.Need-blend-at-requires Inv-loop μ-loop
 blend-at-requires c κs = let p = c .before .before .before .before .before .before .before .before .pre in let q = p .1 .0 .0 in let r = p .1 .1 in let l = c .before .before .before .before .loop .inv .done .long in (p .0, omega arith)
 
--- src/rows.rt:195:13
 is-blended-requires : tie.Need-is-blended-requires Inv-loop μ-loop
 is-blended-requires c κs = search needs
 
--- src/rows.rt:196:13
 refuse-requires : tie.Need-refuse-requires Inv-loop μ-loop
 refuse-requires c κs = search needs
 
--- src/rows.rt:196:13
 same-length : tie.Need-same-length Inv-loop μ-loop
 same-length c = c .before .before .before .before .before .before .before .before .loop .inv .done .long
 
--- src/rows.rt:196:13
 returns : tie.Need-returns Inv-loop μ-loop
 returns c = let t = c .before .before .before .before .before .before .before .loop-test .taken in lower-stop (c .before .before .before .before .before .before .before .before .before .before .before .before .args .spot .p) (c .before .before .before .before .before .before .before .before .before .before .before .before .args .spot .k) (c .before .before .before .before .before .before .before .before .before .before .before .before .args .spot .s) (c .before .before .before .before .before .before .before .before .before .before .before .before .args .spot .t) (c .before .before .before .before .before .before .before .before .before .before .before .before .args .n) (c .before .before .before .before .before .before .before .before .before .before .before .before .args .a) (c .before .before .before .before .before .before .before .before .before .before .before .before .args .o) (c .before .before .before .before .before .before .before .before .before .before .before .before .args .rational) (now (c .before .before .before .before .before .before .before .before .before .before .before .before .args .rows)) (c .before .before .before .before .before .before .before .before .before .before .before .before .pre .0 .0) (c .before .before .before .before .before .before .before .before .before .before .before .before .pre .0 .1) (c .before .before .before .before .before .before .before .before .before .before .before .before .pre .1 .0 .0) (c .before .before .before .before .before .before .before .before .before .before .before .before .pre .1 .0 .1) _ _ _ (c .before .before .before .before .before .before .before .before .loop .i) (c .before .before .before .before .before .before .before .before .loop .inv) t _ (c .before .before .before .before .before .row-at2 .ensures) _ (c .before .before .before .blend-at .ensures) (sym (c .before .before .is-blended .ensures) ∙ not-true _ (c .before .if1 .taken)) _ (c .refuse .ensures)
 
--- src/rows.rt:198:13
 lower-of-requires : tie.Need-lower-of-requires Inv-loop μ-loop
 lower-of-requires c κs = search needs
 
--- src/rows.rt:199:27
 finite-vector-requires : tie.Need-finite-vector-requires Inv-loop μ-loop
 finite-vector-requires c κs = search needs
 
--- src/rows.rt:199:9
 both-requires : tie.Need-both-requires Inv-loop μ-loop
 both-requires c κs = search needs
 
--- src/rows.rt:200:36
 kept-row-requires : tie.Need-kept-row-requires Inv-loop μ-loop
 kept-row-requires c κs = search needs
 
--- src/rows.rt:200:9
 put-row-requires : tie.Need-put-row-requires Inv-loop μ-loop
 put-row-requires c κs = let t = c .before .before .before .before .before .before .before .before .before .before .before .loop-test .taken in let p = c .before .before .before .before .before .before .before .before .before .before .before .before .before .before .before .before .pre in let q = p .1 .0 .1 in let r = p .1 .1 in let l = c .before .before .before .before .before .before .before .before .before .before .before .before .loop .inv .done .long in omega arith
 
--- src/rows.rt:202:9
 add-i : tie.Need-add-i Inv-loop μ-loop
 add-i c = let t = c .before .before .before .before .before .before .before .before .before .before .before .before .before .before .loop-test .taken in let r = c .before .before .before .before .before .before .before .before .before .before .before .before .before .before .before .before .before .before .before .pre .1 .1 in let g = c .before .before .before .before .before .before .before .before .before .before .before .before .before .before .before .before .before .before .before .good in let f = c .before .before .before .before .before .before .before .before .before .before .before .before .before .before .before .before .before .before .before .fits in search needs
 
--- src/rows.rt:192:5
 loop-less : tie.Need-loop-less Inv-loop μ-loop
 loop-less c = search needs
 
--- src/rows.rt:192:5
 loop-again : tie.Need-loop-again Inv-loop μ-loop
 loop-again c = let t = c .before .before .before .before .before .before .before .before .before .before .before .before .before .before .loop-test .taken in lower-more (c .before .before .before .before .before .before .before .before .before .before .before .before .before .before .before .before .before .before .before .args .spot .p) (c .before .before .before .before .before .before .before .before .before .before .before .before .before .before .before .before .before .before .before .args .spot .k) (c .before .before .before .before .before .before .before .before .before .before .before .before .before .before .before .before .before .before .before .args .spot .s) (c .before .before .before .before .before .before .before .before .before .before .before .before .before .before .before .before .before .before .before .args .spot .t) (c .before .before .before .before .before .before .before .before .before .before .before .before .before .before .before .before .before .before .before .args .n) (c .before .before .before .before .before .before .before .before .before .before .before .before .before .before .before .before .before .before .before .args .a) (c .before .before .before .before .before .before .before .before .before .before .before .before .before .before .before .before .before .before .before .args .o) (c .before .before .before .before .before .before .before .before .before .before .before .before .before .before .before .before .before .before .before .args .rational) (now (c .before .before .before .before .before .before .before .before .before .before .before .before .before .before .before .before .before .before .before .args .rows)) (c .before .before .before .before .before .before .before .before .before .before .before .before .before .before .before .before .before .before .before .pre .0 .0) (c .before .before .before .before .before .before .before .before .before .before .before .before .before .before .before .before .before .before .before .pre .0 .1) (c .before .before .before .before .before .before .before .before .before .before .before .before .before .before .before .before .before .before .before .pre .1 .0 .0) (c .before .before .before .before .before .before .before .before .before .before .before .before .before .before .before .before .before .before .before .pre .1 .0 .1) _ _ _ (c .before .before .before .before .before .before .before .before .before .before .before .before .before .before .before .loop .i) (c .before .before .before .before .before .before .before .before .before .before .before .before .before .before .before .loop .inv) t _ (c .before .before .before .before .before .before .before .before .before .before .before .before .row-at2 .ensures) _ (c .before .before .before .before .before .before .before .before .before .before .blend-at .ensures) (sym (c .before .before .before .before .before .before .before .before .before .is-blended .ensures) ∙ not-false _ (c .before .before .before .before .before .before .before .before .if1 .left)) _ (c .before .before .before .before .before .before .before .lower-of .ensures) _ _ (c .before .before .before .before .before .before .finite-vector .ensures) (c .before .before .before .before .before .both .ensures) _ (c .before .before .before .kept-row .ensures) _ (c .before .rows .given) (c .before .before .put-row .ensures)
 
--- src/rows.rt:205:9
 refuse-requires-2 : tie.Need-refuse-requires-2 Inv-loop μ-loop
 refuse-requires-2 c κs = search needs
 
--- src/rows.rt:205:9
 same-length-2 : tie.Need-same-length-2 Inv-loop μ-loop
 same-length-2 c = c .before .before .before .loop .inv .done .long
 
--- src/rows.rt:205:9
 returns-2 : tie.Need-returns-2 Inv-loop μ-loop
 returns-2 c = let t = c .before .before .loop-test .left in lower-bad (c .before .before .before .before .before .before .before .args .spot .p) (c .before .before .before .before .before .before .before .args .spot .k) (c .before .before .before .before .before .before .before .args .spot .s) (c .before .before .before .before .before .before .before .args .spot .t) (c .before .before .before .before .before .before .before .args .n) (c .before .before .before .before .before .before .before .args .a) (c .before .before .before .before .before .before .before .args .o) (c .before .before .before .before .before .before .before .args .rational) (now (c .before .before .before .before .before .before .before .args .rows)) _ _ _ (c .before .before .before .loop .i) (c .before .before .before .loop .inv) (omega arith) (not-true _ (c .before .if2 .taken)) _ (c .refuse2 .ensures)
 
--- src/rows.rt:207:5
 refuse-requires-3 : tie.Need-refuse-requires-3 Inv-loop μ-loop
 refuse-requires-3 c κs = search needs
 
--- src/rows.rt:176:1
 same-length-3 : tie.Need-same-length-3 Inv-loop μ-loop
 same-length-3 c = c .before .before .before .loop .inv .done .long
 
--- src/rows.rt:176:1
 returns-3 : tie.Need-returns-3 Inv-loop μ-loop
 returns-3 c = let t = c .before .before .loop-test .left in lower-end (c .before .before .before .before .before .before .before .args .spot .p) (c .before .before .before .before .before .before .before .args .spot .k) (c .before .before .before .before .before .before .before .args .spot .s) (c .before .before .before .before .before .before .before .args .spot .t) (c .before .before .before .before .before .before .before .args .n) (c .before .before .before .before .before .before .before .args .a) (c .before .before .before .before .before .before .before .args .o) (c .before .before .before .before .before .before .before .args .rational) (now (c .before .before .before .before .before .before .before .args .rows)) _ _ _ (c .before .before .before .loop .i) (c .before .before .before .loop .inv) (omega arith) (not-false _ (c .before .if2 .left)) _ (c .refuse3 .ensures)
 

@@ -8,67 +8,51 @@ use borrow.Author.Needs.{needs}
 use Rattle.insertion.proofs.rows.put_row.Statement.{statement}
 use Rattle.insertion.proofs.rows.put_row.Tie as tie
 
--- src/rows.rt:57:14
 mul-at : tie.Need-mul-at
 mul-at c = search needs
 
--- src/rows.rt:58:5
 mul-rows : tie.Need-mul-rows
 mul-rows c = search needs
 
--- src/rows.rt:58:5
 slice-write-rows : tie.Need-slice-write-rows
 slice-write-rows c = search needs
 
--- src/rows.rt:59:10
 add-rows : tie.Need-add-rows
 add-rows c = search needs
 
--- src/rows.rt:59:5
 mul-rows-2 : tie.Need-mul-rows-2
 mul-rows-2 c = search needs
 
--- src/rows.rt:59:5
 slice-write-rows-2 : tie.Need-slice-write-rows-2
 slice-write-rows-2 c = let l = length-set (now (c .args .rows)) (c .args .i * 4) (c .args .q .x) in let p = c .pre in omega arith
 
--- src/rows.rt:60:10
 add-rows-2 : tie.Need-add-rows-2
 add-rows-2 c = search needs
 
--- src/rows.rt:60:5
 mul-rows-3 : tie.Need-mul-rows-3
 mul-rows-3 c = search needs
 
--- src/rows.rt:60:5
 slice-write-rows-3 : tie.Need-slice-write-rows-3
 slice-write-rows-3 c = let p = c .pre in simp length-set (omega arith)
 
--- src/rows.rt:62:14
 add-rows-3 : tie.Need-add-rows-3
 add-rows-3 c = search needs
 
--- src/rows.rt:62:9
 mul-rows-4 : tie.Need-mul-rows-4
 mul-rows-4 c = search needs
 
--- src/rows.rt:62:9
 slice-write-rows-4 : tie.Need-slice-write-rows-4
 slice-write-rows-4 c = let p = c .before .pre in simp length-set (omega arith)
 
--- src/rows.rt:53:1
 same-length : tie.Need-same-length
 same-length c = search needs
 
--- src/rows.rt:53:1
 returns : tie.Need-returns
 returns c = put-weighted (c .before .args .i) (c .before .args .q) (now (c .before .args .rows)) (c .before .pre) _ (c .if1 .taken) _ refl
 
--- src/rows.rt:53:1
 same-length-2 : tie.Need-same-length-2
 same-length-2 c = search needs
 
--- src/rows.rt:53:1
 returns-2 : tie.Need-returns-2
 returns-2 c = put-plain (c .before .args .i) (c .before .args .q) (now (c .before .args .rows)) (c .before .pre) _ (c .if1 .left) _ refl
 

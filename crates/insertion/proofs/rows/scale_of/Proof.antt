@@ -9,15 +9,12 @@ use borrow.Author.Needs.{needs}
 use Rattle.insertion.proofs.rows.scale_of.Statement.{statement}
 use Rattle.insertion.proofs.rows.scale_of.Tie as tie
 
--- src/rows.rt:98:9
 largest-weight-requires : tie.Need-largest-weight-requires
 largest-weight-requires c κs = search needs
 
--- src/rows.rt:98:9
 returns : tie.Need-returns
 returns c = subst (λ (b : Bool). c .largest-weight .result ≡ scaleOf b (weightsFrom b (c .before .before .before .args .n) (now (c .before .before .before .args .rows)))) (sym (c .before .if1 .taken)) (scale-weighted (c .before .before .before .args .n) (now (c .before .before .before .args .rows)) _ (c .largest-weight .ensures))
 
--- src/rows.rt:93:1
 returns-2 : tie.Need-returns-2
 unfolding scaleOf ofBits
 returns-2 c = simp (c .if1 .left)

@@ -11,31 +11,24 @@ use borrow.Author.Needs.{needs}
 use Rattle.insertion.proofs.start.edit_start.Statement.{statement}
 use Rattle.insertion.proofs.start.edit_start.Tie as tie
 
--- src/start.rt:36:9
 curve-refusal-requires : tie.Need-curve-refusal-requires
 curve-refusal-requires c κs = search needs
 
--- src/start.rt:38:9
 returns : tie.Need-returns
 returns c = edit-early (c .before .before .before .before .before .before .args .degree) (now (c .before .before .before .before .before .before .args .knots)) (now (c .before .before .before .before .before .before .args .points)) (c .before .before .before .before .before .before .args .rational) (now (c .before .before .before .before .before .before .args .weights)) _ (c .before .before .curve-refusal .ensures) (c .if1 .taken)
 
--- src/start.rt:40:9
 clamped-ends-requires : tie.Need-clamped-ends-requires
 clamped-ends-requires c κs = let v = valid-curve (c .before .before .before .before .before .before .args .degree) (now (c .before .before .before .before .before .before .args .knots)) (now (c .before .before .before .before .before .before .args .points)) (c .before .before .before .before .before .before .args .rational) (now (c .before .before .before .before .before .before .args .weights)) (sym (ap (λ (r : Refusal). r .number) (c .before .before .curve-refusal .ensures)) ∙ c .if1 .left) in let l = v .knots .long in let k = v .knots .count in (k, omega arith)
 
--- src/start.rt:41:9
 refuse-requires : tie.Need-refuse-requires
 refuse-requires c κs = search needs
 
--- src/start.rt:41:9
 returns-2 : tie.Need-returns-2
 returns-2 c = edit-17 (c .before .before .before .before .before .before .before .before .before .args .degree) (now (c .before .before .before .before .before .before .before .before .before .args .knots)) (now (c .before .before .before .before .before .before .before .before .before .args .points)) (c .before .before .before .before .before .before .before .before .before .args .rational) (now (c .before .before .before .before .before .before .before .before .before .args .weights)) _ (c .before .before .before .before .before .curve-refusal .ensures) (c .before .before .before .if1 .left) _ (c .before .before .clamped-ends .ensures) _ (not-true _ (c .before .if2 .taken)) (c .refuse .ensures)
 
--- src/start.rt:43:5
 refuse-requires-2 : tie.Need-refuse-requires-2
 refuse-requires-2 c κs = search needs
 
--- src/start.rt:27:1
 returns-3 : tie.Need-returns-3
 returns-3 c = edit-none (c .before .before .before .before .before .before .before .before .before .args .degree) (now (c .before .before .before .before .before .before .before .before .before .args .knots)) (now (c .before .before .before .before .before .before .before .before .before .args .points)) (c .before .before .before .before .before .before .before .before .before .args .rational) (now (c .before .before .before .before .before .before .before .before .before .args .weights)) _ (c .before .before .before .before .before .curve-refusal .ensures) (c .before .before .before .if1 .left) _ (c .before .before .clamped-ends .ensures) _ (not-false _ (c .before .if2 .left)) (c .refuse2 .ensures)
 

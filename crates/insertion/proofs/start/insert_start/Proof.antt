@@ -5,46 +5,36 @@ use borrow.Author.Needs.{needs}
 use Rattle.insertion.proofs.start.insert_start.Statement.{statement}
 use Rattle.insertion.proofs.start.insert_start.Tie as tie
 
--- src/start.rt:90:8
 over-long-requires : tie.Need-over-long-requires
 over-long-requires c κs = search needs
 
--- src/start.rt:91:9
 refuse-requires : tie.Need-refuse-requires
 refuse-requires c κs = search needs
 
--- src/start.rt:91:9
 returns : tie.Need-returns
 unfolding insertStart
 returns c = simp (sym (c .before .before .over-long .ensures) ∙ c .before .if1 .taken) (c .refuse .ensures)
 
--- src/start.rt:93:9
 edit-start-requires : tie.Need-edit-start-requires
 edit-start-requires c κs = search needs
 
--- src/start.rt:95:9
 returns-2 : tie.Need-returns-2
 unfolding insertStart
 returns-2 c = simp (sym (c .before .before .before .before .over-long .ensures) ∙ c .before .before .before .if1 .left, stop (c .before .before .edit-start .ensures) (c .if2 .taken)) (c .before .before .edit-start .ensures)
 
--- src/start.rt:97:13
 add-n : tie.Need-add-n
 add-n c = search needs
 
--- src/start.rt:98:9
 out-room-requires : tie.Need-out-room-requires
 out-room-requires c κs = search needs
 
--- src/start.rt:100:9
 returns-3 : tie.Need-returns-3
 unfolding insertStart
 returns-3 c = simp (sym (c .before .before .before .before .before .before .before .over-long .ensures) ∙ c .before .before .before .before .before .before .if1 .left, skip (c .before .before .before .before .before .edit-start .ensures) (c .before .before .before .if2 .left), stop (c .before .before .out-room .ensures) (c .if3 .taken)) (c .before .before .out-room .ensures)
 
--- src/start.rt:102:5
 scratch-room-requires : tie.Need-scratch-room-requires
 scratch-room-requires c κs = search needs
 
--- src/start.rt:76:1
 returns-4 : tie.Need-returns-4
 unfolding insertStart
 returns-4 c = simp (sym (c .before .before .before .before .before .before .before .before .over-long .ensures) ∙ c .before .before .before .before .before .before .before .if1 .left, skip (c .before .before .before .before .before .before .edit-start .ensures) (c .before .before .before .before .if2 .left), skip (c .before .before .before .out-room .ensures) (c .before .if3 .left)) (c .scratch-room .ensures)

@@ -6,39 +6,30 @@ use borrow.Author.Needs.{needs}
 use Rattle.insertion.proofs.start.out_room.Statement.{statement}
 use Rattle.insertion.proofs.start.out_room.Tie as tie
 
--- src/start.rt:51:9
 refuse-requires : tie.Need-refuse-requires
 refuse-requires c κs = search needs
 
--- src/start.rt:51:9
 returns : tie.Need-returns
 returns c = let t = c .before .if1 .taken in out-knots (c .before .before .args .p) (c .before .before .args .n) (c .before .before .args .rational) (c .before .before .args .a) (c .before .before .args .b) (c .before .before .args .c) _ (c .refuse .ensures) (omega arith)
 
--- src/start.rt:54:9
 refuse-requires-2 : tie.Need-refuse-requires-2
 refuse-requires-2 c κs = search needs
 
--- src/start.rt:54:9
 returns-2 : tie.Need-returns-2
 returns-2 c = let t = c .before .if2 .taken in let u = c .before .before .if1 .left in out-knots (c .before .before .before .args .p) (c .before .before .before .args .n) (c .before .before .before .args .rational) (c .before .before .before .args .a) (c .before .before .before .args .b) (c .before .before .before .args .c) _ (c .refuse2 .ensures) (omega arith)
 
--- src/start.rt:57:9
 refuse-requires-3 : tie.Need-refuse-requires-3
 refuse-requires-3 c κs = search needs
 
--- src/start.rt:57:9
 returns-3 : tie.Need-returns-3
 returns-3 c = let t = c .before .if3 .taken in let u = c .before .before .before .if1 .left in let v = c .before .before .if2 .left in out-points (c .before .before .before .before .args .p) (c .before .before .before .before .args .n) (c .before .before .before .before .args .rational) (c .before .before .before .before .args .a) (c .before .before .before .before .args .b) (c .before .before .before .before .args .c) _ (c .refuse3 .ensures) (omega arith) (omega arith)
 
--- src/start.rt:59:21
 given-count-requires : tie.Need-given-count-requires
 given-count-requires c κs = search needs
 
--- src/start.rt:59:5
 room-refusal-requires : tie.Need-room-refusal-requires
 room-refusal-requires c κs = search needs
 
--- src/start.rt:47:1
 returns-4 : tie.Need-returns-4
 returns-4 c = let t = c .before .before .if3 .left in let u = c .before .before .before .before .if1 .left in let v = c .before .before .before .if2 .left in out-weights (c .before .before .before .before .before .args .p) (c .before .before .before .before .before .args .n) (c .before .before .before .before .before .args .rational) (c .before .before .before .before .before .args .a) (c .before .before .before .before .before .args .b) (c .before .before .before .before .before .args .c) _ (omega arith) (omega arith) (c .room-refusal .ensures ∙ ap (roomRefusal (c .before .before .before .before .before .args .c)) (c .before .given-count .ensures))
 

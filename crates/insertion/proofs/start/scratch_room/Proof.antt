@@ -4,35 +4,27 @@ use borrow.Author.Needs.{needs}
 use Rattle.insertion.proofs.start.scratch_room.Statement.{statement}
 use Rattle.insertion.proofs.start.scratch_room.Tie as tie
 
--- src/start.rt:67:9
 refuse-requires : tie.Need-refuse-requires
 refuse-requires c κs = search needs
 
--- src/start.rt:67:9
 returns : tie.Need-returns
 returns c = let t = c .before .if1 .taken in scratch-short (c .before .before .args .p) (c .before .before .args .n) (c .before .before .args .d) _ (c .refuse .ensures) (omega arith)
 
--- src/start.rt:69:18
 mul-if2 : tie.Need-mul-if2
 mul-if2 c = search needs
 
--- src/start.rt:69:14
 sub-if2 : tie.Need-sub-if2
 sub-if2 c = search needs
 
--- src/start.rt:70:9
 refuse-requires-2 : tie.Need-refuse-requires-2
 refuse-requires-2 c κs = search needs
 
--- src/start.rt:70:9
 returns-2 : tie.Need-returns-2
 returns-2 c = let t = c .before .if2 .taken in let u = c .before .before .if1 .left in scratch-short (c .before .before .before .args .p) (c .before .before .before .args .n) (c .before .before .before .args .d) _ (c .refuse2 .ensures) (omega arith)
 
--- src/start.rt:72:5
 refuse-requires-3 : tie.Need-refuse-requires-3
 refuse-requires-3 c κs = search needs
 
--- src/start.rt:63:1
 returns-3 : tie.Need-returns-3
 returns-3 c = let t = c .before .if2 .left in let u = c .before .before .if1 .left in scratch-fits (c .before .before .before .args .p) (c .before .before .before .args .n) (c .before .before .before .args .d) _ (c .refuse3 .ensures) (omega arith)
 

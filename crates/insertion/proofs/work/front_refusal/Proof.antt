@@ -15,47 +15,36 @@ use Rattle.insertion.proofs.counts.given_count.Reads as given-count-rea
 use Rattle.insertion.proofs.start.out_room.Reads as out-room-reads
 use Rattle.knots.proofs.curve.formed_refusal.Reads as formed-refusal-reads
 
--- src/work.rt:227:9
 out-room-requires : tie.Need-out-room-requires
 out-room-requires c κs = search needs
 
--- src/work.rt:229:9
 returns : tie.Need-returns
 returns c = front-short (c .before .before .before .before .before .before .args .p) (c .before .before .before .before .before .before .args .n) (c .before .before .before .before .before .before .args .rational) (now (c .before .before .before .before .before .before .args .knots)) (now (c .before .before .before .before .before .before .args .points)) (now (c .before .before .before .before .before .before .args .weights)) _ (c .before .before .out-room .ensures) (c .if1 .taken)
 
--- src/work.rt:231:13
 add-a : tie.Need-add-a
 add-a c = let o = out-open (c .before .before .before .before .before .before .args .p) (c .before .before .before .before .before .before .args .n) (c .before .before .before .before .before .before .args .rational) (length (now (c .before .before .before .before .before .before .args .knots))) (length (now (c .before .before .before .before .before .before .args .points))) (length (now (c .before .before .before .before .before .before .args .weights))) (sym (ap (λ (r : Refusal). r .number) (c .before .before .out-room .ensures)) ∙ c .if1 .left) in let x = o .knots in let y = o .points in let z = o .weights in let g = c .before .before .before .before .before .before .good in let f = c .before .before .before .before .before .before .fits in search needs
 
--- src/work.rt:231:13
 add-a-2 : tie.Need-add-a-2
 add-a-2 c = let o = out-open (c .before .before .before .before .before .before .args .p) (c .before .before .before .before .before .before .args .n) (c .before .before .before .before .before .before .args .rational) (length (now (c .before .before .before .before .before .before .args .knots))) (length (now (c .before .before .before .before .before .before .args .points))) (length (now (c .before .before .before .before .before .before .args .weights))) (sym (ap (λ (r : Refusal). r .number) (c .before .before .out-room .ensures)) ∙ c .if1 .left) in let x = o .knots in let y = o .points in let z = o .weights in let g = c .before .before .before .before .before .before .good in let f = c .before .before .before .before .before .before .fits in search needs
 
--- src/work.rt:232:13
 mul-b : tie.Need-mul-b
 mul-b c = let o = out-open (c .before .before .before .before .before .before .args .p) (c .before .before .before .before .before .before .args .n) (c .before .before .before .before .before .before .args .rational) (length (now (c .before .before .before .before .before .before .args .knots))) (length (now (c .before .before .before .before .before .before .args .points))) (length (now (c .before .before .before .before .before .before .args .weights))) (sym (ap (λ (r : Refusal). r .number) (c .before .before .out-room .ensures)) ∙ c .if1 .left) in let x = o .knots in let y = o .points in let z = o .weights in let g = c .before .before .before .before .before .before .good in let f = c .before .before .before .before .before .before .fits in search needs
 
--- src/work.rt:233:9
 given-count-requires : tie.Need-given-count-requires
 given-count-requires c κs = search needs
 
--- src/work.rt:234:26
 slice-aggregate-formed-refusal : tie.Need-slice-aggregate-formed-refusal
 slice-aggregate-formed-refusal c = let o = out-open (c .before .before .before .before .before .before .before .before .args .p) (c .before .before .before .before .before .before .before .before .args .n) (c .before .before .before .before .before .before .before .before .args .rational) (length (now (c .before .before .before .before .before .before .before .before .args .knots))) (length (now (c .before .before .before .before .before .before .before .before .args .points))) (length (now (c .before .before .before .before .before .before .before .before .args .weights))) (sym (ap (λ (r : Refusal). r .number) (c .before .before .before .before .out-room .ensures)) ∙ c .before .before .if1 .left) in let x = o .knots in let y = o .points in let z = o .weights in let g = c .before .before .before .before .before .before .before .before .good in let f = c .before .before .before .before .before .before .before .before .fits in simp length-take (omega arith)
 
--- src/work.rt:234:39
 slice-aggregate-formed-refusal-2 : tie.Need-slice-aggregate-formed-refusal-2
 slice-aggregate-formed-refusal-2 c = let o = out-open (c .before .before .before .before .before .before .before .before .before .args .p) (c .before .before .before .before .before .before .before .before .before .args .n) (c .before .before .before .before .before .before .before .before .before .args .rational) (length (now (c .before .before .before .before .before .before .before .before .before .args .knots))) (length (now (c .before .before .before .before .before .before .before .before .before .args .points))) (length (now (c .before .before .before .before .before .before .before .before .before .args .weights))) (sym (ap (λ (r : Refusal). r .number) (c .before .before .before .before .before .out-room .ensures)) ∙ c .before .before .before .if1 .left) in let x = o .knots in let y = o .points in let z = o .weights in let g = c .before .before .before .before .before .before .before .before .before .good in let f = c .before .before .before .before .before .before .before .before .before .fits in simp length-take (omega arith)
 
--- src/work.rt:234:63
 slice-aggregate-formed-refusal-3 : tie.Need-slice-aggregate-formed-refusal-3
 slice-aggregate-formed-refusal-3 c = let o = out-open (c .before .before .before .before .before .before .before .before .before .before .args .p) (c .before .before .before .before .before .before .before .before .before .before .args .n) (c .before .before .before .before .before .before .before .before .before .before .args .rational) (length (now (c .before .before .before .before .before .before .before .before .before .before .args .knots))) (length (now (c .before .before .before .before .before .before .before .before .before .before .args .points))) (length (now (c .before .before .before .before .before .before .before .before .before .before .args .weights))) (sym (ap (λ (r : Refusal). r .number) (c .before .before .before .before .before .before .out-room .ensures)) ∙ c .before .before .before .before .if1 .left) in let x = o .knots in let y = o .points in let z = o .weights in let g = c .before .before .before .before .before .before .before .before .before .before .good in let f = c .before .before .before .before .before .before .before .before .before .before .fits in let e = c .before .before .before .given-count .ensures in simp length-take (omega arith)
 
--- src/work.rt:234:5
 formed-refusal-requires : tie.Need-formed-refusal-requires
 formed-refusal-requires c κs = search needs
 
--- src/work.rt:217:1
 returns-2 : tie.Need-returns-2
 returns-2 c = front-formed (c .before .before .before .before .before .before .before .before .before .before .before .args .p) (c .before .before .before .before .before .before .before .before .before .before .before .args .n) (c .before .before .before .before .before .before .before .before .before .before .before .args .rational) (now (c .before .before .before .before .before .before .before .before .before .before .before .args .knots)) (now (c .before .before .before .before .before .before .before .before .before .before .before .args .points)) (now (c .before .before .before .before .before .before .before .before .before .before .before .args .weights)) _ (c .before .before .before .before .before .before .before .out-room .ensures) (c .before .before .before .before .before .if1 .left) _ (c .before .before .before .before .given-count .ensures) _ (c .formed-refusal .ensures)
 

@@ -19,51 +19,39 @@ use borrow.Author.Needs.{needs}
 use Rattle.insertion.proofs.work.lay_curve.Statement.{statement}
 use Rattle.insertion.proofs.work.lay_curve.Tie as tie
 
--- src/work.rt:50:5
 clear-requires : tie.Need-clear-requires
 clear-requires c κs = search needs
 
--- src/work.rt:52:45
 given-count-requires : tie.Need-given-count-requires
 given-count-requires c κs = search needs
 
--- src/work.rt:52:9
 room-refusal-requires : tie.Need-room-refusal-requires
 room-refusal-requires c κs = search needs
 
--- src/work.rt:54:9
 same-length : tie.Need-same-length
 same-length c = c .before .before .before .before .before .work .given
 
--- src/work.rt:54:9
 returns : tie.Need-returns
 returns c = ends-refused (c .before .before .before .before .before .before .before .before .before .before .before .before .args .a) (c .before .before .before .before .before .before .before .before .before .before .before .before .args .rational) (zeros (length (now (c .before .before .before .before .before .before .before .before .before .before .before .before .args .work)))) _ _ (layOutcome (now (c .before .before .before .before .before .before .before .before .before .before .before .before .args .knots)) (now (c .before .before .before .before .before .before .before .before .before .before .before .before .args .points)) (c .before .before .before .before .before .before .before .before .before .before .before .before .args .rational) (now (c .before .before .before .before .before .before .before .before .before .before .before .before .args .weights)) (c .before .before .before .before .before .before .before .before .before .before .before .before .args .a) (length (now (c .before .before .before .before .before .before .before .before .before .before .before .before .args .work)))) (lay-short (now (c .before .before .before .before .before .before .before .before .before .before .before .before .args .knots)) (now (c .before .before .before .before .before .before .before .before .before .before .before .before .args .points)) (c .before .before .before .before .before .before .before .before .before .before .before .before .args .rational) (now (c .before .before .before .before .before .before .before .before .before .before .before .before .args .weights)) (c .before .before .before .before .before .before .before .before .before .before .before .before .args .a) (length (now (c .before .before .before .before .before .before .before .before .before .before .before .before .args .work))) _ (c .before .before .room-refusal .ensures ∙ ap (roomRefusal (length (now (c .before .before .before .before .before .before .before .before .before .before .before .before .args .weights)))) (c .before .before .before .given-count .ensures)) (c .if1 .taken)) (c .before .before .before .before .before .before .clear .ensures ∙ ap zeros (sym (length-replicate (length (now (c .before .before .before .before .before .before .before .before .before .before .before .before .args .work))) zero+)))
 
--- src/work.rt:56:9
 work-room-requires : tie.Need-work-room-requires
 work-room-requires c κs = search needs
 
--- src/work.rt:58:9
 same-length-2 : tie.Need-same-length-2
 same-length-2 c = c .before .before .before .before .before .before .before .before .work .given
 
--- src/work.rt:58:9
 returns-2 : tie.Need-returns-2
 returns-2 c = ends-refused (c .before .before .before .before .before .before .before .before .before .before .before .before .before .before .before .args .a) (c .before .before .before .before .before .before .before .before .before .before .before .before .before .before .before .args .rational) (zeros (length (now (c .before .before .before .before .before .before .before .before .before .before .before .before .before .before .before .args .work)))) _ _ (layOutcome (now (c .before .before .before .before .before .before .before .before .before .before .before .before .before .before .before .args .knots)) (now (c .before .before .before .before .before .before .before .before .before .before .before .before .before .before .before .args .points)) (c .before .before .before .before .before .before .before .before .before .before .before .before .before .before .before .args .rational) (now (c .before .before .before .before .before .before .before .before .before .before .before .before .before .before .before .args .weights)) (c .before .before .before .before .before .before .before .before .before .before .before .before .before .before .before .args .a) (length (now (c .before .before .before .before .before .before .before .before .before .before .before .before .before .before .before .args .work)))) (lay-room (now (c .before .before .before .before .before .before .before .before .before .before .before .before .before .before .before .args .knots)) (now (c .before .before .before .before .before .before .before .before .before .before .before .before .before .before .before .args .points)) (c .before .before .before .before .before .before .before .before .before .before .before .before .before .before .before .args .rational) (now (c .before .before .before .before .before .before .before .before .before .before .before .before .before .before .before .args .weights)) (c .before .before .before .before .before .before .before .before .before .before .before .before .before .before .before .args .a) (length (now (c .before .before .before .before .before .before .before .before .before .before .before .before .before .before .before .args .work))) _ _ (c .before .before .before .before .before .room-refusal .ensures ∙ ap (roomRefusal (length (now (c .before .before .before .before .before .before .before .before .before .before .before .before .before .before .before .args .weights)))) (c .before .before .before .before .before .before .given-count .ensures)) (c .before .before .before .if1 .left) (c .before .before .work-room .ensures ∙ ap (workRoom (length (now (c .before .before .before .before .before .before .before .before .before .before .before .before .before .before .before .args .points)) / 3) (length (now (c .before .before .before .before .before .before .before .before .before .before .before .before .before .before .before .args .knots))) (c .before .before .before .before .before .before .before .before .before .before .before .before .before .before .before .args .a)) (c .before .before .before .before .before .before .before .before .work .given)) (c .if2 .taken)) (c .before .before .before .before .before .before .before .before .before .clear .ensures ∙ ap zeros (sym (length-replicate (length (now (c .before .before .before .before .before .before .before .before .before .before .before .before .before .before .before .args .work))) zero+)))
 
--- src/work.rt:60:5
 lay-into-requires : tie.Need-lay-into-requires
 lay-into-requires c κs = let o = work-open (length (now (c .before .before .before .before .before .before .before .before .before .before .before .before .before .before .before .before .args .points)) / 3) (length (now (c .before .before .before .before .before .before .before .before .before .before .before .before .before .before .before .before .args .knots))) (c .before .before .before .before .before .before .before .before .before .before .before .before .before .before .before .before .args .a) _ (sym (ap (λ (r : Refusal). r .number) (c .before .before .before .work-room .ensures)) ∙ c .before .if2 .left) in (given-room (c .before .before .before .before .before .before .before .before .before .before .before .before .before .before .before .before .args .rational) _ _ (room-open _ _ (sym (ap (λ (r : Refusal). r .number) (c .before .before .before .before .before .before .room-refusal .ensures ∙ ap (roomRefusal (length (now (c .before .before .before .before .before .before .before .before .before .before .before .before .before .before .before .before .args .weights)))) (c .before .before .before .before .before .before .before .given-count .ensures))) ∙ c .before .before .before .before .if1 .left)), (o .0, o .1))
 
--- src/work.rt:61:5
 refuse-requires : tie.Need-refuse-requires
 refuse-requires c κs = search needs
 
--- src/work.rt:39:1
 same-length-3 : tie.Need-same-length-3
 same-length-3 c = c .before .before .work2 .given ∙ c .before .before .before .before .before .before .before .before .before .before .before .before .before .work .given
 
--- src/work.rt:39:1
 returns-3 : tie.Need-returns-3
 returns-3 c = let o = work-open (length (now (c .before .before .before .before .before .before .before .before .before .before .before .before .before .before .before .before .before .before .before .before .args .points)) / 3) (length (now (c .before .before .before .before .before .before .before .before .before .before .before .before .before .before .before .before .before .before .before .before .args .knots))) (c .before .before .before .before .before .before .before .before .before .before .before .before .before .before .before .before .before .before .before .before .args .a) _ (sym (ap (λ (r : Refusal). r .number) (c .before .before .before .before .before .before .before .work-room .ensures ∙ ap (workRoom (length (now (c .before .before .before .before .before .before .before .before .before .before .before .before .before .before .before .before .before .before .before .before .args .points)) / 3) (length (now (c .before .before .before .before .before .before .before .before .before .before .before .before .before .before .before .before .before .before .before .before .args .knots))) (c .before .before .before .before .before .before .before .before .before .before .before .before .before .before .before .before .before .before .before .before .args .a)) (c .before .before .before .before .before .before .before .before .before .before .before .before .before .work .given))) ∙ c .before .before .before .before .before .if2 .left) in ends-formed (c .before .before .before .before .before .before .before .before .before .before .before .before .before .before .before .before .before .before .before .before .args .a) (c .before .before .before .before .before .before .before .before .before .before .before .before .before .before .before .before .before .before .before .before .args .rational) (zeros (length (now (c .before .before .before .before .before .before .before .before .before .before .before .before .before .before .before .before .before .before .before .before .args .work)))) _ _ (layOutcome (now (c .before .before .before .before .before .before .before .before .before .before .before .before .before .before .before .before .before .before .before .before .args .knots)) (now (c .before .before .before .before .before .before .before .before .before .before .before .before .before .before .before .before .before .before .before .before .args .points)) (c .before .before .before .before .before .before .before .before .before .before .before .before .before .before .before .before .before .before .before .before .args .rational) (now (c .before .before .before .before .before .before .before .before .before .before .before .before .before .before .before .before .before .before .before .before .args .weights)) (c .before .before .before .before .before .before .before .before .before .before .before .before .before .before .before .before .before .before .before .before .args .a) (length (now (c .before .before .before .before .before .before .before .before .before .before .before .before .before .before .before .before .before .before .before .before .args .work)))) (now (c .before .before .before .before .before .before .before .before .before .before .before .before .before .before .before .before .before .before .before .before .args .knots)) (now (c .before .before .before .before .before .before .before .before .before .before .before .before .before .before .before .before .before .before .before .before .args .points)) (now (c .before .before .before .before .before .before .before .before .before .before .before .before .before .before .before .before .before .before .before .before .args .weights)) (lay-fits (now (c .before .before .before .before .before .before .before .before .before .before .before .before .before .before .before .before .before .before .before .before .args .knots)) (now (c .before .before .before .before .before .before .before .before .before .before .before .before .before .before .before .before .before .before .before .before .args .points)) (c .before .before .before .before .before .before .before .before .before .before .before .before .before .before .before .before .before .before .before .before .args .rational) (now (c .before .before .before .before .before .before .before .before .before .before .before .before .before .before .before .before .before .before .before .before .args .weights)) (c .before .before .before .before .before .before .before .before .before .before .before .before .before .before .before .before .before .before .before .before .args .a) (length (now (c .before .before .before .before .before .before .before .before .before .before .before .before .before .before .before .before .before .before .before .before .args .work))) _ _ (c .before .before .before .before .before .before .before .before .before .before .room-refusal .ensures ∙ ap (roomRefusal (length (now (c .before .before .before .before .before .before .before .before .before .before .before .before .before .before .before .before .before .before .before .before .args .weights)))) (c .before .before .before .before .before .before .before .before .before .before .before .given-count .ensures)) (c .before .before .before .before .before .before .before .before .if1 .left) (c .before .before .before .before .before .before .before .work-room .ensures ∙ ap (workRoom (length (now (c .before .before .before .before .before .before .before .before .before .before .before .before .before .before .before .before .before .before .before .before .args .points)) / 3) (length (now (c .before .before .before .before .before .before .before .before .before .before .before .before .before .before .before .before .before .before .before .before .args .knots))) (c .before .before .before .before .before .before .before .before .before .before .before .before .before .before .before .before .before .before .before .before .args .a)) (c .before .before .before .before .before .before .before .before .before .before .before .before .before .work .given)) (c .before .before .before .before .before .if2 .left)) (c .refuse .ensures) (cleared-curve (c .before .before .before .before .before .before .before .before .before .before .before .before .before .before .before .before .before .before .before .before .args .a) (now (c .before .before .before .before .before .before .before .before .before .before .before .before .before .before .before .before .before .before .before .before .args .knots)) (now (c .before .before .before .before .before .before .before .before .before .before .before .before .before .before .before .before .before .before .before .before .args .points)) (c .before .before .before .before .before .before .before .before .before .before .before .before .before .before .before .before .before .before .before .before .args .rational) (now (c .before .before .before .before .before .before .before .before .before .before .before .before .before .before .before .before .before .before .before .before .args .weights)) (length (now (c .before .before .before .before .before .before .before .before .before .before .before .before .before .before .before .before .before .before .before .before .args .work))) _ _ (c .before .before .before .before .before .before .before .before .before .before .before .before .before .before .clear .ensures) (c .before .before .work2 .given ∙ c .before .before .before .before .before .before .before .before .before .before .before .before .before .work .given) (o .0) (o .1) (c .before .before .before .lay-into .ensures))
 

@@ -11,55 +11,42 @@ use borrow.Author.Needs.{needs}
 use Rattle.insertion.proofs.work.take_curve.Statement.{statement}
 use Rattle.insertion.proofs.work.take_curve.Tie as tie
 
--- src/work.rt:152:9
 take-refusal-requires : tie.Need-take-refusal-requires
 take-refusal-requires c κs = search needs
 
--- src/work.rt:164:9
 clear-requires : tie.Need-clear-requires
 clear-requires c κs = search needs
 
--- src/work.rt:165:9
 clear-requires-2 : tie.Need-clear-requires-2
 clear-requires-2 c κs = search needs
 
--- src/work.rt:166:9
 clear-requires-3 : tie.Need-clear-requires-3
 clear-requires-3 c κs = search needs
 
--- src/work.rt:167:9
 same-length : tie.Need-same-length
 same-length c = c .before .before .before .before .before .before .before .before .before .knots .given
 
--- src/work.rt:167:9
 same-length-2 : tie.Need-same-length-2
 same-length-2 c = c .before .before .before .before .before .points .given
 
--- src/work.rt:167:9
 same-length-3 : tie.Need-same-length-3
 same-length-3 c = c .before .weights .given
 
--- src/work.rt:167:9
 returns : tie.Need-returns
 returns c = (c .before .before .before .before .before .before .before .before .before .before .before .before .before .before .take-refusal .ensures, (left-refused _ _ _ _ (c .before .before .before .before .before .before .before .before .before .before .before .before .if1 .taken) (c .before .before .before .before .before .before .before .before .before .before .clear .ensures), (left-refused _ _ _ _ (c .before .before .before .before .before .before .before .before .before .before .before .before .if1 .taken) (c .before .before .before .before .before .before .clear2 .ensures), left-refused _ _ _ _ (c .before .before .before .before .before .before .before .before .before .before .before .before .if1 .taken) (c .before .before .clear3 .ensures))))
 
--- src/work.rt:169:5
 store-curve-requires : tie.Need-store-curve-requires
 store-curve-requires c κs = let o = take-open (c .before .before .before .before .before .before .before .before .before .before .args .p) (c .before .before .before .before .before .before .before .before .before .before .args .m) (c .before .before .before .before .before .before .before .before .before .before .args .f) (c .before .before .before .before .before .before .before .before .before .before .args .rational) (c .before .before .before .before .before .before .before .before .before .before .args .a) (length (now (c .before .before .before .before .before .before .before .before .before .before .args .work))) (length (now (c .before .before .before .before .before .before .before .before .before .before .args .knots))) (length (now (c .before .before .before .before .before .before .before .before .before .before .args .points))) (length (now (c .before .before .before .before .before .before .before .before .before .before .args .weights))) (sym (ap (λ (r : Refusal). r .number) (c .before .before .before .before .before .take-refusal .ensures)) ∙ c .before .before .before .if1 .left) in let x = o .0 in let y = o .1 .0 in let q = out-open (c .before .before .before .before .before .before .before .before .before .before .args .p) (c .before .before .before .before .before .before .before .before .before .before .args .m) (c .before .before .before .before .before .before .before .before .before .before .args .rational) (length (now (c .before .before .before .before .before .before .before .before .before .before .args .knots))) (length (now (c .before .before .before .before .before .before .before .before .before .before .args .points))) (length (now (c .before .before .before .before .before .before .before .before .before .before .args .weights))) (o .1 .1) in ((x, omega arith), (q .knots, (q .points, q .weights)))
 
--- src/work.rt:136:1
 same-length-4 : tie.Need-same-length-4
 same-length-4 c = c .before .before .before .before .before .knots2 .given
 
--- src/work.rt:136:1
 same-length-5 : tie.Need-same-length-5
 same-length-5 c = c .before .before .before .points2 .given
 
--- src/work.rt:136:1
 same-length-6 : tie.Need-same-length-6
 same-length-6 c = c .before .weights2 .given
 
--- src/work.rt:136:1
 returns-2 : tie.Need-returns-2
 returns-2 c = (c .before .before .before .before .before .before .before .before .before .before .before .before .take-refusal .ensures, (left-answered _ _ _ _ (c .before .before .before .before .before .before .before .before .before .before .if1 .left) (c .before .before .before .before .before .before .store-curve .ensures .0), (left-answered _ _ _ _ (c .before .before .before .before .before .before .before .before .before .before .if1 .left) (c .before .before .before .before .before .before .store-curve .ensures .1 .0), left-answered _ _ _ _ (c .before .before .before .before .before .before .before .before .before .before .if1 .left) (c .before .before .before .before .before .before .store-curve .ensures .1 .1))))
 

@@ -6,67 +6,51 @@ use borrow.Author.Needs.{needs}
 use Rattle.insertion.proofs.work.take_refusal.Statement.{statement}
 use Rattle.insertion.proofs.work.take_refusal.Tie as tie
 
--- src/work.rt:188:9
 refuse-requires : tie.Need-refuse-requires
 refuse-requires c κs = search needs
 
--- src/work.rt:188:9
 returns : tie.Need-returns
 returns c = let t = c .before .if1 .taken in c .refuse .ensures ∙ take-short (c .before .before .args .p) (c .before .before .args .m) (c .before .before .args .f) (c .before .before .args .rational) (c .before .before .args .a) (c .before .before .args .l) (c .before .before .args .b) (c .before .before .args .c) (c .before .before .args .d) (inl (omega arith))
 
--- src/work.rt:190:12
 sub-if2 : tie.Need-sub-if2
 sub-if2 c = search needs
 
--- src/work.rt:191:9
 refuse-requires-2 : tie.Need-refuse-requires-2
 refuse-requires-2 c κs = search needs
 
--- src/work.rt:191:9
 returns-2 : tie.Need-returns-2
 returns-2 c = let t = c .before .if2 .taken in let u = c .before .before .if1 .left in c .refuse2 .ensures ∙ take-short (c .before .before .before .args .p) (c .before .before .before .args .m) (c .before .before .before .args .f) (c .before .before .before .args .rational) (c .before .before .before .args .a) (c .before .before .before .args .l) (c .before .before .before .args .b) (c .before .before .before .args .c) (c .before .before .before .args .d) (inl (omega arith))
 
--- src/work.rt:194:9
 refuse-requires-3 : tie.Need-refuse-requires-3
 refuse-requires-3 c κs = search needs
 
--- src/work.rt:194:9
 returns-3 : tie.Need-returns-3
 returns-3 c = let t = c .before .if3 .taken in c .refuse3 .ensures ∙ take-short (c .before .before .before .before .args .p) (c .before .before .before .before .args .m) (c .before .before .before .before .args .f) (c .before .before .before .before .args .rational) (c .before .before .before .before .args .a) (c .before .before .before .before .args .l) (c .before .before .before .before .args .b) (c .before .before .before .before .args .c) (c .before .before .before .before .args .d) (inr (omega arith))
 
--- src/work.rt:196:8
 add-if4 : tie.Need-add-if4
 add-if4 c = search needs
 
--- src/work.rt:197:9
 refuse-requires-4 : tie.Need-refuse-requires-4
 refuse-requires-4 c κs = search needs
 
--- src/work.rt:197:9
 returns-4 : tie.Need-returns-4
 returns-4 c = let t = c .before .if4 .taken in let u = c .before .before .if3 .left in c .refuse4 .ensures ∙ take-short (c .before .before .before .before .before .args .p) (c .before .before .before .before .before .args .m) (c .before .before .before .before .before .args .f) (c .before .before .before .before .before .args .rational) (c .before .before .before .before .before .args .a) (c .before .before .before .before .before .args .l) (c .before .before .before .before .before .args .b) (c .before .before .before .before .before .args .c) (c .before .before .before .before .before .args .d) (inr (omega arith))
 
--- src/work.rt:199:22
 add-if5 : tie.Need-add-if5
 add-if5 c = search needs
 
--- src/work.rt:199:13
 sub-if5 : tie.Need-sub-if5
 sub-if5 c = search needs
 
--- src/work.rt:200:9
 refuse-requires-5 : tie.Need-refuse-requires-5
 refuse-requires-5 c κs = search needs
 
--- src/work.rt:200:9
 returns-5 : tie.Need-returns-5
 returns-5 c = let t = c .before .if5 .taken in let u = c .before .before .before .if3 .left in let v = c .before .before .if4 .left in c .refuse5 .ensures ∙ take-short (c .before .before .before .before .before .before .args .p) (c .before .before .before .before .before .before .args .m) (c .before .before .before .before .before .before .args .f) (c .before .before .before .before .before .before .args .rational) (c .before .before .before .before .before .before .args .a) (c .before .before .before .before .before .before .args .l) (c .before .before .before .before .before .before .args .b) (c .before .before .before .before .before .before .args .c) (c .before .before .before .before .before .before .args .d) (inr (omega arith))
 
--- src/work.rt:202:5
 out-room-requires : tie.Need-out-room-requires
 out-room-requires c κs = search needs
 
--- src/work.rt:174:1
 returns-6 : tie.Need-returns-6
 returns-6 c = let t = c .before .if5 .left in let u = c .before .before .before .if3 .left in let v = c .before .before .if4 .left in let x = c .before .before .before .before .before .if1 .left in let y = c .before .before .before .before .if2 .left in take-fits (c .before .before .before .before .before .before .args .p) (c .before .before .before .before .before .before .args .m) (c .before .before .before .before .before .before .args .f) (c .before .before .before .before .before .before .args .rational) (c .before .before .before .before .before .before .args .a) (c .before .before .before .before .before .before .args .l) (c .before .before .before .before .before .before .args .b) (c .before .before .before .before .before .before .args .c) (c .before .before .before .before .before .before .args .d) (omega arith) (omega arith) _ (c .out-room .ensures)
 

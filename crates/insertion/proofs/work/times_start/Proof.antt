@@ -14,95 +14,72 @@ use borrow.Author.Needs.{needs}
 use Rattle.insertion.proofs.work.times_start.Statement.{statement}
 use Rattle.insertion.proofs.work.times_start.Tie as tie
 
--- src/work.rt:70:9
 refuse-requires : tie.Need-refuse-requires
 refuse-requires c κs = search needs
 
--- src/work.rt:70:9
 returns : tie.Need-returns
 returns c = let t = c .before .if1 .taken in c .refuse .ensures ∙ times-short (c .before .before .before .args .p) (c .before .before .before .args .n) (c .before .before .before .args .m) (c .before .before .before .args .a) (now (c .before .before .before .args .work)) (inr (omega arith))
 
--- src/work.rt:73:9
 refuse-requires-2 : tie.Need-refuse-requires-2
 refuse-requires-2 c κs = search needs
 
--- src/work.rt:73:9
 returns-2 : tie.Need-returns-2
 returns-2 c = let t = c .before .if2 .taken in c .refuse2 .ensures ∙ times-short (c .before .before .before .before .args .p) (c .before .before .before .before .args .n) (c .before .before .before .before .args .m) (c .before .before .before .before .args .a) (now (c .before .before .before .before .args .work)) (inl (omega arith))
 
--- src/work.rt:76:9
 refuse-requires-3 : tie.Need-refuse-requires-3
 refuse-requires-3 c κs = search needs
 
--- src/work.rt:76:9
 returns-3 : tie.Need-returns-3
 returns-3 c = let t = c .before .if3 .taken in c .refuse3 .ensures ∙ times-short (c .before .before .before .before .before .args .p) (c .before .before .before .before .before .args .n) (c .before .before .before .before .before .args .m) (c .before .before .before .before .before .args .a) (now (c .before .before .before .before .before .args .work)) (inl (omega arith))
 
--- src/work.rt:79:9
 refuse-requires-4 : tie.Need-refuse-requires-4
 refuse-requires-4 c κs = search needs
 
--- src/work.rt:79:9
 returns-4 : tie.Need-returns-4
 returns-4 c = let t = c .before .if4 .taken in c .refuse4 .ensures ∙ times-short (c .before .before .before .before .before .before .args .p) (c .before .before .before .before .before .before .args .n) (c .before .before .before .before .before .before .args .m) (c .before .before .before .before .before .before .args .a) (now (c .before .before .before .before .before .before .args .work)) (inr (omega arith))
 
--- src/work.rt:81:26
 add-work-room : tie.Need-add-work-room
 add-work-room c = let x = c .before .before .before .if1 .left in let y = c .before .before .if2 .left in let z = c .before .if3 .left in let w = c .if4 .left in let g = c .before .before .before .before .before .good in let f = c .before .before .before .before .before .fits in search needs
 
--- src/work.rt:81:33
 add-work-room-2 : tie.Need-add-work-room-2
 add-work-room-2 c = let x = c .before .before .before .if1 .left in let y = c .before .before .if2 .left in let z = c .before .if3 .left in let w = c .if4 .left in let g = c .before .before .before .before .before .good in let f = c .before .before .before .before .before .fits in search needs
 
--- src/work.rt:81:33
 add-work-room-3 : tie.Need-add-work-room-3
 add-work-room-3 c = let x = c .before .before .before .if1 .left in let y = c .before .before .if2 .left in let z = c .before .if3 .left in let w = c .if4 .left in let g = c .before .before .before .before .before .good in let f = c .before .before .before .before .before .fits in search needs
 
--- src/work.rt:81:33
 add-work-room-4 : tie.Need-add-work-room-4
 add-work-room-4 c = let x = c .before .before .before .if1 .left in let y = c .before .before .if2 .left in let z = c .before .if3 .left in let w = c .if4 .left in let g = c .before .before .before .before .before .good in let f = c .before .before .before .before .before .fits in search needs
 
--- src/work.rt:81:9
 work-room-requires : tie.Need-work-room-requires
 work-room-requires c κs = search needs
 
--- src/work.rt:83:9
 returns-5 : tie.Need-returns-5
 returns-5 c = times-room (c .before .before .before .before .before .before .before .before .args .p) (c .before .before .before .before .before .before .before .before .args .n) (c .before .before .before .before .before .before .before .before .args .m) (c .before .before .before .before .before .before .before .before .args .a) (now (c .before .before .before .before .before .before .before .before .args .work)) _ (c .before .before .work-room .ensures) (c .if5 .taken)
 
--- src/work.rt:85:20
 add-end : tie.Need-add-end
 add-end c = let o = work-open (c .before .before .before .before .before .before .before .before .args .n + c .before .before .before .before .before .before .before .before .args .m) (c .before .before .before .before .before .before .before .before .args .n + c .before .before .before .before .before .before .before .before .args .m + c .before .before .before .before .before .before .before .before .args .p + 1) (c .before .before .before .before .before .before .before .before .args .a) (length (now (c .before .before .before .before .before .before .before .before .args .work))) (sym (ap (λ (r : Refusal). r .number) (c .before .before .work-room .ensures)) ∙ c .if5 .left) in let u = o .1 in let x = c .before .before .before .before .before .before .if1 .left in let y = c .before .before .before .before .before .if2 .left in let z = c .before .before .before .before .if3 .left in let w = c .before .before .before .if4 .left in let g = c .before .before .before .before .before .before .before .before .good in let f = c .before .before .before .before .before .before .before .before .fits in search needs
 
--- src/work.rt:85:20
 add-end-2 : tie.Need-add-end-2
 add-end-2 c = let o = work-open (c .before .before .before .before .before .before .before .before .args .n + c .before .before .before .before .before .before .before .before .args .m) (c .before .before .before .before .before .before .before .before .args .n + c .before .before .before .before .before .before .before .before .args .m + c .before .before .before .before .before .before .before .before .args .p + 1) (c .before .before .before .before .before .before .before .before .args .a) (length (now (c .before .before .before .before .before .before .before .before .args .work))) (sym (ap (λ (r : Refusal). r .number) (c .before .before .work-room .ensures)) ∙ c .if5 .left) in let u = o .1 in let x = c .before .before .before .before .before .before .if1 .left in let y = c .before .before .before .before .before .if2 .left in let z = c .before .before .before .before .if3 .left in let w = c .before .before .before .if4 .left in let g = c .before .before .before .before .before .before .before .before .good in let f = c .before .before .before .before .before .before .before .before .fits in search needs
 
--- src/work.rt:85:15
 add-end-3 : tie.Need-add-end-3
 add-end-3 c = let o = work-open (c .before .before .before .before .before .before .before .before .args .n + c .before .before .before .before .before .before .before .before .args .m) (c .before .before .before .before .before .before .before .before .args .n + c .before .before .before .before .before .before .before .before .args .m + c .before .before .before .before .before .before .before .before .args .p + 1) (c .before .before .before .before .before .before .before .before .args .a) (length (now (c .before .before .before .before .before .before .before .before .args .work))) (sym (ap (λ (r : Refusal). r .number) (c .before .before .work-room .ensures)) ∙ c .if5 .left) in let u = o .1 in let x = c .before .before .before .before .before .before .if1 .left in let y = c .before .before .before .before .before .if2 .left in let z = c .before .before .before .before .if3 .left in let w = c .before .before .before .if4 .left in let g = c .before .before .before .before .before .before .before .before .good in let f = c .before .before .before .before .before .before .before .before .fits in search needs
 
--- src/work.rt:86:24
 mul-knot-refusal : tie.Need-mul-knot-refusal
 mul-knot-refusal c = search needs
 
--- src/work.rt:86:24
 sub-knot-refusal : tie.Need-sub-knot-refusal
 sub-knot-refusal c = search needs
 
--- src/work.rt:86:24
 part-knot-refusal-start : tie.Need-part-knot-refusal-start
 part-knot-refusal-start c = search needs
 
--- src/work.rt:86:24
 part-knot-refusal-end : tie.Need-part-knot-refusal-end
 part-knot-refusal-end c = let o = work-open (c .before .before .before .before .before .before .before .before .args .n + c .before .before .before .before .before .before .before .before .args .m) (c .before .before .before .before .before .before .before .before .args .n + c .before .before .before .before .before .before .before .before .args .m + c .before .before .before .before .before .before .before .before .args .p + 1) (c .before .before .before .before .before .before .before .before .args .a) (length (now (c .before .before .before .before .before .before .before .before .args .work))) (sym (ap (λ (r : Refusal). r .number) (c .before .before .work-room .ensures)) ∙ c .if5 .left) in let u = o .1 in omega arith
 
--- src/work.rt:86:5
 knot-refusal-requires : tie.Need-knot-refusal-requires
 knot-refusal-requires c κs = search needs
 
--- src/work.rt:65:1
 returns-6 : tie.Need-returns-6
 returns-6 c = times-knots (c .before .before .before .before .before .before .before .before .before .before .args .p) (c .before .before .before .before .before .before .before .before .before .before .args .n) (c .before .before .before .before .before .before .before .before .before .before .args .m) (c .before .before .before .before .before .before .before .before .before .before .args .a) (now (c .before .before .before .before .before .before .before .before .before .before .args .work)) _ (c .before .before .before .before .work-room .ensures) (c .before .before .if5 .left) _ (c .knot-refusal .ensures ∙ ap (knotRefusal (c .before .before .before .before .before .before .before .before .before .before .args .p) (c .before .before .before .before .before .before .before .before .before .before .args .n)) (slice-is (c .before .before .before .before .before .before .before .before .before .before .args .a) (c .before .before .before .before .before .before .before .before .before .before .args .n + c .before .before .before .before .before .before .before .before .before .before .args .p + 1) (now (c .before .before .before .before .before .before .before .before .before .before .args .work))))
 

@@ -6,35 +6,27 @@ use borrow.Author.Needs.{needs}
 use Rattle.insertion.proofs.work.work_room.Statement.{statement}
 use Rattle.insertion.proofs.work.work_room.Tie as tie
 
--- src/work.rt:27:9
 refuse-requires : tie.Need-refuse-requires
 refuse-requires c κs = search needs
 
--- src/work.rt:27:9
 returns : tie.Need-returns
 returns c = let t = c .before .if1 .taken in c .refuse .ensures ∙ work-short (c .before .before .args .n) (c .before .before .args .m) (c .before .before .args .a) (c .before .before .args .l) (inl (omega arith))
 
--- src/work.rt:30:9
 refuse-requires-2 : tie.Need-refuse-requires-2
 refuse-requires-2 c κs = search needs
 
--- src/work.rt:30:9
 returns-2 : tie.Need-returns-2
 returns-2 c = let t = c .before .if2 .taken in c .refuse2 .ensures ∙ work-short (c .before .before .before .args .n) (c .before .before .before .args .m) (c .before .before .before .args .a) (c .before .before .before .args .l) (inr (omega arith))
 
--- src/work.rt:33:9
 refuse-requires-3 : tie.Need-refuse-requires-3
 refuse-requires-3 c κs = search needs
 
--- src/work.rt:33:9
 returns-3 : tie.Need-returns-3
 returns-3 c = let t = c .before .if3 .taken in let u = c .before .before .if2 .left in c .refuse3 .ensures ∙ work-short (c .before .before .before .before .args .n) (c .before .before .before .before .args .m) (c .before .before .before .before .args .a) (c .before .before .before .before .args .l) (inr (omega arith))
 
--- src/work.rt:35:5
 refuse-requires-4 : tie.Need-refuse-requires-4
 refuse-requires-4 c κs = search needs
 
--- src/work.rt:23:1
 returns-4 : tie.Need-returns-4
 returns-4 c = let t = c .before .if3 .left in let u = c .before .before .if2 .left in let v = c .before .before .before .if1 .left in c .refuse4 .ensures ∙ work-fits (c .before .before .before .before .args .n) (c .before .before .before .before .args .m) (c .before .before .before .before .args .a) (c .before .before .before .before .args .l) (omega arith) (omega arith)
 

@@ -11,35 +11,27 @@ use Rattle.interval.proofs.float.infinity.Reads as infinity-reads
 use Rattle.interval.proofs.float.is_nan.Reads as is-nan-reads
 use Rattle.interval.proofs.step.above_sizes.Reads as above-sizes-reads
 
--- src/lib.rt:234:12
 is-nan-requires : tie.Need-is-nan-requires
 is-nan-requires c κs = search needs
 
--- src/lib.rt:235:13
 infinity-requires : tie.Need-infinity-requires
 infinity-requires c κs = search needs
 
--- src/lib.rt:235:13
 returns : tie.Need-returns
 returns c = rw (ap (λ (i : Interval). i .hi) (about-zero (c .before .before .before .before .before .args .s) (c .before .before .before .before .before .args .self)), ← (c .before .before .is-nan .ensures), c .before .if1 .taken) (c .infinity .ensures)
 
--- src/lib.rt:237:12
 is-nan-requires-2 : tie.Need-is-nan-requires-2
 is-nan-requires-2 c κs = search needs
 
--- src/lib.rt:238:13
 infinity-requires-2 : tie.Need-infinity-requires-2
 infinity-requires-2 c κs = search needs
 
--- src/lib.rt:238:13
 returns-2 : tie.Need-returns-2
 returns-2 c = rw (ap (λ (i : Interval). i .hi) (about-zero (c .before .before .before .before .before .before .before .args .s) (c .before .before .before .before .before .before .before .args .self)), ← (c .before .before .before .before .is-nan .ensures), c .before .before .before .if1 .left, ← (c .before .before .is-nan2 .ensures), c .before .if2 .taken) (c .infinity2 .ensures)
 
--- src/lib.rt:240:9
 above-sizes-requires : tie.Need-above-sizes-requires
 above-sizes-requires c κs = (sym (c .before .before .before .is-nan .ensures) ∙ c .before .before .if1 .left, sym (c .before .is-nan2 .ensures) ∙ c .if2 .left)
 
--- src/lib.rt:229:5
 returns-3 : tie.Need-returns-3
 returns-3 c = rw (c .above-sizes .ensures, ap (λ (i : Interval). i .hi) (about-zero (c .before .before .before .before .before .before .before .args .s) (c .before .before .before .before .before .before .before .args .self)), ← (c .before .before .before .before .is-nan .ensures), c .before .before .before .if1 .left, ← (c .before .before .is-nan2 .ensures), c .before .if2 .left)
 

@@ -19,39 +19,31 @@ Inv-loop xs fine₀ i₀ fine i = (i ≤ length xs) × (fine ≡ allBelow (λ k.
 abbrev μ-loop : tie.MeasureT-loop
 μ-loop xs fine₀ i₀ fine i = length xs - i
 
--- src/curve.rt:24:5
 loop-holds : tie.Need-loop-holds Inv-loop μ-loop
 unfolding allBelow
 loop-holds c = search needs
 
--- src/curve.rt:25:33
 mul-is-weight : tie.Need-mul-is-weight Inv-loop μ-loop
 mul-is-weight c = search needs
 
--- src/curve.rt:25:33
 shared-slice-read-is-weight : tie.Need-shared-slice-read-is-weight Inv-loop μ-loop
 shared-slice-read-is-weight c = search needs
 
--- src/curve.rt:25:23
 is-weight-requires : tie.Need-is-weight-requires Inv-loop μ-loop
 is-weight-requires c κs = search needs
 
--- src/curve.rt:26:9
 add-i : tie.Need-add-i Inv-loop μ-loop
 add-i c = search needs
 
--- src/curve.rt:24:5
 loop-less : tie.Need-loop-less Inv-loop μ-loop
 loop-less c = search needs
 
--- src/curve.rt:24:5
 loop-again : tie.Need-loop-again Inv-loop μ-loop
 loop-again c =
     let at-loop = c .before .before .before in
     let xs = now (at-loop .before .before .args .xs) in
     (omega arith, all-step (λ k. isWeight (at xs k)) (at-loop .loop .i) _ _ (at-loop .loop .inv .1) (c .is-weight .ensures))
 
--- src/curve.rt:19:1
 returns : tie.Need-returns Inv-loop μ-loop
 unfolding allWeights
 returns c =

@@ -20,39 +20,31 @@ Inv-loop xs fine₀ i₀ fine i = (i ≤ length xs) × (fine ≡ allBelow (λ k.
 abbrev μ-loop : tie.MeasureT-loop
 μ-loop xs fine₀ i₀ fine i = length xs - i
 
--- src/knots.rt:17:5
 loop-holds : tie.Need-loop-holds Inv-loop μ-loop
 unfolding allBelow
 loop-holds c = search needs
 
--- src/knots.rt:18:33
 mul-is-finite : tie.Need-mul-is-finite Inv-loop μ-loop
 mul-is-finite c = search needs
 
--- src/knots.rt:18:33
 shared-slice-read-is-finite : tie.Need-shared-slice-read-is-finite Inv-loop μ-loop
 shared-slice-read-is-finite c = search needs
 
--- src/knots.rt:18:23
 is-finite-requires : tie.Need-is-finite-requires Inv-loop μ-loop
 is-finite-requires c κs = search needs
 
--- src/knots.rt:19:9
 add-i : tie.Need-add-i Inv-loop μ-loop
 add-i c = search needs
 
--- src/knots.rt:17:5
 loop-less : tie.Need-loop-less Inv-loop μ-loop
 loop-less c = search needs
 
--- src/knots.rt:17:5
 loop-again : tie.Need-loop-again Inv-loop μ-loop
 loop-again c =
     let at-loop = c .before .before .before in
     let xs = now (at-loop .before .before .args .xs) in
     (omega arith, all-step (λ k. finite (at xs k)) (at-loop .loop .i) _ _ (at-loop .loop .inv .1) (c .is-finite .ensures))
 
--- src/knots.rt:12:1
 returns : tie.Need-returns Inv-loop μ-loop
 unfolding allFinite
 returns c =

@@ -21,48 +21,37 @@ Inv-loop xs gap end fine₀ i₀ fine i = (i ≤ end) × (end ≡ length xs - ga
 abbrev μ-loop : tie.MeasureT-loop
 μ-loop xs gap end fine₀ i₀ fine i = end - i
 
--- src/knots.rt:52:15
 sub-end : tie.Need-sub-end Inv-loop μ-loop
 sub-end c = search needs
 
--- src/knots.rt:55:5
 loop-holds : tie.Need-loop-holds Inv-loop μ-loop
 unfolding allBelow
 loop-holds c = search needs
 
--- src/knots.rt:56:25
 mul-fine : tie.Need-mul-fine Inv-loop μ-loop
 mul-fine c = search needs
 
--- src/knots.rt:56:25
 shared-slice-read-fine : tie.Need-shared-slice-read-fine Inv-loop μ-loop
 shared-slice-read-fine c = search needs
 
--- src/knots.rt:56:37
 add-fine : tie.Need-add-fine Inv-loop μ-loop
 add-fine c = search needs
 
--- src/knots.rt:56:34
 mul-fine-2 : tie.Need-mul-fine-2 Inv-loop μ-loop
 mul-fine-2 c = search needs
 
--- src/knots.rt:56:34
 shared-slice-read-fine-2 : tie.Need-shared-slice-read-fine-2 Inv-loop μ-loop
 shared-slice-read-fine-2 c = search needs
 
--- src/knots.rt:57:9
 add-i : tie.Need-add-i Inv-loop μ-loop
 add-i c = search needs
 
--- src/knots.rt:55:5
 loop-less : tie.Need-loop-less Inv-loop μ-loop
 loop-less c = search needs
 
--- src/knots.rt:55:5
 loop-again : tie.Need-loop-again Inv-loop μ-loop
 loop-again c = let t = c .before .before .loop-test .taken in (omega arith, c .before .before .before .loop .inv .1, all-step (λ k. not (le (at (now (c .before .before .before .before .args .xs)) (k + (c .before .before .before .before .args .gap))) (at (now (c .before .before .before .before .args .xs)) k))) (c .before .before .before .loop .i) _ _ (c .before .before .before .loop .inv .2) refl)
 
--- src/knots.rt:48:1
 returns : tie.Need-returns Inv-loop μ-loop
 unfolding apart
 returns c = let t = c .loop-test .left in let u = c .before .loop .inv .0 in let v = c .before .loop .inv .1 in let e : c .before .loop .i ≡ length (now (c .before .before .args .xs)) - c .before .before .args .gap = omega arith in c .before .loop .inv .2 ∙ ap (allBelow (λ k. not (le (at (now (c .before .before .args .xs)) (k + (c .before .before .args .gap))) (at (now (c .before .before .args .xs)) k)))) e

@@ -21,48 +21,37 @@ Inv-loop xs end fine₀ i₀ fine i = (i ≤ end) × (end ≡ length xs - 1) × 
 abbrev μ-loop : tie.MeasureT-loop
 μ-loop xs end fine₀ i₀ fine i = end - i
 
--- src/knots.rt:29:15
 sub-end : tie.Need-sub-end Inv-loop μ-loop
 sub-end c = search needs
 
--- src/knots.rt:32:5
 loop-holds : tie.Need-loop-holds Inv-loop μ-loop
 unfolding allBelow
 loop-holds c = search needs
 
--- src/knots.rt:33:25
 mul-fine : tie.Need-mul-fine Inv-loop μ-loop
 mul-fine c = search needs
 
--- src/knots.rt:33:25
 shared-slice-read-fine : tie.Need-shared-slice-read-fine Inv-loop μ-loop
 shared-slice-read-fine c = search needs
 
--- src/knots.rt:33:36
 add-fine : tie.Need-add-fine Inv-loop μ-loop
 add-fine c = search needs
 
--- src/knots.rt:33:33
 mul-fine-2 : tie.Need-mul-fine-2 Inv-loop μ-loop
 mul-fine-2 c = search needs
 
--- src/knots.rt:33:33
 shared-slice-read-fine-2 : tie.Need-shared-slice-read-fine-2 Inv-loop μ-loop
 shared-slice-read-fine-2 c = search needs
 
--- src/knots.rt:34:9
 add-i : tie.Need-add-i Inv-loop μ-loop
 add-i c = search needs
 
--- src/knots.rt:32:5
 loop-less : tie.Need-loop-less Inv-loop μ-loop
 loop-less c = search needs
 
--- src/knots.rt:32:5
 loop-again : tie.Need-loop-again Inv-loop μ-loop
 loop-again c = let t = c .before .before .loop-test .taken in (omega arith, c .before .before .before .loop .inv .1, all-step (λ k. not (lt (at (now (c .before .before .before .before .args .xs)) (k + 1)) (at (now (c .before .before .before .before .args .xs)) k))) (c .before .before .before .loop .i) _ _ (c .before .before .before .loop .inv .2) refl)
 
--- src/knots.rt:25:1
 returns : tie.Need-returns Inv-loop μ-loop
 unfolding inOrder
 returns c = let t = c .loop-test .left in let u = c .before .loop .inv .0 in let v = c .before .loop .inv .1 in let e : c .before .loop .i ≡ length (now (c .before .before .args .xs)) - 1 = omega arith in c .before .loop .inv .2 ∙ ap (allBelow (λ k. not (lt (at (now (c .before .before .args .xs)) (k + 1)) (at (now (c .before .before .args .xs)) k)))) e

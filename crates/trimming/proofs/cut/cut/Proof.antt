@@ -14,43 +14,33 @@ use Rattle.trimming.proofs.cut.cut.Lts as lts
 use Rattle.insertion.proofs.work.front_refusal.Reads as front-refusal-reads
 use Rattle.insertion.proofs.work.take_curve.Reads as take-curve-reads
 
--- src/cut.rt:70:9
 take-curve-requires : tie.Need-take-curve-requires
 take-curve-requires c κs = search needs
 
--- src/cut.rt:72:9
 same-length : tie.Need-same-length
 same-length c = c .before .before .before .before .before .before .before .knots .given
 
--- src/cut.rt:72:9
 same-length-2 : tie.Need-same-length-2
 same-length-2 c = c .before .before .before .before .before .points .given
 
--- src/cut.rt:72:9
 same-length-3 : tie.Need-same-length-3
 same-length-3 c = c .before .before .before .weights .given
 
--- src/cut.rt:72:9
 returns : tie.Need-returns
 returns c = absurd (c .if1 .taken (taken-open (c .before .before .before .before .before .before .before .before .before .before .before .before .before .before .before .before .args .p) (c .before .before .before .before .before .before .before .before .before .before .before .before .before .before .before .before .args .m) (c .before .before .before .before .before .before .before .before .before .before .before .before .before .before .before .before .args .f) (c .before .before .before .before .before .before .before .before .before .before .before .before .before .before .before .before .args .rational) (c .before .before .before .before .before .before .before .before .before .before .before .before .before .before .before .before .args .a) (length (now (c .before .before .before .before .before .before .before .before .before .before .before .before .before .before .before .before .args .work))) (length (now (c .before .before .before .before .before .before .before .before .before .before .before .before .before .before .before .before .args .knots))) (length (now (c .before .before .before .before .before .before .before .before .before .before .before .before .before .before .before .before .args .points))) (length (now (c .before .before .before .before .before .before .before .before .before .before .before .before .before .before .before .before .args .weights))) _ (c .before .before .before .before .before .before .before .before .take-curve .ensures .0) (c .before .before .before .before .before .before .before .before .before .before .before .before .before .before .before .before .pre .0 .0) (c .before .before .before .before .before .before .before .before .before .before .before .before .before .before .before .before .pre .0 .1) (c .before .before .before .before .before .before .before .before .before .before .before .before .before .before .before .before .pre .1 .0) (c .before .before .before .before .before .before .before .before .before .before .before .before .before .before .before .before .pre .1 .1 .0) (c .before .before .before .before .before .before .before .before .before .before .before .before .before .before .before .before .pre .1 .1 .1)))
 
--- src/cut.rt:74:5
 front-refusal-requires : tie.Need-front-refusal-requires
 front-refusal-requires c κs = search needs
 
--- src/cut.rt:53:1
 same-length-4 : tie.Need-same-length-4
 same-length-4 c = c .before .before .before .before .before .before .before .before .before .before .before .knots .given
 
--- src/cut.rt:53:1
 same-length-5 : tie.Need-same-length-5
 same-length-5 c = c .before .before .before .before .before .before .before .before .before .points .given
 
--- src/cut.rt:53:1
 same-length-6 : tie.Need-same-length-6
 same-length-6 c = c .before .before .before .before .before .before .before .weights .given
 
--- src/cut.rt:53:1
 returns-2 : tie.Need-returns-2
 returns-2 c = cut-done (c .before .before .before .before .before .before .before .before .before .before .before .before .before .before .before .before .before .before .before .before .args .p) (c .before .before .before .before .before .before .before .before .before .before .before .before .before .before .before .before .before .before .before .before .args .m) (c .before .before .before .before .before .before .before .before .before .before .before .before .before .before .before .before .before .before .before .before .args .rational) (c .before .before .before .before .before .before .before .before .before .before .before .before .before .before .before .before .before .before .before .before .args .a) (c .before .before .before .before .before .before .before .before .before .before .before .before .before .before .before .before .before .before .before .before .args .f) (now (c .before .before .before .before .before .before .before .before .before .before .before .before .before .before .before .before .before .before .before .before .args .work)) _ _ _ _ _ _ _ _ (c .before .before .before .before .if1 .left) (c .before .before .before .before .before .before .before .before .before .before .before .before .before .before .before .before .before .before .before .before .pre .0 .1) (c .before .before .before .before .before .before .before .before .before .before .before .before .take-curve .ensures .1 .0) (c .before .before .before .before .before .before .before .before .before .before .before .before .take-curve .ensures .1 .1 .0) (c .before .before .before .before .before .before .before .before .before .before .before .before .take-curve .ensures .1 .1 .1) (let x = c .before .before .before .before .before .before .before .before .before .before .before .knots .given in let y = c .before .before .before .before .before .before .before .before .before .points .given in let z = c .before .before .before .before .before .before .before .weights .given in let i = c .before .before .before .before .before .before .before .before .before .before .before .before .before .before .before .before .before .before .before .before .pre .1 .0 in let j = c .before .before .before .before .before .before .before .before .before .before .before .before .before .before .before .before .before .before .before .before .pre .1 .1 .0 in let k = c .before .before .before .before .before .before .before .before .before .before .before .before .before .before .before .before .before .before .before .before .pre .1 .1 .1 in c .front-refusal .ensures ∙ front-is (c .before .before .before .before .before .before .before .before .before .before .before .before .before .before .before .before .before .before .before .before .args .p) (c .before .before .before .before .before .before .before .before .before .before .before .before .before .before .before .before .before .before .before .before .args .m) (c .before .before .before .before .before .before .before .before .before .before .before .before .before .before .before .before .before .before .before .before .args .rational) _ _ _ (omega arith) (omega arith) (omega arith))
 

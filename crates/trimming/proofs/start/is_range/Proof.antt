@@ -5,35 +5,28 @@ use borrow.Author.Needs.{needs}
 use Rattle.trimming.proofs.start.is_range.Statement.{statement}
 use Rattle.trimming.proofs.start.is_range.Tie as tie
 
--- src/start.rt:21:9
 is-finite-requires : tie.Need-is-finite-requires
 is-finite-requires c κs = search needs
 
--- src/start.rt:22:9
 returns : tie.Need-returns
 unfolding inRange
 returns c = simp (sym (c .before .is-finite .ensures) ∙ not-true _ (c .if1 .taken))
 
--- src/start.rt:24:9
 is-finite-requires-2 : tie.Need-is-finite-requires-2
 is-finite-requires-2 c κs = search needs
 
--- src/start.rt:25:9
 returns-2 : tie.Need-returns-2
 unfolding inRange
 returns-2 c = simp (sym (c .before .before .before .is-finite .ensures) ∙ not-false _ (c .before .before .if1 .left), sym (c .before .is-finite2 .ensures) ∙ not-true _ (c .if2 .taken))
 
--- src/start.rt:28:9
 returns-3 : tie.Need-returns-3
 unfolding inRange
 returns-3 c = simp (sym (c .before .before .before .before .is-finite .ensures) ∙ not-false _ (c .before .before .before .if1 .left), sym (c .before .before .is-finite2 .ensures) ∙ not-false _ (c .before .if2 .left), c .if3 .taken)
 
--- src/start.rt:31:9
 returns-4 : tie.Need-returns-4
 unfolding inRange
 returns-4 c = simp (sym (c .before .before .before .before .before .is-finite .ensures) ∙ not-false _ (c .before .before .before .before .if1 .left), sym (c .before .before .before .is-finite2 .ensures) ∙ not-false _ (c .before .before .if2 .left), c .before .if3 .left, c .if4 .taken)
 
--- src/start.rt:18:1
 returns-5 : tie.Need-returns-5
 unfolding inRange
 returns-5 c = simp (sym (c .before .before .before .before .before .is-finite .ensures) ∙ not-false _ (c .before .before .before .before .if1 .left), sym (c .before .before .before .is-finite2 .ensures) ∙ not-false _ (c .before .before .if2 .left), c .before .if3 .left, c .if4 .left)

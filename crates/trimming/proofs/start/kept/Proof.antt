@@ -9,31 +9,24 @@ use borrow.Author.Needs.{needs}
 use Rattle.trimming.proofs.start.kept.Statement.{statement}
 use Rattle.trimming.proofs.start.kept.Tie as tie
 
--- src/start.rt:43:21
 add-missing : tie.Need-add-missing
 add-missing c = let p = c .before .pre .0 in search needs
 
--- src/start.rt:43:9
 missing-requires : tie.Need-missing-requires
 missing-requires c κs = search needs
 
--- src/start.rt:44:9
 below-requires : tie.Need-below-requires
 below-requires c κs = search needs
 
--- src/start.rt:45:5
 below-requires-2 : tie.Need-below-requires-2
 below-requires-2 c κs = search needs
 
--- src/start.rt:45:5
 add-result : tie.Need-add-result
 add-result c = let p = c .before .before .before .before .pre .0 in let q = c .before .before .before .before .pre .1 .0 in let b = below-long (now (c .before .before .before .before .args .knots)) (c .before .before .before .before .args .hi) in let e = c .below2 .ensures in let f = c .before .before .missing .ensures in omega arith
 
--- src/start.rt:45:5
 sub-result : tie.Need-sub-result
 sub-result c = let p = c .before .before .before .before .pre .1 .1 in let e = c .below2 .ensures in let f = c .before .below .ensures in omega arith
 
--- src/start.rt:37:1
 returns : tie.Need-returns
 unfolding keptOf
 returns c = let e = c .below2 .ensures in let f = c .before .below .ensures in let g = c .before .before .missing .ensures in omega arith

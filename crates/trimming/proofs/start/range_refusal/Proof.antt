@@ -11,75 +11,57 @@ use borrow.Author.Needs.{needs}
 use Rattle.trimming.proofs.start.range_refusal.Statement.{statement}
 use Rattle.trimming.proofs.start.range_refusal.Tie as tie
 
--- src/start.rt:65:18
 mul-is-range : tie.Need-mul-is-range
 mul-is-range c = search needs
 
--- src/start.rt:65:18
 shared-slice-read-is-range : tie.Need-shared-slice-read-is-range
 shared-slice-read-is-range c = let v = c .before .before .pre .0 in let l = v .long in let k = v .count in let s = c .before .before .pre .1 in omega arith
 
--- src/start.rt:65:28
 mul-is-range-2 : tie.Need-mul-is-range-2
 mul-is-range-2 c = search needs
 
--- src/start.rt:65:28
 shared-slice-read-is-range-2 : tie.Need-shared-slice-read-is-range-2
 shared-slice-read-is-range-2 c = let v = c .before .before .before .pre .0 in let l = v .long in let k = v .count in let s = c .before .before .before .pre .1 in omega arith
 
--- src/start.rt:65:9
 is-range-requires : tie.Need-is-range-requires
 is-range-requires c κs = search needs
 
--- src/start.rt:66:9
 refuse-requires : tie.Need-refuse-requires
 refuse-requires c κs = search needs
 
--- src/start.rt:66:9
 returns : tie.Need-returns
 returns c = range-15 (c .before .before .before .before .before .before .args .p) (now (c .before .before .before .before .before .before .args .knots)) (c .before .before .before .before .before .before .args .n) (c .before .before .before .before .before .before .args .rational) (c .before .before .before .before .before .before .args .lo) (c .before .before .before .before .before .before .args .hi) (c .before .before .before .before .before .before .args .a) (c .before .before .before .before .before .before .args .b) (c .before .before .before .before .before .before .args .c) (c .before .before .before .before .before .before .args .d) (sym (c .before .before .is-range .ensures) ∙ not-true _ (c .before .if1 .taken)) _ (c .refuse .ensures)
 
--- src/start.rt:68:27
 kept-requires : tie.Need-kept-requires
 kept-requires c κs = let v = c .before .before .before .before .before .pre .0 in let l = v .long in let k = v .count in let s = c .before .before .before .before .before .pre .1 in (omega arith, (c .before .before .before .before .before .pre .1, range-order (c .before .before .before .before .before .args .p) (c .before .before .before .before .before .args .n) (now (c .before .before .before .before .before .args .knots)) (c .before .before .before .before .before .pre .0) (c .before .before .before .before .before .args .lo) (c .before .before .before .before .before .args .hi) (sym (c .before .is-range .ensures) ∙ not-false _ (c .if1 .left))))
 
--- src/start.rt:68:9
 out-room-requires : tie.Need-out-room-requires
 out-room-requires c κs = search needs
 
--- src/start.rt:70:9
 returns-2 : tie.Need-returns-2
 returns-2 c = range-out (c .before .before .before .before .before .before .before .before .before .args .p) (now (c .before .before .before .before .before .before .before .before .before .args .knots)) (c .before .before .before .before .before .before .before .before .before .args .n) (c .before .before .before .before .before .before .before .before .before .args .rational) (c .before .before .before .before .before .before .before .before .before .args .lo) (c .before .before .before .before .before .before .before .before .before .args .hi) (c .before .before .before .before .before .before .before .before .before .args .a) (c .before .before .before .before .before .before .before .before .before .args .b) (c .before .before .before .before .before .before .before .before .before .args .c) (c .before .before .before .before .before .before .before .before .before .args .d) (sym (c .before .before .before .before .before .is-range .ensures) ∙ not-false _ (c .before .before .before .before .if1 .left)) _ (c .before .before .out-room .ensures ∙ ap (λ m. outRoom (c .before .before .before .before .before .before .before .before .before .args .p) m (c .before .before .before .before .before .before .before .before .before .args .rational) (c .before .before .before .before .before .before .before .before .before .args .a) (c .before .before .before .before .before .before .before .before .before .args .b) (c .before .before .before .before .before .before .before .before .before .args .c)) (c .before .before .before .kept .ensures)) (c .if2 .taken)
 
--- src/start.rt:72:21
 add-missing : tie.Need-add-missing
 add-missing c = let v = c .before .before .before .before .before .before .before .before .before .pre .0 in let l = v .long in let k = v .count in let s = c .before .before .before .before .before .before .before .before .before .pre .1 in search needs
 
--- src/start.rt:72:9
 missing-requires : tie.Need-missing-requires
 missing-requires c κs = search needs
 
--- src/start.rt:73:21
 add-missing-2 : tie.Need-add-missing-2
 add-missing-2 c = let v = c .before .before .before .before .before .before .before .before .before .before .pre .0 in let l = v .long in let k = v .count in let s = c .before .before .before .before .before .before .before .before .before .before .pre .1 in search needs
 
--- src/start.rt:73:9
 missing-requires-2 : tie.Need-missing-requires-2
 missing-requires-2 c κs = search needs
 
--- src/start.rt:74:26
 add-scratch-room : tie.Need-add-scratch-room
 add-scratch-room c = let v = c .before .before .before .before .before .before .before .before .before .before .before .pre .0 in let l = v .long in let k = v .count in let s = c .before .before .before .before .before .before .before .before .before .before .before .pre .1 in let x = c .before .missing .ensures in let y = c .missing2 .ensures in omega arith
 
--- src/start.rt:74:21
 add-scratch-room-2 : tie.Need-add-scratch-room-2
 add-scratch-room-2 c = let v = c .before .before .before .before .before .before .before .before .before .before .before .pre .0 in let l = v .long in let k = v .count in let s = c .before .before .before .before .before .before .before .before .before .before .before .pre .1 in let x = c .before .missing .ensures in let y = c .missing2 .ensures in omega arith
 
--- src/start.rt:74:5
 scratch-room-requires : tie.Need-scratch-room-requires
 scratch-room-requires c κs = search needs
 
--- src/start.rt:49:1
 returns-3 : tie.Need-returns-3
 returns-3 c = range-scratch (c .before .before .before .before .before .before .before .before .before .before .before .before .args .p) (now (c .before .before .before .before .before .before .before .before .before .before .before .before .args .knots)) (c .before .before .before .before .before .before .before .before .before .before .before .before .args .n) (c .before .before .before .before .before .before .before .before .before .before .before .before .args .rational) (c .before .before .before .before .before .before .before .before .before .before .before .before .args .lo) (c .before .before .before .before .before .before .before .before .before .before .before .before .args .hi) (c .before .before .before .before .before .before .before .before .before .before .before .before .args .a) (c .before .before .before .before .before .before .before .before .before .before .before .before .args .b) (c .before .before .before .before .before .before .before .before .before .before .before .before .args .c) (c .before .before .before .before .before .before .before .before .before .before .before .before .args .d) (sym (c .before .before .before .before .before .before .before .before .is-range .ensures) ∙ not-false _ (c .before .before .before .before .before .before .before .if1 .left)) _ (c .before .before .before .before .before .out-room .ensures ∙ ap (λ m. outRoom (c .before .before .before .before .before .before .before .before .before .before .before .before .args .p) m (c .before .before .before .before .before .before .before .before .before .before .before .before .args .rational) (c .before .before .before .before .before .before .before .before .before .before .before .before .args .a) (c .before .before .before .before .before .before .before .before .before .before .before .before .args .b) (c .before .before .before .before .before .before .before .before .before .before .before .before .args .c)) (c .before .before .before .before .before .before .kept .ensures)) (c .before .before .before .if2 .left) _ (c .scratch-room .ensures ∙ ap₂ (λ x y. scratchRoom (c .before .before .before .before .before .before .before .before .before .before .before .before .args .p) (c .before .before .before .before .before .before .before .before .before .before .before .before .args .n + (x + y)) (c .before .before .before .before .before .before .before .before .before .before .before .before .args .d)) (c .before .before .missing .ensures) (c .before .missing2 .ensures))
 

@@ -8,20 +8,16 @@ use borrow.Author.Needs.{needs}
 use Rattle.trimming.proofs.start.trim_start.Statement.{statement}
 use Rattle.trimming.proofs.start.trim_start.Tie as tie
 
--- src/start.rt:93:9
 edit-start-requires : tie.Need-edit-start-requires
 edit-start-requires c κs = search needs
 
--- src/start.rt:95:9
 returns : tie.Need-returns
 unfolding trimStart
 returns c = simp (stop (c .before .before .edit-start .ensures) (c .if1 .taken)) (c .before .before .edit-start .ensures)
 
--- src/start.rt:97:5
 range-refusal-requires : tie.Need-range-refusal-requires
 range-refusal-requires c κs = let o = edit-open (c .before .before .before .before .before .before .args .degree) (now (c .before .before .before .before .before .before .args .knots)) (now (c .before .before .before .before .before .before .args .points)) (c .before .before .before .before .before .before .args .rational) (now (c .before .before .before .before .before .before .args .weights)) (sym (ap (λ (r : Refusal). r .number) (c .before .before .edit-start .ensures)) ∙ c .if1 .left) .0 in (o .knots, o .short .knots)
 
--- src/start.rt:78:1
 returns-2 : tie.Need-returns-2
 unfolding trimStart
 returns-2 c = simp (skip (c .before .before .before .edit-start .ensures) (c .before .if1 .left)) (c .range-refusal .ensures)

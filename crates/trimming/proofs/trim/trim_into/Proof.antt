@@ -10,75 +10,57 @@ use borrow.Author.Needs.{needs}
 use Rattle.trimming.proofs.trim.trim_into.Statement.{statement}
 use Rattle.trimming.proofs.trim.trim_into.Tie as tie
 
--- src/trim.rt:45:21
 add-missing : tie.Need-add-missing
 add-missing c = let v = c .before .before .before .before .before .before .before .pre .0 in let l = v .knots .long in let k = v .knots .count in let s = v .short .knots in let q = c .before .before .before .before .before .before .before .pre .1 .1 .1 .1 .1 in let g = c .before .before .before .before .before .before .before .good in let f = c .before .before .before .before .before .before .before .fits in search needs
 
--- src/trim.rt:45:9
 missing-requires : tie.Need-missing-requires
 missing-requires c κs = search needs
 
--- src/trim.rt:46:21
 add-missing-2 : tie.Need-add-missing-2
 add-missing-2 c = let v = c .before .before .before .before .before .before .before .before .pre .0 in let l = v .knots .long in let k = v .knots .count in let s = v .short .knots in let q = c .before .before .before .before .before .before .before .before .pre .1 .1 .1 .1 .1 in let g = c .before .before .before .before .before .before .before .before .good in let f = c .before .before .before .before .before .before .before .before .fits in search needs
 
--- src/trim.rt:46:9
 missing-requires-2 : tie.Need-missing-requires-2
 missing-requires-2 c κs = search needs
 
--- src/trim.rt:47:34
 add-a : tie.Need-add-a
 add-a c = let v = c .before .before .before .before .before .before .before .before .before .pre .0 in let l = v .knots .long in let k = v .knots .count in let s = v .short .knots in let q = c .before .before .before .before .before .before .before .before .before .pre .1 .1 .1 .1 .1 in let g = c .before .before .before .before .before .before .before .before .before .good in let f = c .before .before .before .before .before .before .before .before .before .fits in let x = c .before .missing .ensures in let y = c .missing2 .ensures in omega arith
 
--- src/trim.rt:47:14
 add-a-2 : tie.Need-add-a-2
 add-a-2 c = let v = c .before .before .before .before .before .before .before .before .before .pre .0 in let l = v .knots .long in let k = v .knots .count in let s = v .short .knots in let q = c .before .before .before .before .before .before .before .before .before .pre .1 .1 .1 .1 .1 in let g = c .before .before .before .before .before .before .before .before .before .good in let f = c .before .before .before .before .before .before .before .before .before .fits in let x = c .before .missing .ensures in let y = c .missing2 .ensures in omega arith
 
--- src/trim.rt:47:13
 mul-a : tie.Need-mul-a
 mul-a c = let v = c .before .before .before .before .before .before .before .before .before .pre .0 in let l = v .knots .long in let k = v .knots .count in let s = v .short .knots in let q = c .before .before .before .before .before .before .before .before .before .pre .1 .1 .1 .1 .1 in let g = c .before .before .before .before .before .before .before .before .before .good in let f = c .before .before .before .before .before .before .before .before .before .fits in let x = c .before .missing .ensures in let y = c .missing2 .ensures in omega (arith, g, f)
 
--- src/trim.rt:48:9
 insert-ends-requires : tie.Need-insert-ends-requires
 insert-ends-requires c κs = let v = c .before .before .before .before .before .before .before .before .before .before .pre .0 in let l = v .knots .long in let k = v .knots .count in let s = v .short .knots in let q = c .before .before .before .before .before .before .before .before .before .before .pre .1 .1 .1 .1 .1 in let g = c .before .before .before .before .before .before .before .before .before .before .good in let f = c .before .before .before .before .before .before .before .before .before .before .fits in let x = c .before .before .missing .ensures in let y = c .before .missing2 .ensures in (c .before .before .before .before .before .before .before .before .before .before .pre .0, (omega arith, omega arith))
 
--- src/trim.rt:50:9
 same-length : tie.Need-same-length
 same-length c = c .before .before .before .work .given
 
--- src/trim.rt:50:9
 returns : tie.Need-returns
 returns c = into-refused (c .before .before .before .before .before .before .before .before .before .before .before .before .before .before .before .args .degree) (now (c .before .before .before .before .before .before .before .before .before .before .before .before .before .before .before .args .knots)) (now (c .before .before .before .before .before .before .before .before .before .before .before .before .before .before .before .args .points)) (c .before .before .before .before .before .before .before .before .before .before .before .before .before .before .before .args .rational) (now (c .before .before .before .before .before .before .before .before .before .before .before .before .before .before .before .args .weights)) (c .before .before .before .before .before .before .before .before .before .before .before .before .before .before .before .pre .0) (c .before .before .before .before .before .before .before .before .before .before .before .before .before .before .before .args .lo) (c .before .before .before .before .before .before .before .before .before .before .before .before .before .before .before .args .hi) (length (now (c .before .before .before .before .before .before .before .before .before .before .before .before .before .before .before .args .out-knots))) (length (now (c .before .before .before .before .before .before .before .before .before .before .before .before .before .before .before .args .out-points))) (length (now (c .before .before .before .before .before .before .before .before .before .before .before .before .before .before .before .args .out-weights))) _ _ _ _ (c .before .before .before .before .insert-ends .ensures .0) (c .if1 .taken)
 
--- src/trim.rt:52:9
 below-requires : tie.Need-below-requires
 below-requires c κs = search needs
 
--- src/trim.rt:53:9
 kept-requires : tie.Need-kept-requires
 kept-requires c κs = let v = c .before .before .before .before .before .before .before .before .before .before .before .before .before .before .before .before .pre .0 in let l = v .knots .long in let k = v .knots .count in let s = v .short .knots in let q = c .before .before .before .before .before .before .before .before .before .before .before .before .before .before .before .before .pre .1 .1 .1 .1 .1 in let g = c .before .before .before .before .before .before .before .before .before .before .before .before .before .before .before .before .good in let f = c .before .before .before .before .before .before .before .before .before .before .before .before .before .before .before .before .fits in (omega arith, (s, c .before .before .before .before .before .before .before .before .before .before .before .before .before .before .before .before .pre .1 .0))
 
--- src/trim.rt:54:5
 cut-requires : tie.Need-cut-requires
 cut-requires c κs = let v = c .before .before .before .before .before .before .before .before .before .before .before .before .before .before .before .before .before .before .before .before .before .pre .0 in let l = v .knots .long in let k = v .knots .count in let s = v .short .knots in let q = c .before .before .before .before .before .before .before .before .before .before .before .before .before .before .before .before .before .before .before .before .before .pre .1 .1 .1 .1 .1 in let g = c .before .before .before .before .before .before .before .before .before .before .before .before .before .before .before .before .before .before .before .before .before .good in let f = c .before .before .before .before .before .before .before .before .before .before .before .before .before .before .before .before .before .before .before .before .before .fits in let x = c .before .before .before .before .before .before .before .before .before .before .before .before .before .missing .ensures in let y = c .before .before .before .before .before .before .before .before .before .before .before .before .missing2 .ensures in let F = c .before .before .before .before .before .below .ensures in let M = c .before .before .before .before .kept .ensures in let w = c .before .before .before .before .before .before .before .before .before .work .given in let b = (kept-fits (c .before .before .before .before .before .before .before .before .before .before .before .before .before .before .before .before .before .before .before .before .before .args .degree) (length (now (c .before .before .before .before .before .before .before .before .before .before .before .before .before .before .before .before .before .before .before .before .before .args .points)) / 3) (now (c .before .before .before .before .before .before .before .before .before .before .before .before .before .before .before .before .before .before .before .before .before .args .knots)) (c .before .before .before .before .before .before .before .before .before .before .before .before .before .before .before .before .before .before .before .before .before .pre .0 .knots) (c .before .before .before .before .before .before .before .before .before .before .before .before .before .before .before .before .before .before .before .before .before .args .lo) (c .before .before .before .before .before .before .before .before .before .before .before .before .before .before .before .before .before .before .before .before .before .args .hi) (c .before .before .before .before .before .before .before .before .before .before .before .before .before .before .before .before .before .before .before .before .before .pre .1 .0) (multiplicity-most (c .before .before .before .before .before .before .before .before .before .before .before .before .before .before .before .before .before .before .before .before .before .args .degree) (length (now (c .before .before .before .before .before .before .before .before .before .before .before .before .before .before .before .before .before .before .before .before .before .args .points)) / 3) (now (c .before .before .before .before .before .before .before .before .before .before .before .before .before .before .before .before .before .before .before .before .before .args .knots)) (c .before .before .before .before .before .before .before .before .before .before .before .before .before .before .before .before .before .before .before .before .before .pre .0 .knots) (c .before .before .before .before .before .before .before .before .before .before .before .before .before .before .before .before .before .before .before .before .before .args .hi))) in let o = c .before .before .before .before .before .before .before .before .before .before .before .before .before .before .before .before .before .before .before .before .before .pre .1 .1 in let i = o .0 in let j = o .1 .0 in ((omega arith, omega arith), (omega arith, (omega arith, rw M (o .1 .1 .0))))
 
--- src/trim.rt:24:1
 same-length-2 : tie.Need-same-length-2
 same-length-2 c = c .before .before .before .before .before .out-knots .given
 
--- src/trim.rt:24:1
 same-length-3 : tie.Need-same-length-3
 same-length-3 c = c .before .before .before .out-points .given
 
--- src/trim.rt:24:1
 same-length-4 : tie.Need-same-length-4
 same-length-4 c = c .before .out-weights .given
 
--- src/trim.rt:24:1
 same-length-5 : tie.Need-same-length-5
 same-length-5 c = c .before .before .before .before .before .before .before .before .before .before .before .before .before .before .before .before .work .given
 
--- src/trim.rt:24:1
 returns-2 : tie.Need-returns-2
 returns-2 c = let v = c .before .before .before .before .before .before .before .before .before .before .before .before .before .before .before .before .before .before .before .before .before .before .before .before .before .before .before .before .pre .0 in let l = v .knots .long in let k = v .knots .count in let s = v .short .knots in let q = c .before .before .before .before .before .before .before .before .before .before .before .before .before .before .before .before .before .before .before .before .before .before .before .before .before .before .before .before .pre .1 .1 .1 .1 .1 in let g = c .before .before .before .before .before .before .before .before .before .before .before .before .before .before .before .before .before .before .before .before .before .before .before .before .before .before .before .before .good in let f = c .before .before .before .before .before .before .before .before .before .before .before .before .before .before .before .before .before .before .before .before .before .before .before .before .before .before .before .before .fits in let x = c .before .before .before .before .before .before .before .before .before .before .before .before .before .before .before .before .before .before .before .before .missing .ensures in let y = c .before .before .before .before .before .before .before .before .before .before .before .before .before .before .before .before .before .before .before .missing2 .ensures in into-cut (c .before .before .before .before .before .before .before .before .before .before .before .before .before .before .before .before .before .before .before .before .before .before .before .before .before .before .before .before .args .degree) (now (c .before .before .before .before .before .before .before .before .before .before .before .before .before .before .before .before .before .before .before .before .before .before .before .before .before .before .before .before .args .knots)) (now (c .before .before .before .before .before .before .before .before .before .before .before .before .before .before .before .before .before .before .before .before .before .before .before .before .before .before .before .before .args .points)) (c .before .before .before .before .before .before .before .before .before .before .before .before .before .before .before .before .before .before .before .before .before .before .before .before .before .before .before .before .args .rational) (now (c .before .before .before .before .before .before .before .before .before .before .before .before .before .before .before .before .before .before .before .before .before .before .before .before .before .before .before .before .args .weights)) (c .before .before .before .before .before .before .before .before .before .before .before .before .before .before .before .before .before .before .before .before .before .before .before .before .before .before .before .before .pre .0) (c .before .before .before .before .before .before .before .before .before .before .before .before .before .before .before .before .before .before .before .before .before .before .before .before .before .before .before .before .args .lo) (c .before .before .before .before .before .before .before .before .before .before .before .before .before .before .before .before .before .before .before .before .before .before .before .before .before .before .before .before .args .hi) (length (now (c .before .before .before .before .before .before .before .before .before .before .before .before .before .before .before .before .before .before .before .before .before .before .before .before .before .before .before .before .args .out-knots))) (length (now (c .before .before .before .before .before .before .before .before .before .before .before .before .before .before .before .before .before .before .before .before .before .before .before .before .before .before .before .before .args .out-points))) (length (now (c .before .before .before .before .before .before .before .before .before .before .before .before .before .before .before .before .before .before .before .before .before .before .before .before .before .before .before .before .args .out-weights))) _ _ _ ((length (now (c .before .before .before .before .before .before .before .before .before .before .before .before .before .before .before .before .before .before .before .before .before .before .before .before .before .before .before .before .args .points)) / 3 + (c .before .before .before .before .before .before .before .before .before .before .before .before .before .before .before .before .before .before .before .before .missing .result + c .before .before .before .before .before .before .before .before .before .before .before .before .before .before .before .before .before .before .before .missing2 .result)) * 4) (length (now (c .before .before .before .before .before .before .before .before .before .before .before .before .before .before .before .before .before .before .before .before .before .before .before .before .before .before .before .before .args .work))) _ _ (c .before .before .before .before .before .before .before .before .before .before .before .before .below .ensures) (c .before .before .before .before .before .before .before .before .before .before .before .kept .ensures) (kept-fits (c .before .before .before .before .before .before .before .before .before .before .before .before .before .before .before .before .before .before .before .before .before .before .before .before .before .before .before .before .args .degree) (length (now (c .before .before .before .before .before .before .before .before .before .before .before .before .before .before .before .before .before .before .before .before .before .before .before .before .before .before .before .before .args .points)) / 3) (now (c .before .before .before .before .before .before .before .before .before .before .before .before .before .before .before .before .before .before .before .before .before .before .before .before .before .before .before .before .args .knots)) (c .before .before .before .before .before .before .before .before .before .before .before .before .before .before .before .before .before .before .before .before .before .before .before .before .before .before .before .before .pre .0 .knots) (c .before .before .before .before .before .before .before .before .before .before .before .before .before .before .before .before .before .before .before .before .before .before .before .before .before .before .before .before .args .lo) (c .before .before .before .before .before .before .before .before .before .before .before .before .before .before .before .before .before .before .before .before .before .before .before .before .before .before .before .before .args .hi) (c .before .before .before .before .before .before .before .before .before .before .before .before .before .before .before .before .before .before .before .before .before .before .before .before .before .before .before .before .pre .1 .0) (multiplicity-most (c .before .before .before .before .before .before .before .before .before .before .before .before .before .before .before .before .before .before .before .before .before .before .before .before .before .before .before .before .args .degree) (length (now (c .before .before .before .before .before .before .before .before .before .before .before .before .before .before .before .before .before .before .before .before .before .before .before .before .before .before .before .before .args .points)) / 3) (now (c .before .before .before .before .before .before .before .before .before .before .before .before .before .before .before .before .before .before .before .before .before .before .before .before .before .before .before .before .args .knots)) (c .before .before .before .before .before .before .before .before .before .before .before .before .before .before .before .before .before .before .before .before .before .before .before .before .before .before .before .before .pre .0 .knots) (c .before .before .before .before .before .before .before .before .before .before .before .before .before .before .before .before .before .before .before .before .before .before .before .before .before .before .before .before .args .hi))) (omega arith) (omega arith) _ (c .before .before .before .before .before .before .before .before .before .before .before .before .before .before .before .before .before .insert-ends .ensures .0) (c .before .before .before .before .before .before .before .before .before .before .before .before .before .if1 .left) _ (c .before .before .before .before .before .before .before .before .before .before .before .before .before .before .before .before .before .insert-ends .ensures .1) _ (c .before .before .before .before .before .before .cut .ensures)
 
