@@ -58,7 +58,7 @@ impl Curve<'_> {
     /// assert_eq!(TABLE_A.span(f64::INFINITY).unwrap_err().number, 12);
     /// ```
     pub fn span(&self, t: f64) -> Result<usize, Refusal> {
-        if self.points.len() % 3 != 0 {
+        if !self.points.len().is_multiple_of(3) {
             // There is no count; the curve is refused by 30 or 32.
             self.validate()?;
         }
