@@ -1,7 +1,7 @@
 use crate::refusal::done;
 use crate::{CurveBuf, Direction, Interval, Refusal, face, point_of, room};
 
-/// A surface over borrowed runs, u before v: point i, j has place i · counts[1] + j.
+/// A surface over borrowed runs, u before v: point i, j has place `i * counts[1] + j`.
 #[derive(Clone, Copy, Debug, PartialEq)]
 pub struct Surface<'a> {
     pub degrees: [usize; 2],
