@@ -5,10 +5,10 @@
  *   that is not null and is aligned to 8 bytes.
  * - A function with a lent run `out` returns 0 and writes its answer to the front of the run; every number behind the
  *   answer is then +0.0. Otherwise it returns a refusal number, and every number of the run is +0.0.
- * - Refusal numbers are those of document 01. 30 says that the lent run is shorter than the answer, and then comes
- *   after every other refusal; or, before every other, that an input run has more than 1,048,576 numbers. 99 is no
- *   refusal number: two doubles that were passed as the ends of an interval are none, since the low end is above the
- *   high one or an end is NaN.
+ * - Refusal numbers are those of document 01; rust/src/refusals.txt has the class and the text of each. 30 says that
+ *   the lent run is shorter than the answer, and then comes after every other refusal; or, before every other, that an
+ *   input run has more than 1,048,576 numbers. 99 is no refusal number: two doubles that were passed as the ends of an
+ *   interval are none, since the low end is above the high one or an end is NaN.
  * - Refusals 1 to 7 of a surface say their direction: 101 to 107 along u, 201 to 207 along v.
  * - A function with no lent run returns its answer.
  * - An interval is passed by its ends, low before high, and answered as two doubles, low before high. Infinite ends

@@ -1,0 +1,239 @@
+use crate::refusal::done;
+use crate::{Interval, Refusal, face, point_of, room};
+
+/// A curve over borrowed runs: `points` has x, y, z of each point, `weights` one number for each.
+///
+/// Any numbers and lengths may be given; what makes no curve is refused by each call.
+#[derive(Clone, Copy, Debug, PartialEq)]
+pub struct Curve<'a> {
+    pub degree: usize,
+    pub knots: &'a [f64],
+    pub points: &'a [f64],
+    pub weights: Option<&'a [f64]>,
+}
+
+/// A curve that owns its runs: what an edit forms.
+#[derive(Clone, Debug, PartialEq)]
+pub struct CurveBuf {
+    pub degree: usize,
+    pub knots: Vec<f64>,
+    pub points: Vec<f64>,
+    pub weights: Option<Vec<f64>>,
+}
+
+/// Document 01's table A: degree 2, x = 0 2 4 6 over the domain from 0 to 2.
+pub const TABLE_A: Curve<'static> = Curve {
+    degree: 2,
+    knots: &[0.0, 0.0, 0.0, 1.0, 2.0, 2.0, 2.0],
+    points: &[0.0, 0.0, 0.0, 2.0, 0.0, 0.0, 4.0, 0.0, 0.0, 6.0, 0.0, 0.0],
+    weights: None,
+};
+
+/// What an edit forms: degree and points of the answer, and the points of the largest curve on the way.
+struct Formed {
+    degree: usize,
+    count: usize,
+    most: usize,
+}
+
+impl Curve<'_> {
+    /// Whether this is a curve: refusals 30, 32, 1 to 10, the first in this order.
+    ///
+    /// ```
+    /// use tasulogi::{Class, Curve, TABLE_A};
+    /// assert_eq!(TABLE_A.validate(), Ok(()));
+    /// let refusal = Curve { knots: &[0.0, 0.0, 1.0, 1.0], ..TABLE_A }.validate().unwrap_err();
+    /// assert_eq!((refusal.number, refusal.class()), (3, Class::Invalid));
+    /// assert_eq!(refusal.text(), "knots are not count + degree + 1");
+    /// ```
+    pub fn validate(&self) -> Result<(), Refusal> {
+        done(face::curve_refusal(self))
+    }
+
+    /// The span of `t`; outside the domain that of the nearer end. Only the knots and the count of points are looked at.
+    ///
+    /// ```
+    /// use tasulogi::TABLE_A;
+    /// assert_eq!([0.0, 0.5, 1.0, 2.0].map(|t| TABLE_A.span(t)), [Ok(2), Ok(2), Ok(3), Ok(3)]);
+    /// assert_eq!(TABLE_A.span(f64::INFINITY).unwrap_err().number, 12);
+    /// ```
+    pub fn span(&self, t: f64) -> Result<usize, Refusal> {
+        if !self.points.len().is_multiple_of(3) {
+            // There is no count; the curve is refused by 30 or 32.
+            self.validate()?;
+        }
+        let found = face::find_span(self.degree, self.count(), self.knots, t);
+        done((found >> 32) as u32)?;
+        Ok(found as usize)
+    }
+
+    /// The point and the first derivative at `t`; outside the domain those of the nearer end.
+    ///
+    /// ```
+    /// use tasulogi::TABLE_A;
+    /// assert_eq!(TABLE_A.eval(0.5), Ok([[1.75, 0.0, 0.0], [3.0, 0.0, 0.0]]));
+    /// assert_eq!(TABLE_A.eval(f64::NAN).unwrap_err().to_string(), "refusal 12: evaluation parameter not finite");
+    /// ```
+    pub fn eval(&self, t: f64) -> Result<[[f64; 3]; 2], Refusal> {
+        let mut out = [[0.0; 3]; 2];
+        done(face::eval(self, t, out.as_flattened_mut()))?;
+        Ok(out)
+    }
+
+    /// The point and two derivatives at `t`; 21 where one of them is not finite.
+    ///
+    /// ```
+    /// use tasulogi::TABLE_A;
+    /// assert_eq!(TABLE_A.eval2(0.5), Ok([[1.75, 0.0, 0.0], [3.0, 0.0, 0.0], [-2.0, 0.0, 0.0]]));
+    /// assert_eq!(TABLE_A.eval2(f64::NAN).unwrap_err().number, 12);
+    /// ```
+    pub fn eval2(&self, t: f64) -> Result<[[f64; 3]; 3], Refusal> {
+        let mut out = [[0.0; 3]; 3];
+        done(face::eval2(self, t, out.as_flattened_mut()))?;
+        Ok(out)
+    }
+
+    /// Intervals of x, y, z that hold the exact point at every parameter from `lo` to `hi`, which lie in one span.
+    ///
+    /// ```
+    /// use tasulogi::{Class, TABLE_A};
+    /// let [x, _, _] = TABLE_A.bound(0.5, 0.5)?;
+    /// assert!(x.lo < 1.75 && 1.75 < x.hi && x.hi - x.lo < 1e-12);
+    /// let refusal = TABLE_A.bound(0.5, 1.5).unwrap_err();
+    /// assert_eq!((refusal.number, refusal.class()), (25, Class::Invalid));
+    /// assert_eq!(refusal.text(), "no nonempty span contains the bound range");
+    /// # Ok::<(), tasulogi::Refusal>(())
+    /// ```
+    pub fn bound(&self, lo: f64, hi: f64) -> Result<[Interval; 3], Refusal> {
+        let mut out = [0.0; 18];
+        done(face::bound_curve(self, lo, hi, &mut out))?;
+        Ok(point_of(&out))
+    }
+
+    /// The curve run backwards over the same domain.
+    ///
+    /// ```
+    /// use tasulogi::{Curve, TABLE_A};
+    /// let back = TABLE_A.reversed()?;
+    /// assert_eq!(back.knots, TABLE_A.knots);
+    /// assert_eq!(back.points, [6.0, 0.0, 0.0, 4.0, 0.0, 0.0, 2.0, 0.0, 0.0, 0.0, 0.0, 0.0]);
+    /// assert_eq!(Curve { degree: 0, ..TABLE_A }.reversed().unwrap_err().text(), "degree 0");
+    /// # Ok::<(), tasulogi::Refusal>(())
+    /// ```
+    pub fn reversed(&self) -> Result<CurveBuf, Refusal> {
+        self.validate()?;
+        let mut out = CurveBuf::room(self.degree, self.count(), self.weights.is_some())?;
+        let weights = out.weights.as_deref_mut().unwrap_or_default();
+        done(face::reversed(self, &mut out.knots, &mut out.points, weights))?;
+        Ok(out)
+    }
+
+    /// The same curve with more knots, inserted one after the other.
+    ///
+    /// ```
+    /// use tasulogi::{Class, TABLE_A};
+    /// let more = TABLE_A.insert_knots(&[1.0])?;
+    /// assert_eq!(more.knots, [0.0, 0.0, 0.0, 1.0, 1.0, 2.0, 2.0, 2.0]);
+    /// assert_eq!(more.points.chunks(3).map(|p| p[0]).collect::<Vec<_>>(), [0.0, 2.0, 3.0, 4.0, 6.0]);
+    /// let refusal = TABLE_A.insert_knots(&[2.0]).unwrap_err();
+    /// assert_eq!((refusal.number, refusal.class()), (13, Class::Invalid));
+    /// assert_eq!(refusal.text(), "inserted knot not finite or not strictly inside the domain");
+    /// # Ok::<(), tasulogi::Refusal>(())
+    /// ```
+    pub fn insert_knots(&self, inserted: &[f64]) -> Result<CurveBuf, Refusal> {
+        let formed = self.validate().ok().map(|()| {
+            let count = self.count() + inserted.len();
+            Formed { degree: self.degree, count, most: count }
+        });
+        self.edit(formed, |k, p, w, s| face::insert_knots(self, inserted, k, p, w, s))
+    }
+
+    /// The part of the curve from `lo` to `hi`.
+    ///
+    /// ```
+    /// use tasulogi::TABLE_A;
+    /// let part = TABLE_A.trim(0.0, 1.0)?;
+    /// assert_eq!(part.knots, [0.0, 0.0, 0.0, 1.0, 1.0, 1.0]);
+    /// assert_eq!(part.points.chunks(3).map(|p| p[0]).collect::<Vec<_>>(), [0.0, 2.0, 3.0]);
+    /// let refusal = TABLE_A.trim(1.0, 1.0).unwrap_err();
+    /// assert_eq!((refusal.number, refusal.text()), (15, "trim ends not finite, lo >= hi, or outside the domain"));
+    /// # Ok::<(), tasulogi::Refusal>(())
+    /// ```
+    pub fn trim(&self, lo: f64, hi: f64) -> Result<CurveBuf, Refusal> {
+        let formed = self.validate().ok().map(|()| {
+            let below = |x: f64| self.knots.iter().filter(|k| **k < x).count();
+            let [a, b] = [lo, hi].map(|x| (self.degree + 1).saturating_sub(self.times(x)));
+            let count = (below(hi) + a).saturating_sub(below(lo));
+            Formed { degree: self.degree, count, most: self.count() + a + b }
+        });
+        self.edit(formed, |k, p, w, s| face::trim(self, lo, hi, k, p, w, s))
+    }
+
+    /// The same curve with a higher degree, or a copy where it is the curve's own.
+    ///
+    /// ```
+    /// use tasulogi::{Class, Curve, TABLE_A};
+    /// assert_eq!(TABLE_A.elevate_degree(3)?.points.len(), 3 * 7);
+    /// let line = Curve { degree: 1, knots: &[0.0, 0.0, 1.0, 1.0], points: &[0.0, 0.0, 0.0, 2.0, 0.0, 0.0], weights: None };
+    /// assert_eq!(line.elevate_degree(2)?.points, [0.0, 0.0, 0.0, 1.0, 0.0, 0.0, 2.0, 0.0, 0.0]);
+    /// let refusal = TABLE_A.elevate_degree(65).unwrap_err();
+    /// assert_eq!((refusal.number, refusal.class()), (18, Class::Capacity));
+    /// assert_eq!(refusal.text(), "elevation to a higher degree above 64");
+    /// # Ok::<(), tasulogi::Refusal>(())
+    /// ```
+    pub fn elevate_degree(&self, raised: usize) -> Result<CurveBuf, Refusal> {
+        let p = self.degree;
+        // For other degrees nothing is formed.
+        let formed = (self.validate().is_ok() && (raised == p || p < raised && raised <= 64)).then(|| {
+            let mut inner: Vec<f64> = self.knots[p..=self.count()].to_vec();
+            inner.retain(|k| *k > self.knots[p] && *k < self.knots[self.count()]);
+            let full = inner.windows(p + 1).filter(|run| run[0] == run[p]).count();
+            inner.dedup();
+            let (b, segments) = (inner.len(), inner.len() + 1);
+            let count = if raised == p { self.count() } else { (raised + 1) * segments - b + full };
+            Formed { degree: raised, count, most: (p + 1) * segments }
+        });
+        self.edit(formed, |k, p, w, s| face::elevate_degree(self, raised, k, p, w, s))
+    }
+
+    fn count(&self) -> usize {
+        self.points.len() / 3
+    }
+
+    fn times(&self, x: f64) -> usize {
+        self.knots.iter().filter(|k| **k == x).count()
+    }
+
+    /// Lends what the edit needs; nothing where the call refuses before it looks at what was lent.
+    fn edit<F>(&self, formed: Option<Formed>, call: F) -> Result<CurveBuf, Refusal>
+    where
+        F: FnOnce(&mut [f64], &mut [f64], &mut [f64], &mut [f64]) -> u32,
+    {
+        let (mut out, mut scratch) = match formed {
+            Some(f) => (CurveBuf::room(f.degree, f.count, self.weights.is_some())?, room(10 * f.most + 2 * (self.degree + 1))?),
+            None => (CurveBuf { degree: 0, knots: vec![], points: vec![], weights: None }, vec![]),
+        };
+        let weights = out.weights.as_deref_mut().unwrap_or_default();
+        done(call(&mut out.knots, &mut out.points, weights, &mut scratch))?;
+        Ok(out)
+    }
+}
+
+impl CurveBuf {
+    /// The same curve, borrowed.
+    ///
+    /// ```
+    /// use tasulogi::TABLE_A;
+    /// let twice = TABLE_A.reversed()?.as_curve().reversed()?;
+    /// assert_eq!(twice.as_curve(), TABLE_A);
+    /// # Ok::<(), tasulogi::Refusal>(())
+    /// ```
+    pub fn as_curve(&self) -> Curve<'_> {
+        Curve { degree: self.degree, knots: &self.knots, points: &self.points, weights: self.weights.as_deref() }
+    }
+
+    fn room(degree: usize, count: usize, rational: bool) -> Result<Self, Refusal> {
+        let weights = if rational { Some(room(count)?) } else { None };
+        Ok(Self { degree, knots: room(count + degree + 1)?, points: room(3 * count)?, weights })
+    }
+}

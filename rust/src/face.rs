@@ -1,0 +1,67 @@
+//! The C functions as tasulogi.h declares them. A run crosses as a pointer and a length.
+use crate::{Curve, Surface};
+
+unsafe extern "C" {
+    pub safe fn tasulogi_class_of(number: u32) -> u8;
+    fn tasulogi_find_span(degree: usize, count: usize, knots: *const f64, knots_n: usize, u: f64) -> u64;
+}
+
+/// The span, or a refusal's number times 2^32.
+pub fn find_span(degree: usize, count: usize, knots: &[f64], u: f64) -> u64 {
+    // SAFETY: pointer and length are those of a slice.
+    unsafe { tasulogi_find_span(degree, count, knots.as_ptr(), knots.len(), u) }
+}
+
+/// Functions that take a table in the parts named, then numbers, a run that is read, and lent runs.
+macro_rules! calls {
+    ($table:tt $(fn $name:ident = $symbol:literal $takes:tt $(reads $read:ident)? $(lends $($out:ident),+)?;)*) => {
+        $(calls! { @one $table $name $symbol $takes ($($read)?) $($($out)+)? })*
+    };
+    (@one ($t:ident: $table:ty => $($part:expr, $kind:ty;)*) $name:ident $symbol:literal ($($x:ident: $number:ty),*)
+        ($($read:ident)?) $($out:ident)*) => {
+        pub fn $name($t: &$table, $($x: $number,)* $($read: &[f64],)? $($out: &mut [f64],)*) -> u32 {
+            unsafe extern "C" {
+                #[link_name = $symbol]
+                fn call(
+                    $(_: $kind,)* $($x: $number,)* $($read: *const f64, _: usize,)? $($out: *mut f64, _: usize,)*
+                ) -> u32;
+            }
+            // SAFETY: each pointer and length are those of a slice, and the lent ones overlap no other.
+            unsafe { call($($part,)* $($x,)* $($read.as_ptr(), $read.len(),)? $($out.as_mut_ptr(), $out.len(),)*) }
+        }
+    };
+}
+
+calls! {
+    (c: Curve<'_> =>
+        c.degree, usize;
+        c.knots.as_ptr(), *const f64; c.knots.len(), usize;
+        c.points.as_ptr(), *const f64; c.points.len(), usize;
+        c.weights.is_some(), bool;
+        c.weights.unwrap_or(&[]).as_ptr(), *const f64; c.weights.unwrap_or(&[]).len(), usize;
+    )
+    fn curve_refusal = "tasulogi_curve_refusal"();
+    fn bound_curve = "tasulogi_bound_curve"(lo: f64, hi: f64) lends out;
+    fn eval = "tasulogi_eval"(t: f64) lends out;
+    fn eval2 = "tasulogi_eval2"(t: f64) lends out;
+    fn reversed = "tasulogi_reversed"() lends knots, points, weights;
+    fn insert_knots = "tasulogi_insert_knots"() reads inserted lends knots, points, weights, scratch;
+    fn trim = "tasulogi_trim"(lo: f64, hi: f64) lends knots, points, weights, scratch;
+    fn elevate_degree = "tasulogi_elevate_degree"(raised: usize) lends knots, points, weights, scratch;
+}
+
+calls! {
+    (s: Surface<'_> =>
+        s.degrees[0], usize; s.degrees[1], usize;
+        s.knots[0].as_ptr(), *const f64; s.knots[0].len(), usize;
+        s.knots[1].as_ptr(), *const f64; s.knots[1].len(), usize;
+        s.counts[0], usize; s.counts[1], usize;
+        s.points.as_ptr(), *const f64; s.points.len(), usize;
+        s.weights.is_some(), bool;
+        s.weights.unwrap_or(&[]).as_ptr(), *const f64; s.weights.unwrap_or(&[]).len(), usize;
+    )
+    fn surface_refusal = "tasulogi_surface_refusal"();
+    fn bound_surface = "tasulogi_bound_surface"(u_lo: f64, u_hi: f64, v_lo: f64, v_hi: f64) lends out;
+    fn eval_surface = "tasulogi_eval_surface"(u: f64, v: f64) lends out;
+    fn iso_curve = "tasulogi_iso_curve"(constant_u: bool, t: f64) lends points, weights;
+}

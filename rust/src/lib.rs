@@ -1,0 +1,47 @@
+//! B-spline curves and surfaces: the proved functions of Tasulogi, called from Rust.
+//!
+//! A table borrows its runs of numbers, and each method answers or gives one numbered [`Refusal`]; no input makes it
+//! panic. What a call needs to write to is allocated inside. Points are flat, x, y, z of each one after the other:
+//! of `&[[f64; 3]]` that is `.as_flattened()`.
+//!
+//! ```
+//! use tasulogi::{Curve, Refusal};
+//! fn main() -> Result<(), Refusal> {
+//!     let x = [[0.0, 0.0, 0.0], [2.0, 0.0, 0.0], [4.0, 0.0, 0.0], [6.0, 0.0, 0.0]];
+//!     let knots = [0.0, 0.0, 0.0, 1.0, 2.0, 2.0, 2.0];
+//!     let a = Curve { degree: 2, knots: &knots, points: x.as_flattened(), weights: None };
+//!     let [point, first] = a.eval(0.5)?;
+//!     assert_eq!((point[0], first[0]), (1.75, 3.0));
+//!     let cut = a.trim(0.0, 1.0)?;
+//!     assert_eq!(cut.as_curve().eval(0.5)?, a.eval(0.5)?);
+//!     Ok(())
+//! }
+//! ```
+mod curve;
+mod face;
+mod refusal;
+mod surface;
+
+pub use curve::{Curve, CurveBuf, TABLE_A};
+pub use refusal::{Class, Direction, Refusal};
+pub use surface::Surface;
+
+/// All numbers from `lo` to `hi`, both included; an end may be infinite.
+#[derive(Clone, Copy, Debug, PartialEq)]
+pub struct Interval {
+    pub lo: f64,
+    pub hi: f64,
+}
+
+/// The first three intervals of an answered box: x, y, z of the point.
+fn point_of(numbers: &[f64; 18]) -> [Interval; 3] {
+    [0, 2, 4].map(|i| Interval { lo: numbers[i], hi: numbers[i + 1] })
+}
+
+/// A run of `n` numbers to lend; 30 where there is no memory for it.
+fn room(n: usize) -> Result<Vec<f64>, Refusal> {
+    let mut run = Vec::new();
+    run.try_reserve_exact(n).or_else(|_| refusal::done(30))?;
+    run.resize(n, 0.0);
+    Ok(run)
+}

@@ -1,0 +1,86 @@
+use crate::refusal::done;
+use crate::{CurveBuf, Direction, Interval, Refusal, face, point_of, room};
+
+/// A surface over borrowed runs, u before v: point i, j has place `i * counts[1] + j`.
+#[derive(Clone, Copy, Debug, PartialEq)]
+pub struct Surface<'a> {
+    pub degrees: [usize; 2],
+    pub knots: [&'a [f64]; 2],
+    pub counts: [usize; 2],
+    pub points: &'a [f64],
+    pub weights: Option<&'a [f64]>,
+}
+
+impl Surface<'_> {
+    /// Whether this is a surface: refusals 30, 32, 11, 1 to 7 along u, 1 to 7 along v, 8 to 10, in this order.
+    ///
+    /// ```
+    /// use tasulogi::{Direction, Surface};
+    /// let ends: &[f64] = &[0.0, 0.0, 1.0, 1.0];
+    /// let s = Surface { degrees: [1, 1], knots: [ends; 2], counts: [2, 2], points: &[0.0; 12], weights: None };
+    /// assert_eq!(s.validate(), Ok(()));
+    /// let refusal = Surface { degrees: [1, 0], ..s }.validate().unwrap_err();
+    /// assert_eq!((refusal.number, refusal.direction), (1, Some(Direction::V)));
+    /// assert_eq!(refusal.to_string(), "refusal 1 along v: degree 0");
+    /// ```
+    pub fn validate(&self) -> Result<(), Refusal> {
+        done(face::surface_refusal(self))
+    }
+
+    /// The point and the derivatives along u and v; outside the domain those of the nearer edge.
+    ///
+    /// ```
+    /// # use tasulogi::Surface;
+    /// # let ends: &[f64] = &[0.0, 0.0, 1.0, 1.0];
+    /// let x = [[0.0, 0.0, 0.0], [2.0, 0.0, 0.0], [4.0, 0.0, 0.0], [6.0, 0.0, 0.0]];
+    /// let s = Surface { degrees: [1, 1], knots: [ends; 2], counts: [2, 2], points: x.as_flattened(), weights: None };
+    /// let [point, du, dv] = s.eval(0.5, 0.5)?;
+    /// assert_eq!((point[0], du[0], dv[0]), (3.0, 4.0, 2.0));
+    /// assert_eq!(s.eval(0.5, f64::NAN).unwrap_err().number, 12);
+    /// # Ok::<(), tasulogi::Refusal>(())
+    /// ```
+    pub fn eval(&self, u: f64, v: f64) -> Result<[[f64; 3]; 3], Refusal> {
+        let mut out = [[0.0; 3]; 3];
+        done(face::eval_surface(self, u, v, out.as_flattened_mut()))?;
+        Ok(out)
+    }
+
+    /// Intervals of x, y, z over a closed rectangle that lies in one span of each direction.
+    ///
+    /// ```
+    /// # use tasulogi::Surface;
+    /// # let ends: &[f64] = &[0.0, 0.0, 1.0, 1.0];
+    /// # let x = [[0.0, 0.0, 0.0], [2.0, 0.0, 0.0], [4.0, 0.0, 0.0], [6.0, 0.0, 0.0]];
+    /// # let s = Surface { degrees: [1, 1], knots: [ends; 2], counts: [2, 2], points: x.as_flattened(), weights: None };
+    /// let [x, _, _] = s.bound([0.5, 0.5], [0.5, 0.5])?;
+    /// assert!(x.lo < 3.0 && 3.0 < x.hi);
+    /// assert_eq!(s.bound([0.5, 0.0], [0.5, 0.5]).unwrap_err().text(), "bound range not finite or reversed");
+    /// # Ok::<(), tasulogi::Refusal>(())
+    /// ```
+    pub fn bound(&self, u: [f64; 2], v: [f64; 2]) -> Result<[Interval; 3], Refusal> {
+        let mut out = [0.0; 18];
+        done(face::bound_surface(self, u[0], u[1], v[0], v[1], &mut out))?;
+        Ok(point_of(&out))
+    }
+
+    /// The curve where the parameter of one direction stays `t`; it has weights, all 1 where the surface has none.
+    ///
+    /// ```
+    /// # use tasulogi::{Direction, Surface};
+    /// # let ends: &[f64] = &[0.0, 0.0, 1.0, 1.0];
+    /// # let x = [[0.0, 0.0, 0.0], [2.0, 0.0, 0.0], [4.0, 0.0, 0.0], [6.0, 0.0, 0.0]];
+    /// # let s = Surface { degrees: [1, 1], knots: [ends; 2], counts: [2, 2], points: x.as_flattened(), weights: None };
+    /// let across = s.iso_curve(Direction::U, 0.5)?;
+    /// assert_eq!(across.points, [2.0, 0.0, 0.0, 4.0, 0.0, 0.0]);
+    /// assert_eq!(s.iso_curve(Direction::U, 1.5).unwrap_err().text(), "isoparameter not finite or outside");
+    /// # Ok::<(), tasulogi::Refusal>(())
+    /// ```
+    pub fn iso_curve(&self, constant: Direction, t: f64) -> Result<CurveBuf, Refusal> {
+        self.validate()?;
+        // The curve runs along the other direction.
+        let along = if constant == Direction::U { 1 } else { 0 };
+        let (mut points, mut weights) = (room(3 * self.counts[along])?, room(self.counts[along])?);
+        done(face::iso_curve(self, constant == Direction::U, t, &mut points, &mut weights))?;
+        Ok(CurveBuf { degree: self.degrees[along], knots: self.knots[along].to_vec(), points, weights: Some(weights) })
+    }
+}

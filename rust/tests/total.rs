@@ -1,0 +1,139 @@
+//! Any numbers and lengths: each method answers or refuses by a number of document 01.
+use tasulogi::{Class, Curve, CurveBuf, Direction, Refusal, Surface, TABLE_A};
+
+/// A step of Knuth's generator; the high bits are used.
+struct Rng(u64);
+
+impl Rng {
+    fn below(&mut self, n: usize) -> usize {
+        self.0 = self.0.wrapping_mul(6_364_136_223_846_793_005).wrapping_add(1_442_695_040_888_963_407);
+        (self.0 >> 33) as usize % n
+    }
+
+    fn double(&mut self) -> f64 {
+        const ODD: [f64; 9] = [f64::NAN, f64::INFINITY, -f64::INFINITY, -0.0, 5e-324, 1e308, -1e308, 0.5, 1.0];
+        let i = self.below(ODD.len() * 4);
+        ODD.get(i).copied().unwrap_or(i as f64 / 8.0)
+    }
+
+    fn run(&mut self, n: usize) -> Vec<f64> {
+        (0..n).map(|_| self.double()).collect()
+    }
+
+    /// Near a curve: most are clamped and of the right lengths, each part is now and then anything.
+    fn curve(&mut self) -> CurveBuf {
+        let p = 1 + self.below(4);
+        let n = p + 1 + self.below(5);
+        let inner = (0..n - p - 1).map(|i| (1 + i - i * self.below(2)) as f64);
+        let mut knots = [vec![0.0; p + 1], inner.collect(), vec![n as f64; p + 1]].concat();
+        let mut points: Vec<f64> = (0..3 * n).map(|_| self.below(100) as f64).collect();
+        let mut weights = (self.below(2) == 0).then(|| (0..n).map(|_| 1.0 + self.below(9) as f64).collect::<Vec<_>>());
+        if self.below(3) > 0 {
+            knots.sort_by(f64::total_cmp);
+        }
+        let mut degree = p;
+        let n = self.below(20);
+        match self.below(16) {
+            0 => degree = [0, 5, 64, 65, usize::MAX][self.below(5)],
+            1 => knots = self.run(n),
+            2 => points = self.run(n),
+            3 => weights = Some(self.run(n)),
+            4 => knots[0] = -1.0,
+            _ => (),
+        }
+        CurveBuf { degree, knots, points, weights }
+    }
+}
+
+/// A refusal has a number of document 01 and its text.
+fn told<T>(result: Result<T, Refusal>, seen: &mut [usize]) -> Option<T> {
+    if let Err(r) = &result {
+        assert!((1..=33).contains(&r.number), "{r:?}");
+        assert_ne!(r.text(), "no refusal of document 01");
+        seen[r.number as usize] += 1;
+    } else {
+        seen[0] += 1;
+    }
+    result.ok()
+}
+
+#[test]
+fn every_call_answers_or_refuses() {
+    let mut r = Rng(1);
+    let mut seen = [0; 34];
+    for _ in 0..20_000 {
+        let table = r.curve();
+        let c = table.as_curve();
+        let (t, lo, hi) = (r.double(), r.double(), r.double());
+        told(c.validate(), &mut seen);
+        told(c.span(t), &mut seen);
+        told(c.eval(t), &mut seen);
+        told(c.eval2(t), &mut seen);
+        told(c.bound(lo, hi), &mut seen);
+        let more = r.below(4);
+        let more = r.run(more);
+        let raised = [c.degree, c.degree.wrapping_add(1), 3, 64, 65, usize::MAX][r.below(6)];
+        for made in [c.reversed(), c.insert_knots(&more), c.trim(lo, hi), c.elevate_degree(raised)] {
+            // The room was right: 30 is given for too long an input alone, and none is.
+            assert!(!made.as_ref().is_err_and(|r| r.number == 30));
+            if let Some(made) = told(made, &mut seen) {
+                assert_eq!(made.as_curve().validate(), Ok(()));
+            }
+        }
+        // Two rows of the curve's points, now and then of another count.
+        let counts = [c.points.len() / 3, [2, 3, usize::MAX][r.below(16).saturating_sub(13)]];
+        let points = [c.points, c.points].concat();
+        let weights = c.weights.map(|w| [w, w].concat());
+        let knots: [&[f64]; 2] = [c.knots, &[0.0, 0.0, 1.0, 1.0]];
+        let s = Surface { degrees: [c.degree, 1], knots, counts, points: &points, weights: weights.as_deref() };
+        told(s.validate(), &mut seen);
+        told(s.eval(t, lo), &mut seen);
+        told(s.bound([lo, hi], [0.25, 0.5]), &mut seen);
+        told(s.iso_curve([Direction::U, Direction::V][r.below(2)], t), &mut seen);
+    }
+    for number in [0, 1, 2, 3, 4, 8, 9, 10, 11, 12, 13, 15, 16, 17, 18, 22, 24, 25, 32] {
+        assert!(seen[number] > 0, "{number} was never given: {seen:?}");
+    }
+}
+
+#[test]
+fn too_long_a_run_is_refused() {
+    let long = vec![0.5; 1_048_577];
+    assert_eq!(Curve { knots: &long, ..TABLE_A }.validate().unwrap_err().number, 30);
+    assert_eq!(Curve { knots: &long, points: &[0.0], ..TABLE_A }.span(0.5).unwrap_err().number, 30);
+    let refusal = TABLE_A.insert_knots(&long).unwrap_err();
+    assert_eq!((refusal.number, refusal.class()), (30, Class::Capacity));
+}
+
+#[test]
+fn weights_go_along() {
+    let points = [1.0, 0.0, 0.0, 1.0, 1.0, 0.0, 0.0, 1.0, 0.0];
+    let arc =
+        Curve { degree: 2, knots: &[0.0, 0.0, 0.0, 1.0, 1.0, 1.0], points: &points, weights: Some(&[1.0, 0.5f64.sqrt(), 2.0]) };
+    let [x, y, _] = arc.eval(0.25).unwrap()[0];
+    let same = |c: CurveBuf, t: f64| {
+        let p = c.as_curve().eval(t).unwrap()[0];
+        assert_eq!(c.weights.map(|w| 3 * w.len()), Some(c.points.len()));
+        assert!((p[0] - x).abs() < 1e-14 && (p[1] - y).abs() < 1e-14);
+    };
+    same(arc.reversed().unwrap(), 0.75);
+    same(arc.insert_knots(&[0.5, 0.5, 0.75]).unwrap(), 0.25);
+    same(arc.trim(0.125, 0.5).unwrap(), 0.25);
+    same(arc.elevate_degree(5).unwrap(), 0.25);
+    let [bx, by, _] = arc.bound(0.25, 0.25).unwrap();
+    assert!(bx.lo <= x && x <= bx.hi && by.lo <= y && y <= by.hi);
+}
+
+#[test]
+fn a_full_break_and_the_limit_of_elevation() {
+    let broken = Curve { degree: 1, knots: &[0.0, 0.0, 1.0, 1.0, 2.0, 2.0], ..TABLE_A };
+    assert_eq!(broken.validate(), Ok(()));
+    assert_eq!(broken.elevate_degree(2).unwrap().points.len(), 3 * 6);
+    assert_eq!(Curve { knots: &[0.0, 0.0, 1.0, 1.0, 1.0, 2.0], ..broken }.validate().unwrap_err().number, 7);
+    let knots = [[0.0; 66], [1.0; 66]];
+    let steep = Curve { degree: 65, knots: knots.as_flattened(), points: &[1.0; 198], weights: None };
+    assert_eq!(steep.elevate_degree(65).unwrap().as_curve(), steep);
+    assert_eq!(steep.elevate_degree(66).unwrap_err().number, 18);
+    assert_eq!(steep.eval(0.5).unwrap_err().number, 31);
+    assert_eq!(steep.elevate_degree(64).unwrap_err().number, 16);
+}
