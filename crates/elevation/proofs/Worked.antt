@@ -1,7 +1,7 @@
 -- The worked numbers of 01 on elevation, as rows of a single test about the definition: what `elevate_degree` leaves, and the bits that it must have.
 -- Table A has degree 2, knots 0 0 0 1 2 2 2, x = 0 2 4 6 and y = z = 0. Assumes nothing.
 use Prim.Native.Nat.{ℕ}
-use mathlib.Core.Bool.{true, false}
+use mathlib.Core.Bool.{false}
 use mathlib.Core.List.{List, [], _∷_}
 use lib.Dec.{T}
 use lib.Ieee.{Float, ofBits, toBits, ofInt, add, sub, mul, div, lt, le, eq}

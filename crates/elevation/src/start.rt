@@ -10,7 +10,6 @@ ghost use mathlib.Core.Bool.{not, _&&_};
 ghost use Prim.Native.Nat.{_+_, _-_, _*_, _<_, _≤_};
 ghost use lib.ListN.{length};
 ghost use lib.Dec.{eqb, ltb};
-ghost use Rattle.insertion.specs.Rows.{given};
 ghost use Rattle.elevation.specs.Whole.{elevatedCount, raiseStart, elevateStart};
 
 // The points of a raised curve with so many breaks, of which so many are full.

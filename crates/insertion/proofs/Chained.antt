@@ -1,16 +1,14 @@
 -- Insertions one after the other into a curve that stands in a run: what the calls answer and leave is what the fold says.
 -- Assumes nothing.
-use Prim.Native.Nat.{ℕ, _+_, _-_, _*_, _/_, _%_, _≤_, _<_}
+use Prim.Native.Nat.{ℕ, _+_, _-_, _*_, _≤_}
 use mathlib.Core.Bool.{Bool, true, false, cond}
-use mathlib.Core.Path.{_≡_, refl, sym, _∙_, ap, ap₂, subst}
+use mathlib.Core.Path.{_≡_, refl, sym, _∙_, ap, subst}
 use mathlib.Core.List.{List, [], _∷_}
 use native.Mathlib.Omega.{arith}
 use borrow.Author.Tests.{eqb-false, eq-eqb}
-use lib.ListN.{length, take, drop, replicate, length-take, length-drop, length-replicate}
-use lib.Seq.{getD-take, getD-drop, ext-getD}
+use lib.ListN.{length, replicate, length-replicate}
 use lib.Dec.{eqb}
-use lib.Ieee.{Float, nan}
-use Rattle.doubles.specs.Run.{at}
+use lib.Ieee.{Float}
 use Rattle.knots.specs.Refusal.{accepted}
 use Rattle.knots.specs.Clear.{zeros}
 use Rattle.knots.specs.Curve.{countOf}
@@ -18,18 +16,16 @@ use Rattle.knots.specs.Knots.{knotRefusal, ValidKnots}
 use Rattle.knots.specs.declared.refusal.Refusal.{Refusal}
 use Rattle.knots.proofs.Refusals.{skip}
 use Rattle.knots.proofs.Valid.{not-refused}
-use Rattle.basis.specs.Basis.{tabulate}
-use Rattle.basis.proofs.Whole.{length-tabulate, at-tabulate}
 use Rattle.insertion.specs.Rows.{given}
 use Rattle.insertion.specs.Insert.{insertedKnots, insertedPoints, insertedWeights, insertRefusal}
 use Rattle.insertion.specs.Fold.{Outcome, gives, refuses, insertAll}
 use Rattle.insertion.specs.Whole.{givenOf}
-use Rattle.insertion.specs.Work.{rowNumber, laidAt, laid, knotsFrom, pointsFrom, weightsFrom, workRoom, timesStart, timesOutcome, refusalOf, workIn}
+use Rattle.insertion.specs.Work.{rowNumber, laidAt, laid, knotsFrom, pointsFrom, weightsFrom, timesStart, timesOutcome, refusalOf, workIn}
 use Rattle.insertion.specs.Passes.{CurveIn}
 use Rattle.insertion.proofs.Laying.{knots-back, points-back, weights-back, goal-is}
 use Rattle.insertion.proofs.Laid.{laid-long, laid-in, laid-laid}
 use Rattle.insertion.proofs.Working.{work-fits}
-use Rattle.insertion.proofs.Made.{Made, made}
+use Rattle.insertion.proofs.Made.{made}
 
 abbrev refusalNumber : Outcome → ℕ
 refusalNumber (gives ks ps ws) = 0

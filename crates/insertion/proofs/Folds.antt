@@ -24,7 +24,7 @@ use Rattle.insertion.specs.Counts.{multiplicityOf}
 use Rattle.insertion.specs.Insert.{moreKnots, spotRefusal, lifted, blended, morePoints, moreWeights, formRefusal, insertedKnots, insertedPoints, insertedWeights, insertRefusal}
 use Rattle.insertion.specs.Fold.{Outcome, gives, refuses, insertAll}
 use Rattle.insertion.specs.Work.{knotsFrom, pointsFrom, weightsFrom}
-use Rattle.insertion.specs.Passes.{Untouched, Outside, Holds, Inserted, ListMeets}
+use Rattle.insertion.specs.Passes.{Untouched, Outside, Inserted, ListMeets}
 use Rattle.insertion.proofs.Forming.{untouched-less, outside-less}
 
 -- ---- what an insertion that is not refused forms

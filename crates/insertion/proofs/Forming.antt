@@ -7,7 +7,7 @@ use mathlib.Core.Logic.{_⊎_, inl, inr, ⊎-elim}
 use mathlib.Core.List.{List, _++_}
 use native.Mathlib.Omega.{arith}
 use borrow.Author.Tests.{eq-eqb, leb-true, leb-false, not-false, not-true, ltb-false}
-use lib.ListN.{length, take, drop, length-take, length-drop, List·getD-append}
+use lib.ListN.{length, drop, length-take, length-drop, List·getD-append}
 use lib.Seq.{getD-append-add, getD-drop, ext-getD}
 use lib.Dec.{leb, ltb}
 use lib.Ieee.{Float, nan, lt, le}
@@ -34,7 +34,7 @@ use Rattle.insertion.specs.Counts.{multiplicityOf}
 use Rattle.insertion.specs.Rows.{liftAll, blendAt, axis, lowerAt, weightIn, given}
 use Rattle.insertion.specs.Insert.{knotAt, moreKnots, inside, spotRefusal, lifted, blended, morePoints, moreWeights, formRefusal, insertedKnots, insertedPoints, insertedWeights, insertRefusal}
 use Rattle.insertion.specs.Work.{knotsFrom, pointsFrom, weightsFrom}
-use Rattle.insertion.specs.Passes.{rowOf, keptRow, stored, Untouched, Outside, lowerRefusal, LiftDone, LowerDone, Holds, Formed, Inserted}
+use Rattle.insertion.specs.Passes.{rowOf, keptRow, stored, Untouched, Outside, lowerRefusal, LiftDone, LowerDone, Formed, Inserted}
 use Rattle.insertion.specs.declared.control.Control.{Control}
 use Rattle.insertion.proofs.Grown.{grown-valid, controls-left}
 use Rattle.insertion.proofs.RowLoops.{rows-same, row-axis, row-point, knot-from}

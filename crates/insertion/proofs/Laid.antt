@@ -1,7 +1,7 @@
 -- A run with a curve laid over it: place by place, what is read from it, and one curve over another.
 -- Assumes nothing.
-use Prim.Native.Nat.{ℕ, zero, suc, _+_, _-_, _*_, _/_, _%_, _≤_, _<_}
-use mathlib.Core.Bool.{Bool, true, false, cond, _&&_}
+use Prim.Native.Nat.{ℕ, _+_, _-_, _*_, _/_, _%_, _≤_, _<_}
+use mathlib.Core.Bool.{Bool, true, false, cond}
 use mathlib.Core.Path.{_≡_, refl, sym, _∙_, ap, ap₂, subst}
 use mathlib.Core.Logic.{_⊎_, inl, inr, ⊎-elim}
 use mathlib.Core.List.{List}
@@ -9,20 +9,18 @@ use native.Mathlib.Omega.{arith}
 use borrow.Author.Tests.{lt-ltb, le-ltb, le-leb, lt-leb, eq-eqb, ne-eqb, eqb-true, eqb-false}
 use lib.ListN.{length, take, drop, length-take, length-drop, List·getD-eq-default}
 use lib.Seq.{getD-take, getD-drop, ext-getD}
-use lib.Dec.{eqb, ltb, leb}
+use lib.Dec.{eqb}
 use lib.Ieee.{Float, nan}
 use Rattle.doubles.specs.Run.{at}
 use Rattle.doubles.specs.Value.{one+}
 use Rattle.knots.specs.Curve.{countOf}
-use Rattle.knots.specs.declared.refusal.Refusal.{Refusal}
-use Rattle.basis.specs.Basis.{tabulate}
 use Rattle.basis.proofs.Whole.{length-tabulate, at-tabulate}
 use Rattle.basis.proofs.Cases.{lt-or-ge}
 use Rattle.evaluate.specs.Controls.{coordinate}
 use Rattle.insertion.specs.Control.{vectorOf}
-use Rattle.insertion.specs.Rows.{given, axis}
-use Rattle.insertion.specs.Work.{rowNumber, laidAt, laid, knotsFrom, pointsFrom, weightsFrom}
-use Rattle.insertion.specs.Passes.{rowOf, givenRow, Untouched, Outside, Holds, CurveIn}
+use Rattle.insertion.specs.Rows.{axis}
+use Rattle.insertion.specs.Work.{rowNumber, laidAt, laid, weightsFrom}
+use Rattle.insertion.specs.Passes.{rowOf, givenRow, Untouched, Holds, CurveIn}
 use Rattle.insertion.specs.declared.control.Control.{Control}
 use Rattle.insertion.proofs.RowLoops.{control-is, row-axis, point-at, row-weight}
 use Rattle.insertion.proofs.Laying.{given-axis}

@@ -2,8 +2,8 @@
 -- Assumes nothing.
 use Prim.Native.Nat.{ℕ, zero, suc, _+_, _-_, _*_, _/_, _%_, _≤_, _<_}
 use mathlib.Core.Bool.{Bool, true, false, cond}
-use mathlib.Core.Path.{_≡_, refl, sym, _∙_, ap, ap₂, subst}
-use mathlib.Core.Logic.{_⊎_, inl, inr, ⊎-elim}
+use mathlib.Core.Path.{_≡_, refl, sym, _∙_, ap, subst}
+use mathlib.Core.Logic.{_⊎_, inl, inr}
 use mathlib.Core.List.{List, _++_}
 use native.Mathlib.Omega.{arith}
 use native.Mathlib.Nat.{add-zero}
@@ -17,7 +17,7 @@ use Rattle.knots.specs.Clear.{zeros}
 use Rattle.knots.specs.Curve.{countOf}
 use Rattle.knots.specs.declared.refusal.Refusal.{Refusal}
 use Rattle.basis.specs.Basis.{tabulate}
-use Rattle.basis.proofs.Whole.{length-tabulate, at-tabulate}
+use Rattle.basis.proofs.Whole.{length-tabulate}
 use Rattle.evaluate.specs.Lent.{padded}
 use Rattle.evaluate.specs.declared.vector.Vector.{Vector}
 use Rattle.evaluate.proofs.Overlays.{store-none, store-more}
@@ -25,7 +25,7 @@ use Rattle.insertion.specs.Rows.{given, axis}
 use Rattle.insertion.specs.Fold.{Outcome, gives, refuses, insertAll}
 use Rattle.insertion.specs.Work.{knotsFrom, pointsFrom, weightsFrom}
 use Rattle.insertion.specs.Control.{vectorOf}
-use Rattle.insertion.specs.Passes.{rowOf, givenRow, Untouched, RowsLaid, KnotsLaid, CurveIn, ListMeets, OutMeets}
+use Rattle.insertion.specs.Passes.{rowOf, givenRow, RowsLaid, KnotsLaid, CurveIn, ListMeets, OutMeets}
 use Rattle.insertion.specs.declared.control.Control.{Control}
 use Rattle.insertion.proofs.Storing.{tabulate-at, tabulate-cong, copied}
 use Rattle.insertion.proofs.RowLoops.{rows-same, row-axis}

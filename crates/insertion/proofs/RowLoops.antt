@@ -6,9 +6,8 @@ use mathlib.Core.Path.{_≡_, refl, sym, _∙_, ap, ap₂, subst}
 use mathlib.Core.Logic.{_⊎_, inl, inr}
 use mathlib.Core.List.{List}
 use native.Mathlib.Omega.{arith}
-use native.Mathlib.Numerals.{add-one}
 use borrow.Author.Count.{below-more}
-use borrow.Author.Tests.{le-leb, lt-leb, leb-true}
+use borrow.Author.Tests.{leb-true}
 use lib.ListN.{length, set, length-set}
 use lib.Seq.{getD-set-same, getD-set-other, getD-take, getD-drop}
 use lib.Dec.{leb}
@@ -18,7 +17,7 @@ use Rattle.doubles.specs.Value.{zero+, one+}
 use Rattle.knots.specs.Below.{allBelow}
 use Rattle.knots.specs.Refusal.{refuse, accepted, edit-bad, point-not-finite}
 use Rattle.knots.specs.declared.refusal.Refusal.{Refusal}
-use Rattle.knots.proofs.Below.{all-none, all-more, all-fails, all-stops, all-end}
+use Rattle.knots.proofs.Below.{all-none, all-more, all-step, all-fails, all-stops, all-end}
 use Rattle.basis.proofs.Whole.{length-tabulate, at-tabulate}
 use Rattle.evaluate.specs.Controls.{pointOf, weightOf, larger, largestFrom, finiteVector}
 use Rattle.evaluate.specs.declared.vector.Vector.{Vector}
@@ -246,10 +245,6 @@ pub record InLower (o : Vector) (g : Bool) (h : ℕ → Control) (m : ℕ) (r₀
   pub last : before ≡ rowOf g r₀ (i - 1)
   pub done : InRows g (low o g h) r₀ r₁ i
 
-all-next : (f : ℕ → Bool) (i : ℕ) (a b : Bool) → a ≡ allBelow f i → b ≡ f i → (a && b) ≡ allBelow f (i + 1)
-unfolding allBelow
-all-next f i a b A B = rw add-one (ap₂ (λ (x y : Bool). x && y) A B)
-
 module _ (p k s : ℕ) (t : Float) (n a : ℕ) (o : Vector) (g : Bool) (r₀ : List Float) where
   abbrev blends : ℕ → Control
   blends = blendAt p k s t (knotsFrom a p n r₀) (rowOf g r₀)
@@ -308,7 +303,7 @@ module _ (p k s : ℕ) (t : Float) (n a : ℕ) (o : Vector) (g : Bool) (r₀ : L
           record {
             upto = omega arith;
             good = all-more (λ j. isBlended (blends j)) i (I .good) (ap isBlended (sym blend-is) ∙ e);
-            fine = C ∙ all-next (λ j. finiteVector (lowerOf o (blends j))) i fine f (I .fine) (F ∙ ap finiteVector A');
+            fine = C ∙ all-step (λ j. finiteVector (lowerOf o (blends j))) i fine f (I .fine) (F ∙ ap finiteVector A');
             last = here-is ∙ ap (rowOf g r₀) (sym x);
             done = rows-more g (low o g blends) r₀ r₁ i (I .done) u (ap (stored g) U ∙ ap₂ (λ (y : Vector) (w : Float). stored g (keptRow y w)) A' (ap (λ (z : Control). z .w) blend-is)) r₂ L R;
           }

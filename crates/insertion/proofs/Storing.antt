@@ -1,16 +1,16 @@
 -- Runs that are stored place by place: a copy, and a knot put between others.
 -- Assumes nothing.
 use Prim.Native.Nat.{ℕ, zero, suc, _+_, _-_, _≤_, _<_}
-use mathlib.Core.Bool.{Bool, true, false, cond}
+use mathlib.Core.Bool.{cond}
 use mathlib.Core.Logic.{_⊎_, inl, inr}
 use mathlib.Core.Path.{_≡_, refl, sym, _∙_, ap, ap₂, subst}
 use mathlib.Core.List.{List, [], _∷_, _++_}
 use native.Mathlib.Omega.{arith}
 use native.Mathlib.Nat.{not-suc-le-zero, le-of-suc-le-suc}
-use borrow.Author.Tests.{lt-ltb, le-ltb, le-leb, lt-leb, leb-true, leb-false, eq-eqb, ne-eqb}
+use borrow.Author.Tests.{lt-ltb, le-ltb, le-leb, lt-leb, eq-eqb, ne-eqb}
 use lib.ListN.{length, set, take, drop, length-take, length-append, length-replicate, getD-replicate, List·getD-append, drop-of-length-le}
 use lib.Seq.{take-at, getD-take, getD-append-add, ext-getD}
-use lib.Dec.{leb, ltb, eqb}
+use lib.Dec.{ltb}
 use lib.Ieee.{Float, nan}
 use Rattle.doubles.specs.Run.{at}
 use Rattle.doubles.specs.Value.{zero+}
@@ -20,7 +20,7 @@ use Rattle.basis.proofs.Whole.{length-tabulate, at-tabulate}
 use Rattle.basis.proofs.Cases.{lt-or-ge}
 use Rattle.evaluate.specs.Lent.{padded}
 use Rattle.evaluate.proofs.Overlays.{store-more}
-use Rattle.insertion.specs.Insert.{knotAt, moreKnots}
+use Rattle.insertion.specs.Insert.{knotAt}
 
 -- ---- runs by their places
 pub tabulate-at : (xs : List Float) → tabulate (length xs) (at xs) ≡ xs

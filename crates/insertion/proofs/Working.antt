@@ -2,19 +2,19 @@
 -- Assumes nothing.
 use Prim.Native.Nat.{ℕ, _+_, _-_, _*_, _/_, _%_, _≤_, _<_}
 use mathlib.Core.Bool.{Bool, true, false, cond}
-use mathlib.Core.Path.{_≡_, refl, sym, _∙_, ap, ap₂, subst}
+use mathlib.Core.Path.{_≡_, refl, sym, _∙_, ap, subst}
 use mathlib.Core.Logic.{_⊎_, inl, inr, ⊎-elim}
 use mathlib.Core.List.{List}
 use native.Mathlib.Omega.{arith}
-use borrow.Author.Tests.{lt-ltb, le-ltb, eq-eqb, ne-eqb, eqb-true, eqb-false}
-use lib.ListN.{length, take, drop, replicate, length-replicate}
+use borrow.Author.Tests.{lt-ltb, le-ltb, eq-eqb, eqb-true, eqb-false}
+use lib.ListN.{length, take, replicate, length-replicate}
 use lib.Seq.{ext-getD}
-use lib.Dec.{eqb, ltb}
+use lib.Dec.{eqb}
 use lib.Ieee.{Float, nan}
 use Rattle.doubles.specs.Run.{at}
 use Rattle.doubles.specs.Value.{zero+, one+}
 use Rattle.knots.specs.Below.{allBelow}
-use Rattle.knots.specs.Refusal.{refuse, accepted, orElse, too-long, control-bad}
+use Rattle.knots.specs.Refusal.{refuse, accepted, too-long, control-bad}
 use Rattle.knots.specs.Clear.{zeros}
 use Rattle.knots.specs.Curve.{countOf, formedRefusal}
 use Rattle.knots.specs.Knots.{knotRefusal, ValidKnots}
@@ -24,7 +24,6 @@ use Rattle.knots.proofs.Valid.{valid}
 use Rattle.basis.specs.Basis.{tabulate}
 use Rattle.basis.proofs.Whole.{length-tabulate, at-tabulate}
 use Rattle.basis.proofs.Cases.{lt-or-ge}
-use Rattle.evaluate.specs.Controls.{pointOf}
 use Rattle.evaluate.specs.Shape.{roomRefusal}
 use Rattle.evaluate.specs.declared.vector.Vector.{Vector}
 use Rattle.evaluate.proofs.Steps.{room-open}
@@ -33,7 +32,7 @@ use Rattle.insertion.specs.Rows.{liftAll, axis, given}
 use Rattle.insertion.specs.Start.{outRoom}
 use Rattle.insertion.specs.Fold.{Outcome, gives, refuses, insertAll}
 use Rattle.insertion.specs.Work.{laid, knotsFrom, pointsFrom, weightsFrom, workRoom, layRefusal, layOutcome, timesStart, timesOutcome, refusalOf, workIn, controls, liftRefusal, controlAt, liftedRun, takeRefusal, frontRefusal}
-use Rattle.insertion.specs.Passes.{rowOf, Untouched, CurveIn, Holds, ListMeets, LiftDone}
+use Rattle.insertion.specs.Passes.{rowOf, CurveIn, ListMeets, LiftDone}
 use Rattle.insertion.specs.declared.control.Control.{Control}
 use Rattle.insertion.proofs.RowLoops.{row-axis, row-point}
 use Rattle.insertion.proofs.Starting.{room-none, room-short, out-fits}

@@ -7,7 +7,6 @@ use crate::start::insert_start;
 use crate::work::clear_all;
 use knots::clear::clear;
 use knots::refusal::Refusal;
-ghost use mathlib.Core.Path.{_≡_};
 ghost use Prim.Native.Nat.{_+_, _*_, _/_, _≤_};
 ghost use lib.ListN.{length};
 ghost use Rattle.knots.specs.Curve.{ValidCurve};

@@ -12,11 +12,9 @@ ghost use mathlib.Core.Bool.{true, cond};
 ghost use mathlib.Core.List.{_++_};
 ghost use Prim.Native.Nat.{_+_, _*_, _/_, _<_, _≤_};
 ghost use lib.ListN.{length, drop, set};
-ghost use Rattle.basis.specs.Basis.{tabulate};
 ghost use Rattle.insertion.specs.Rows.{given};
 ghost use Rattle.evaluate.specs.Lent.{padded};
 ghost use Rattle.insertion.specs.Work.{knotsFrom, pointsFrom, weightsFrom};
-ghost use Rattle.insertion.specs.Control.{vectorOf};
 ghost use Rattle.insertion.specs.Passes.{givenRow, RowsLaid, KnotsLaid, CurveIn};
 
 // Point i of two runs with its weight.

@@ -2,7 +2,6 @@
 use crate::one::insert_one;
 use knots::refusal::Refusal;
 use knots::refusal::refuse;
-ghost use mathlib.Core.Path.{_≡_};
 ghost use Prim.Native.Nat.{_+_, _*_, _≤_};
 ghost use lib.ListN.{length, replicate};
 ghost use Rattle.knots.specs.Knots.{ValidKnots};

@@ -12,9 +12,9 @@ use evaluate::vector::finite_vector;
 use knots::refusal::Refusal;
 use knots::refusal::refuse;
 ghost use mathlib.Core.Path.{_≡_};
-ghost use mathlib.Core.Bool.{true, cond, _&&_};
+ghost use mathlib.Core.Bool.{true};
 ghost use Prim.Native.Nat.{_+_, _*_, _<_, _≤_};
-ghost use lib.ListN.{length, set};
+ghost use lib.ListN.{length};
 ghost use Rattle.doubles.specs.Run.{at};
 ghost use Rattle.evaluate.specs.Controls.{largestFrom};
 ghost use Rattle.doubles.specs.Value.{zero+};
@@ -147,13 +147,6 @@ fn blend_at(spot: Spot, a: usize, rows: &[f64], i: usize, before: Control, here:
     before
 }
 
-// Both are true.
-fn both(a: bool, b: bool) -> bool
-    ensures { λ r. ⌜ r ≡ a && b ⌝ }
-{
-    if a { b } else { false }
-}
-
 // A point and a weight as a row.
 fn kept_row(v: Vector, w: f64) -> Control
     ensures { λ r. ⌜ r ≡ keptRow v w ⌝ }
@@ -190,7 +183,7 @@ pub fn lower_rows(
             return refuse(20);
         }
         let v = lower_of(o, q);
-        fine = both(fine, finite_vector(v));
+        fine = fine & finite_vector(v);
         put_row(rational, rows, i, kept_row(v, q.w));
         before = here;
         i += 1;

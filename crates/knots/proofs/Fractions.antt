@@ -1,18 +1,17 @@
 -- Valid knots as fractions: what the exact theorems ask of a nonempty span, and of a range inside it. Assumes nothing.
-use mathlib.Core.Path.{_≡_, sym, subst}
-use mathlib.Core.Bool.{Bool, true, false}
+use mathlib.Core.Path.{_≡_, subst}
+use mathlib.Core.Bool.{true, false}
 use mathlib.Core.List.{List}
-use Prim.Native.Nat.{ℕ, suc, _+_, _≤_, _<_}
+use Prim.Native.Nat.{ℕ, suc, _≤_, _<_}
 use native.Mathlib.Omega.{arith}
 use native.Mathlib.Numerals.{add-one}
 use lib.ListN.{length}
 use lib.Dec.{T}
 use lib.Ieee.{Float, lt}
 use lib.Ieee.Scale.{finite}
-use Rattle.exact.specs.Rational.{ℚ, _≤q_, _<q_}
+use Rattle.exact.specs.Rational.{_≤q_}
 use Rattle.exact.specs.Spline.{Knots}
 use Rattle.exact.proofs.DeBoor.{mono-of-steps}
-use Rattle.doubles.specs.Value.{val}
 use Rattle.doubles.specs.Run.{at, valAt}
 use Rattle.doubles.proofs.Tests.{T-of, Tn-of}
 use Rattle.doubles.proofs.Value.{val-lt, val-le}

@@ -4,6 +4,24 @@ ghost use mathlib.Core.Path.{_≡_};
 ghost use Prim.Native.Nat.{_<_};
 ghost use Rattle.replaying.specs.Digits.{digitOf, hex};
 
+// Writes the next heading: a name in ten bytes, filled up with spaces.
+pub fn print_heading() {
+    let mut text = [0u8; 10];
+    let n = io::read_full(0, &mut text);
+    io::write_all(1, &text[..n]);
+}
+
+// The next word; at the end of the list what is missing counts as 0.
+pub fn word() -> u64 {
+    let mut text = [0u8; 17];
+    io::read_full(0, &mut text);
+    value(&text)
+}
+
+pub fn double() -> f64 {
+    double_of(word())
+}
+
 // Any byte that is no digit counts as 0.
 fn digit(b: u8) -> u64
     ensures { λ r. ⌜ r ≡ digitOf b ⌝ }
@@ -34,22 +52,4 @@ fn value(t: &[u8; 17]) -> u64
         i += 1;
     }
     v
-}
-
-// Writes the next heading: a name in ten bytes, filled up with spaces.
-pub fn print_heading() {
-    let mut text = [0u8; 10];
-    let n = io::read_full(0, &mut text);
-    io::write_all(1, &text[..n]);
-}
-
-// The next word; at the end of the list what is missing counts as 0.
-pub fn word() -> u64 {
-    let mut text = [0u8; 17];
-    io::read_full(0, &mut text);
-    value(&text)
-}
-
-pub fn double() -> f64 {
-    double_of(word())
 }

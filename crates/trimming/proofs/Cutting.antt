@@ -1,8 +1,8 @@
 -- The cut of a curve that stands in scratch, and the answers of `trim`.
 -- Assumes nothing.
 use Prim.Native.Nat.{ℕ, zero, suc, _+_, _-_, _*_, _/_, _%_, _≤_, _<_}
-use mathlib.Core.Bool.{Bool, true, false, cond}
-use mathlib.Core.Path.{_≡_, refl, sym, _∙_, ap, ap₂, subst}
+use mathlib.Core.Bool.{Bool, true, false}
+use mathlib.Core.Path.{_≡_, refl, sym, _∙_, ap, subst}
 use mathlib.Core.List.{List, []}
 use native.Mathlib.Omega.{arith}
 use borrow.Author.Tests.{eq-eqb}
@@ -16,26 +16,24 @@ use Rattle.knots.specs.Knots.{ValidKnots}
 use Rattle.knots.specs.Curve.{countOf, formedRefusal, ValidCurve}
 use Rattle.knots.specs.declared.refusal.Refusal.{Refusal}
 use Rattle.knots.proofs.Refusals.{stop, skip}
-use Rattle.basis.specs.Basis.{tabulate}
 use Rattle.basis.proofs.Whole.{length-tabulate, at-tabulate}
 use Rattle.evaluate.specs.Lent.{padded, leftIn}
 use Rattle.evaluate.proofs.Overlays.{take-padded}
 use Rattle.insertion.specs.Counts.{missingOf, belowOf}
 use Rattle.insertion.specs.Rows.{given}
-use Rattle.insertion.specs.Fold.{Outcome, gives, refuses, insertAll}
-use Rattle.insertion.specs.Whole.{givenOf, EditMeets}
+use Rattle.insertion.specs.Fold.{Outcome, refuses, insertAll}
+use Rattle.insertion.specs.Whole.{givenOf}
 use Rattle.insertion.specs.Work.{laid, knotsFrom, pointsFrom, weightsFrom, refusalOf, workIn, takeRefusal}
 use Rattle.insertion.specs.Passes.{OutMeets}
-use Rattle.insertion.specs.Start.{outRoom}
 use Rattle.insertion.specs.declared.answer.EditAnswer.{EditAnswer}
 use Rattle.insertion.specs.declared.answer.EditAnswer.the-variants.{Formed, Refused}
 use Rattle.insertion.proofs.RowLoops.{knot-from}
 use Rattle.insertion.proofs.Starting.{out-fits, thirds}
 use Rattle.insertion.proofs.Laid.{laid-long}
 use Rattle.insertion.proofs.Working.{take-fits}
-use Rattle.insertion.proofs.Made.{Made, made}
+use Rattle.insertion.proofs.Made.{made}
 use Rattle.insertion.proofs.Repeated.{ends-long}
-use Rattle.insertion.proofs.Chained.{knots-are, points-are, weights-are, refused-is, Given, given-is}
+use Rattle.insertion.proofs.Chained.{knots-are, points-are, weights-are, refused-is, given-is}
 use Rattle.insertion.proofs.Outcomes.{edit-refused, edit-late, edit-formed, edit-unique}
 use Rattle.trimming.specs.Trim.{endsOf, keptOf, cutRefusal, cutCurve, cutOf, trimStart, trimOutcome, TrimMeets}
 use Rattle.trimming.specs.Passes.{CutDone}

@@ -1,9 +1,9 @@
 -- Both ends are inserted in scratch: what the calls leave is what the fold says.
 -- Assumes nothing.
-use Prim.Native.Nat.{ℕ, _+_, _-_, _*_, _/_, _≤_, _<_}
-use mathlib.Core.Bool.{Bool, true, false, cond}
+use Prim.Native.Nat.{ℕ, _+_, _-_, _*_, _≤_}
+use mathlib.Core.Bool.{Bool, true, false}
 use mathlib.Core.Path.{_≡_, refl, sym, _∙_, ap, ap₂, subst}
-use mathlib.Core.List.{List, [], _++_}
+use mathlib.Core.List.{List}
 use native.Mathlib.Omega.{arith}
 use lib.ListN.{length, replicate, length-replicate}
 use lib.Ieee.{Float}
@@ -13,16 +13,15 @@ use Rattle.knots.specs.Clear.{zeros}
 use Rattle.knots.specs.Knots.{ValidKnots}
 use Rattle.knots.specs.Curve.{countOf, ValidCurve}
 use Rattle.knots.specs.declared.refusal.Refusal.{Refusal}
-use Rattle.evaluate.specs.Shape.{roomRefusal}
 use Rattle.insertion.specs.Counts.{missingOf}
 use Rattle.insertion.specs.Rows.{given}
 use Rattle.insertion.specs.Fold.{Outcome, gives, refuses, insertAll}
 use Rattle.insertion.specs.Whole.{givenOf}
-use Rattle.insertion.specs.Work.{laid, workRoom, layOutcome, timesOutcome, refusalOf, workIn}
+use Rattle.insertion.specs.Work.{laid, layOutcome, timesOutcome, refusalOf, workIn}
 use Rattle.insertion.proofs.Starting.{room-none, thirds}
 use Rattle.insertion.proofs.Working.{lay-fits, work-fits}
-use Rattle.insertion.proofs.Made.{Made, made, andThen, insert-append}
-use Rattle.insertion.proofs.Chained.{laid-given, chained, refused-is, Given, given-is}
+use Rattle.insertion.proofs.Made.{made, andThen, insert-append}
+use Rattle.insertion.proofs.Chained.{laid-given, chained, refused-is, given-is}
 use Rattle.trimming.specs.Trim.{endsOf}
 
 pub given-long : (g : Bool) (n : ℕ) (ws : List Float) → (g ≡ true → length ws ≡ n) → length (givenOf g ws) ≡ given g n

@@ -1,8 +1,8 @@
 -- The range of a cut: what no refusal says of it.
 -- Assumes nothing.
-use Prim.Native.Nat.{ℕ, _+_, _-_, _*_, _≤_, _<_}
-use mathlib.Core.Bool.{Bool, true, false, not, _&&_}
-use mathlib.Core.Path.{_≡_, refl, sym, _∙_, ap}
+use Prim.Native.Nat.{ℕ, _+_, _-_, _*_, _≤_}
+use mathlib.Core.Bool.{Bool, true, false, not}
+use mathlib.Core.Path.{_≡_}
 use mathlib.Core.List.{List}
 use native.Mathlib.Omega.{arith}
 use borrow.Author.Tests.{not-true, not-false}
@@ -18,7 +18,6 @@ use Rattle.knots.specs.declared.refusal.Refusal.{Refusal}
 use Rattle.knots.proofs.Below.{and-left, and-right}
 use Rattle.knots.proofs.Refusals.{orElse-none, passed, stop, skip}
 use Rattle.insertion.specs.Counts.{multiplicityOf, missingOf, belowOf}
-use Rattle.insertion.specs.Rows.{given}
 use Rattle.insertion.specs.Start.{clampedEnds, editStart, outRoom, scratchRoom}
 use Rattle.insertion.proofs.Counted.{below-mono, below-room}
 use Rattle.insertion.proofs.Starting.{OutOpen, out-open, scratch-open, edit-open}

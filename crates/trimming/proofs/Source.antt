@@ -17,12 +17,12 @@ use Rattle.knots.specs.Curve.{countOf, isWeight, ValidControls}
 use Rattle.knots.specs.declared.refusal.Refusal.{Refusal}
 use Rattle.knots.proofs.Valid.{sorted}
 use Rattle.knots.proofs.Curves.{formed-not-refused}
-use Rattle.insertion.specs.Counts.{multiplicityOf, missingOf, belowOf}
+use Rattle.insertion.specs.Counts.{multiplicityOf, belowOf}
 use Rattle.insertion.specs.Rows.{given}
 use Rattle.insertion.specs.Fold.{gives, refuses, insertAll}
 use Rattle.insertion.specs.Whole.{givenOf}
 use Rattle.insertion.proofs.Counted.{not-both, eq-self, lt-not-eq, below-past, below-first, below-rest, below-room}
-use Rattle.insertion.proofs.Made.{Made, made, made-controls}
+use Rattle.insertion.proofs.Made.{made, made-controls}
 use Rattle.insertion.proofs.Never.{Late, late-not}
 use Rattle.insertion.proofs.Repeated.{repeated, Cut, cut-late, cut-made}
 use Rattle.trimming.specs.Trim.{endsOf, keptOf, cutRefusal}

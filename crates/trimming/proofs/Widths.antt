@@ -9,7 +9,7 @@ use lib.Ieee.Scale.{finite}
 use lib.Ieee.Bits.{is-true}
 use lib.Ieee.Fits.{down-pos}
 use lib.Ieee.Order.{round-mono}
-use Rattle.exact.specs.Rational.{ℚ, _+q_, _-q_, negq, q0, _≤q_, _<q_}
+use Rattle.exact.specs.Rational.{ℚ, _+q_, _-q_, q0, _≤q_, _<q_}
 use Rattle.exact.proofs.Field.{sub-is, ≤-trans, ≤-eq, +-mono, neg-le, not-both, <-≤-trans, lt-sub, lt→le}
 use Rattle.doubles.specs.Value.{ratio, val, zero+, _⊑_}
 use Rattle.doubles.proofs.Tests.{T-of, Tn-of}

@@ -11,7 +11,7 @@ ghost use mathlib.Core.Path.{_≡_};
 ghost use Prim.Native.Nat.{_+_, _≤_, _<_};
 ghost use lib.ListN.{length};
 ghost use Rattle.knots.specs.Knots.{ValidKnots};
-ghost use Rattle.insertion.specs.Counts.{belowOf, missingOf};
+ghost use Rattle.insertion.specs.Counts.{belowOf};
 ghost use Rattle.trimming.specs.Trim.{inRange, keptOf, rangeRefusal, trimStart};
 
 // Finite ends, lo below hi, and both in the domain from a to b.

@@ -2,7 +2,6 @@ use mathlib.Core.Path.{_∙_}
 use denote.Ref.{now}
 use native.Mathlib.Omega.{arith}
 use Rattle.insertion.proofs.Laying.{curve-in}
-use borrow.Author.Needs.{needs}
 use Rattle.insertion.proofs.lay.lay_into.Statement.{statement}
 use Rattle.insertion.proofs.lay.lay_into.Tie as tie
 

@@ -1,9 +1,8 @@
-use mathlib.Core.Path.{_≡_, sym, _∙_, ap, subst}
-use Prim.Native.Nat.{_+_, _-_, _*_, _≤_}
+use mathlib.Core.Path.{_∙_, ap}
+use Prim.Native.Nat.{_+_, _-_, _*_}
 use native.Mathlib.Omega.{arith}
 use denote.Ref.{now}
-use lib.ListN.{length, take, drop, length-take, length-drop}
-use lib.Ieee.{Float}
+use lib.ListN.{length-take, length-drop}
 use Rattle.evaluate.specs.Lent.{padded}
 use Rattle.insertion.proofs.Starting.{rest-all}
 use Rattle.insertion.proofs.Forming.{given-room}

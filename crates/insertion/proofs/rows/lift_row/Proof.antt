@@ -1,4 +1,4 @@
-use mathlib.Core.Path.{_∙_, ap, ap₂}
+use mathlib.Core.Path.{_∙_, ap}
 use Rattle.insertion.specs.Control.{liftOf}
 use lib.Ieee.{binary64, div, ofBits}
 use Rattle.evaluate.specs.declared.vector.Vector.{Vector}

@@ -1,5 +1,5 @@
 use native.Mathlib.Omega.{arith}
-use Prim.Native.Nat.{_+_, _*_}
+use Prim.Native.Nat.{_*_}
 use lib.ListN.{length-set}
 use denote.Ref.{now}
 use mathlib.Core.Path.{refl}

@@ -4,7 +4,7 @@ use mathlib.Core.Path.{sym, subst, _≡_}
 use mathlib.Core.Bool.{Bool}
 use Rattle.insertion.specs.Rows.{scaleOf}
 use Rattle.insertion.specs.Work.{weightsFrom}
-use Rattle.insertion.proofs.RowLoops.{scale-weighted, scale-plain}
+use Rattle.insertion.proofs.RowLoops.{scale-weighted}
 use borrow.Author.Needs.{needs}
 use Rattle.insertion.proofs.rows.scale_of.Statement.{statement}
 use Rattle.insertion.proofs.rows.scale_of.Tie as tie

@@ -1,9 +1,8 @@
-use mathlib.Core.Path.{_≡_, _∙_, sym, ap}
-use mathlib.Core.Bool.{Bool, cond}
+use mathlib.Core.Path.{_∙_, sym, ap}
 use native.Mathlib.Omega.{arith}
 use borrow.Author.Tests.{not-true, not-false}
 use denote.Ref.{now}
-use Rattle.knots.specs.Refusal.{refuse, accepted, ends-unclamped}
+use Rattle.knots.specs.Refusal.{refuse}
 use Rattle.knots.specs.declared.refusal.Refusal.{Refusal}
 use Rattle.knots.proofs.Curves.{valid-curve}
 use Rattle.insertion.proofs.Starting.{edit-early, edit-17, edit-none}

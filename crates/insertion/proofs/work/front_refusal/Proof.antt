@@ -1,19 +1,13 @@
-use mathlib.Core.Path.{_≡_, sym, _∙_, ap}
-use Prim.Native.Nat.{_+_, _*_}
+use mathlib.Core.Path.{sym, _∙_, ap}
 use native.Mathlib.Omega.{arith}
 use denote.Ref.{now}
-use lib.ListN.{length, take, length-take}
+use lib.ListN.{length, length-take}
 use Rattle.knots.specs.declared.refusal.Refusal.{Refusal}
 use Rattle.insertion.proofs.Starting.{out-open}
 use Rattle.insertion.proofs.Working.{front-short, front-formed}
 use borrow.Author.Needs.{needs}
 use Rattle.insertion.proofs.work.front_refusal.Statement.{statement}
 use Rattle.insertion.proofs.work.front_refusal.Tie as tie
-use Rattle.insertion.proofs.work.front_refusal.Reads as reads
-use Rattle.insertion.proofs.work.front_refusal.Lts as lts
-use Rattle.insertion.proofs.counts.given_count.Reads as given-count-reads
-use Rattle.insertion.proofs.start.out_room.Reads as out-room-reads
-use Rattle.knots.proofs.curve.formed_refusal.Reads as formed-refusal-reads
 
 out-room-requires : tie.Need-out-room-requires
 out-room-requires c κs = search needs

@@ -1,7 +1,5 @@
-use mathlib.Core.Path.{_≡_, sym, _∙_, ap}
-use native.Mathlib.Omega.{arith}
+use mathlib.Core.Path.{sym, _∙_, ap}
 use denote.Ref.{now}
-use lib.ListN.{length}
 use Rattle.knots.specs.Clear.{zeros}
 use Rattle.knots.specs.declared.refusal.Refusal.{Refusal}
 use Rattle.insertion.specs.Work.{timesOutcome}

@@ -1,18 +1,13 @@
-use mathlib.Core.Path.{_≡_, sym, _∙_, ap, subst}
-use mathlib.Core.List.{List}
-use mathlib.Core.Bool.{true}
+use mathlib.Core.Path.{sym, _∙_, ap}
 use Prim.Native.Nat.{_/_}
-use native.Mathlib.Omega.{arith}
 use denote.Ref.{now}
 use lib.ListN.{length, length-replicate}
-use lib.Ieee.{Float}
 use Rattle.doubles.specs.Value.{zero+}
 use Rattle.knots.specs.Clear.{zeros}
 use Rattle.knots.specs.declared.refusal.Refusal.{Refusal}
 use Rattle.evaluate.specs.Shape.{roomRefusal}
 use Rattle.evaluate.proofs.Steps.{room-open}
 use Rattle.insertion.specs.Work.{workRoom, layOutcome}
-use Rattle.insertion.specs.Passes.{CurveIn}
 use Rattle.insertion.proofs.Forming.{given-room}
 use Rattle.insertion.proofs.Working.{work-open, ends-refused, ends-formed, lay-short, lay-room, lay-fits, cleared-curve}
 use borrow.Author.Needs.{needs}

@@ -1,14 +1,9 @@
-use mathlib.Core.Path.{_≡_, refl, sym, _∙_, ap, subst}
-use mathlib.Core.Bool.{true}
-use Prim.Native.Nat.{_*_, _≤_}
+use mathlib.Core.Path.{_∙_, ap}
 use native.Mathlib.Omega.{arith}
 use denote.Ref.{now}
-use lib.ListN.{length}
 use borrow.Author.Tests.{not-true, not-false}
 use Rattle.knots.specs.Clear.{zeros}
 use Rattle.insertion.specs.Control.{vectorOf}
-use Rattle.insertion.specs.Work.{controls}
-use Rattle.insertion.specs.Passes.{LiftDone}
 use Rattle.insertion.proofs.Working.{lift-short, lift-zeros, lift-19, lift-none, lift-run, lift-moved, lift-none-at, positive}
 use borrow.Author.Needs.{needs}
 use Rattle.insertion.proofs.work.lift_in.Statement.{statement}

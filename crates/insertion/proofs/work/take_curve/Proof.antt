@@ -1,8 +1,7 @@
-use mathlib.Core.Path.{_≡_, sym, _∙_, ap}
-use Prim.Native.Nat.{_+_, _*_, _≤_}
+use mathlib.Core.Path.{sym, _∙_, ap}
 use native.Mathlib.Omega.{arith}
 use denote.Ref.{now}
-use lib.ListN.{length, drop}
+use lib.ListN.{length}
 use Rattle.knots.specs.declared.refusal.Refusal.{Refusal}
 use Rattle.evaluate.proofs.Overlays.{left-refused, left-answered}
 use Rattle.insertion.proofs.Starting.{out-open}

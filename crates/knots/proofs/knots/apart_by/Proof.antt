@@ -12,8 +12,6 @@ use lib.Ieee.{le}
 use Rattle.knots.specs.Knots.{apart}
 use Rattle.knots.proofs.knots.apart_by.Statement.{statement}
 use Rattle.knots.proofs.knots.apart_by.Tie as tie
-use Rattle.knots.proofs.knots.apart_by.Reads as reads
-use Rattle.knots.proofs.knots.apart_by.Lts as lts
 
 abbrev Inv-loop : tie.InvT-loop
 Inv-loop xs gap end fine₀ i₀ fine i = (i ≤ end) × (end ≡ length xs - gap) × (fine ≡ allBelow (λ k. not (le (at xs (k + gap)) (at xs k))) i)

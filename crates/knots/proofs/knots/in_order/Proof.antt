@@ -12,8 +12,6 @@ use lib.Ieee.{lt}
 use Rattle.knots.specs.Knots.{inOrder}
 use Rattle.knots.proofs.knots.in_order.Statement.{statement}
 use Rattle.knots.proofs.knots.in_order.Tie as tie
-use Rattle.knots.proofs.knots.in_order.Reads as reads
-use Rattle.knots.proofs.knots.in_order.Lts as lts
 
 abbrev Inv-loop : tie.InvT-loop
 Inv-loop xs end fine₀ i₀ fine i = (i ≤ end) × (end ≡ length xs - 1) × (fine ≡ allBelow (λ k. not (lt (at xs (k + 1)) (at xs k))) i)

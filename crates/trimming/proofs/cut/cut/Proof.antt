@@ -1,6 +1,4 @@
-use mathlib.Core.Path.{_≡_, sym, _∙_, ap}
-use mathlib.Core.List.{List}
-use Prim.Native.Nat.{_+_, _*_}
+use mathlib.Core.Path.{_∙_}
 use native.Mathlib.Omega.{arith}
 use denote.Ref.{now}
 use lib.ListN.{length}
@@ -9,10 +7,6 @@ use Rattle.insertion.proofs.Working.{front-is}
 use borrow.Author.Needs.{needs}
 use Rattle.trimming.proofs.cut.cut.Statement.{statement}
 use Rattle.trimming.proofs.cut.cut.Tie as tie
-use Rattle.trimming.proofs.cut.cut.Reads as reads
-use Rattle.trimming.proofs.cut.cut.Lts as lts
-use Rattle.insertion.proofs.work.front_refusal.Reads as front-refusal-reads
-use Rattle.insertion.proofs.work.take_curve.Reads as take-curve-reads
 
 take-curve-requires : tie.Need-take-curve-requires
 take-curve-requires c κs = search needs

@@ -1,8 +1,6 @@
-use mathlib.Core.Path.{_≡_, sym, _∙_, ap, ap₂}
-use Prim.Native.Nat.{_+_, _-_, _≤_}
+use Prim.Native.Nat.{_-_}
 use native.Mathlib.Omega.{arith}
 use denote.Ref.{now}
-use Rattle.insertion.specs.Counts.{belowOf, missingOf}
 use Rattle.trimming.specs.Trim.{keptOf}
 use Rattle.trimming.proofs.Ranges.{below-long}
 use borrow.Author.Needs.{needs}

@@ -1,10 +1,8 @@
-use mathlib.Core.Path.{_≡_, sym, _∙_, ap, ap₂}
-use Prim.Native.Nat.{_+_, _-_, _≤_}
+use mathlib.Core.Path.{sym, _∙_, ap, ap₂}
+use Prim.Native.Nat.{_+_, _-_}
 use native.Mathlib.Omega.{arith}
 use denote.Ref.{now}
 use borrow.Author.Tests.{not-true, not-false}
-use lib.ListN.{length}
-use Rattle.insertion.specs.Counts.{belowOf, missingOf}
 use Rattle.insertion.specs.Start.{outRoom, scratchRoom}
 use Rattle.trimming.proofs.Ranges.{range-order, range-15, range-out, range-scratch}
 use borrow.Author.Needs.{needs}
