@@ -1,18 +1,17 @@
 -- The rows of `bound_spans`: a nonempty span is the first that contains its own closed range, so its row is what `bound_curve` answers; and each turn of the loop stores one more.
 -- Assumes nothing.
 use Prim.Native.Nat.{ℕ, zero, suc, _+_, _-_, _*_, _≤_, _<_}
-use mathlib.Core.Bool.{Bool, true, false, cond, _&&_}
+use mathlib.Core.Bool.{Bool, true, false, cond}
 use mathlib.Core.Path.{_≡_, refl, sym, _∙_, ap, ap₂, subst}
 use mathlib.Core.Logic.{_⊎_, inl, inr}
 use mathlib.Core.List.{List, [], _∷_, _++_, append-assoc, append-nil}
 use native.Mathlib.Omega.{arith}
 use native.Mathlib.Nat.{eq-or-lt-of-le, add-zero, add-suc}
 use native.Mathlib.Numerals.{add-one}
-use lib.ListN.{length, drop, replicate, length-append, length-replicate}
+use lib.ListN.{length, replicate, length-append, length-replicate}
 use lib.Seq.{sets}
 use lib.Ieee.{Float, lt, le}
 use lib.Ieee.Scale.{finite}
-use lib.Dec.{T}
 use Rattle.exact.specs.Rational.{_<q_}
 use Rattle.exact.proofs.Field.{≤-refl, ≤-trans, not-both}
 use Rattle.doubles.specs.Run.{at, valAt}
@@ -23,27 +22,25 @@ use Rattle.doubles.proofs.Order.{finite-number, val-leq, not-le}
 use Rattle.knots.specs.Knots.{ValidKnots}
 use Rattle.knots.specs.Span.{nonempty}
 use Rattle.knots.specs.Clear.{zeros}
-use Rattle.knots.specs.Curve.{countOf, curveRefusal, ValidCurve}
+use Rattle.knots.specs.Curve.{countOf, ValidCurve}
 use Rattle.knots.specs.declared.refusal.Refusal.{Refusal}
-use Rattle.knots.proofs.Refusals.{stop, skip, orElse-none}
-use Rattle.knots.proofs.Below.{and-left, and-right}
-use Rattle.knots.proofs.Curves.{valid-curve, curve-not-refused, none-long}
+use Rattle.knots.proofs.Refusals.{stop, skip}
+use Rattle.knots.proofs.Below.{and-right}
+use Rattle.knots.proofs.Curves.{curve-not-refused, none-long}
 use Rattle.knots.proofs.Fractions.{knots-of}
-use Rattle.evaluate.specs.Shape.{degreeRefusal, roomRefusal}
-use Rattle.evaluate.proofs.Steps.{room-open}
-use Rattle.bounds.specs.Range.{inSpan, firstFrom, spanOver, takenSpan, rangeRefusal}
-use Rattle.bounds.specs.Curve.{unless, spanBound, boundOf, boundAt}
-use Rattle.bounds.specs.Answer.{boundedOf}
+use Rattle.bounds.specs.Range.{inSpan, firstFrom, spanOver, takenSpan}
+use Rattle.bounds.specs.Curve.{boundOf, boundAt}
 use Rattle.interval.specs.declared.Interval.{Interval}
 use Rattle.bounds.specs.declared.answer.Triple.{Triple}
 use Rattle.bounds.specs.declared.answer.NurbsBounds.{NurbsBounds}
 use Rattle.bounds.specs.declared.answer.Bounded.{Bounded}
+use Rattle.bounds.specs.Holds.{HoldsOn}
 use Rattle.bounds.proofs.SpanIn.{taken-had}
-use Rattle.many.specs.Rows.{rowsBy, tableRefusal, roomsRefusal}
-use Rattle.many.specs.Spans.{spansFrom, spansOf, boxRow, marksOf, boxOf, markAt, boxAt, spansStart, SpansMeet}
-use Rattle.many.specs.declared.answer.ManyAnswer.the-variants as Many
+use Rattle.bounds.proofs.CurveIn.{both-hold}
+use Rattle.many.specs.Rows.{tableRefusal, roomsRefusal}
+use Rattle.many.specs.Spans.{spansFrom, spansOf, boxRow, marksOf, boxOf, markAt, boxAt, spansStart}
 use Rattle.many.specs.declared.boxes.BoxRow.{BoxRow}
-use Rattle.many.proofs.Rows.{InRows, in-start, in-more, in-end, left-refused}
+use Rattle.many.proofs.Rows.{InRows, in-start, in-more, rooms-open}
 
 -- ---- a row
 abbrev pub all-of : Interval → NurbsBounds
@@ -256,16 +253,15 @@ module _ (p : ℕ) (ks ps : List Float) (g : Bool) (ws : List Float) (v : ValidC
           subst (λ (k : ℕ). InRows (boxAt p ks ps g ws) 18 b₀ (spansOf p ks ps) (k * 18) b₁) c (subst (λ (k : ℕ). InRows (boxAt p ks ps g ws) 18 b₀ (spansFrom (k - p) ks p) (i * 18) b₁) e (I .boxes)),
         )
 
--- ---- the whole call
+-- ---- the box of each row holds the point
+pub row-holds : (p : ℕ) (ks ps : List Float) (g : Bool) (ws : List Float) → ValidCurve p ks ps g ws → (s : ℕ) → p ≤ s → s < countOf ps → nonempty ks s ≡ true
+    → HoldsOn p s ks ps g ws (at ks s) (at ks (s + 1)) (boundOf p ks ps g ws (at ks s) (at ks (s + 1)))
+row-holds p ks ps g ws v s f b h =
+    subst (λ (k : ℕ). HoldsOn p k ks ps g ws (at ks s) (at ks (s + 1)) (boundOf p ks ps g ws (at ks s) (at ks (s + 1)))) (own-first p (countOf ps) ks (v .knots) s f b h)
+    (both-hold p ks ps ws g (at ks s) (at ks (s + 1)) (boundOf p ks ps g ws (at ks s) (at ks (s + 1))) refl .1)
+
+-- ---- before and after the loop
 module _ (p : ℕ) (ks ps : List Float) (g : Bool) (ws : List Float) where
-  pub table-open : tableRefusal p ks ps g ws .number ≡ 0 → ValidCurve p ks ps g ws
-  unfolding tableRefusal
-  table-open h = valid-curve p ks ps g ws (orElse-none (curveRefusal p ks ps g ws) (degreeRefusal p) h .0)
-
-  pub rooms-open : (a m b n : ℕ) → roomsRefusal a m b n .number ≡ 0 → (m ≤ a) × (n ≤ b)
-  unfolding roomsRefusal
-  rooms-open a m b n h = let z = orElse-none (roomRefusal a m) (roomRefusal b n) h in (room-open a m (z .0), room-open b n (z .1))
-
   -- there are no more rows than numbers in a run
   pub rows-few : ValidCurve p ks ps g ws → length (spansOf p ks ps) ≤ 1048576
   rows-few v =
@@ -274,44 +270,19 @@ module _ (p : ℕ) (ks ps : List Float) (g : Bool) (ws : List Float) where
       let c = v .triples in
       omega (arith, a, b, c)
 
-  -- the runs were cleared before: their lengths are a and b
-  module _ (a b : ℕ) (m₀ : List ℕ) (b₀ : List Float) (cm : m₀ ≡ replicate a 0) (cb : b₀ ≡ zeros b) where
-    refused-by : (r : Refusal) → r ≡ spansStart p ks ps g ws a b → (r .number ≡ 0 → ⊥) → SpansMeet p ks ps g ws a b m₀ b₀ (Many.Refused r)
-    refused-by r s h =
-        let k : spansStart p ks ps g ws a b .number ≡ 0 → ⊥ = λ q. h (ap (λ (x : Refusal). x .number) s ∙ q) in
-        record {
-          answered = simp (stop s h) (ap Many.Refused s);
-          marks = left-refused 0 (spansStart p ks ps g ws a b) a _ m₀ cm k;
-          boxes = left-refused zero+ (spansStart p ks ps g ws a b) b _ b₀ cb k;
-        }
+  pub table-stops : (a b : ℕ) (r : Refusal) → r ≡ tableRefusal p ks ps g ws → (r .number ≡ 0 → ⊥) → r ≡ spansStart p ks ps g ws a b
+  unfolding spansStart
+  table-stops a b r e h = e ∙ sym (simp (stop e h))
 
-    pub table-refused : (r : Refusal) → r ≡ tableRefusal p ks ps g ws → (r .number ≡ 0 → ⊥) → SpansMeet p ks ps g ws a b m₀ b₀ (Many.Refused r)
-    unfolding spansStart
-    table-refused r e h = refused-by r (e ∙ sym (simp (stop e h))) h
+  -- lent runs by their own lengths
+  pub rooms-stop : (a b : ℕ) (m₀ : List ℕ) (b₀ : List Float) → m₀ ≡ replicate a 0 → b₀ ≡ zeros b → (t : Refusal) → t ≡ tableRefusal p ks ps g ws → t .number ≡ 0
+      → (n : ℕ) → n ≡ length (spansOf p ks ps) → (r : Refusal) → r ≡ roomsRefusal (length m₀) (n * 2) (length b₀) (n * 18) → r ≡ spansStart p ks ps g ws a b
+  unfolding spansStart
+  rooms-stop a b m₀ b₀ cm cb t et ht n en r er =
+      er ∙ (ap₂ (λ (x y : ℕ). roomsRefusal x (n * 2) y (n * 18)) (ap length cm ∙ length-replicate a 0) (ap length cb ∙ length-replicate b zero+)
+      ∙ (ap (λ (k : ℕ). roomsRefusal a (k * 2) b (k * 18)) en ∙ sym (simp (skip et ht))))
 
-    module _ (t : Refusal) (et : t ≡ tableRefusal p ks ps g ws) (ht : t .number ≡ 0) (n : ℕ) (en : n ≡ length (spansOf p ks ps)) (r : Refusal) (er : r ≡ roomsRefusal (length m₀) (n * 2) (length b₀) (n * 18)) where
-      start-is : r ≡ spansStart p ks ps g ws a b
-      unfolding spansStart
-      start-is =
-          er ∙ (ap₂ (λ (x y : ℕ). roomsRefusal x (n * 2) y (n * 18)) (ap length cm ∙ length-replicate a 0) (ap length cb ∙ length-replicate b zero+)
-          ∙ (ap (λ (k : ℕ). roomsRefusal a (k * 2) b (k * 18)) en ∙ sym (simp (skip et ht))))
-
-      pub rooms-refused : (r .number ≡ 0 → ⊥) → SpansMeet p ks ps g ws a b m₀ b₀ (Many.Refused r)
-      rooms-refused h = refused-by r start-is h
-
-      pub spans-fits : r .number ≡ 0 → (length (spansOf p ks ps) * 2 ≤ length m₀) × (length (spansOf p ks ps) * 18 ≤ length b₀)
-      spans-fits h =
-          let z = rooms-open (length m₀) (n * 2) (length b₀) (n * 18) (ap (λ (x : Refusal). x .number) (sym er) ∙ h) in
-          (omega (arith, z .0, en), omega (arith, z .1, en))
-
-      pub spans-answered : r .number ≡ 0 → (m₁ : List ℕ) (b₁ : List Float)
-          → m₁ ≡ rowsBy (markAt p ks ps g ws) (spansOf p ks ps) ++ drop (length (spansOf p ks ps) * 2) m₀ → b₁ ≡ rowsBy (boxAt p ks ps g ws) (spansOf p ks ps) ++ drop (length (spansOf p ks ps) * 18) b₀
-          → SpansMeet p ks ps g ws a b m₁ b₁ (Many.Rows n)
-      spans-answered h m₁ b₁ em eb =
-          let s = start-is in
-          let k : spansStart p ks ps g ws a b .number ≡ 0 = ap (λ (x : Refusal). x .number) (sym s) ∙ h in
-          record {
-            answered = simp (skip s h) (ap Many.Rows en);
-            marks = in-end (markAt p ks ps g ws) 2 (λ s. refl) m₀ (spansOf p ks ps) (length (spansOf p ks ps) * 2) m₁ 0 a (spansStart p ks ps g ws a b) refl em cm k;
-            boxes = in-end (boxAt p ks ps g ws) 18 (λ s. refl) b₀ (spansOf p ks ps) (length (spansOf p ks ps) * 18) b₁ zero+ b (spansStart p ks ps g ws a b) refl eb cb k;
-          }
+  pub spans-fits : (a b n : ℕ) → n ≡ length (spansOf p ks ps) → (r : Refusal) → r ≡ roomsRefusal a (n * 2) b (n * 18) → r .number ≡ 0 → (length (spansOf p ks ps) * 2 ≤ a) × (length (spansOf p ks ps) * 18 ≤ b)
+  spans-fits a b n en r er h =
+      let z = rooms-open a (n * 2) b (n * 18) (ap (λ (x : Refusal). x .number) (sym er) ∙ h) in
+      (omega (arith, z .0, en), omega (arith, z .1, en))

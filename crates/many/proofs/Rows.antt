@@ -1,15 +1,24 @@
 -- Rows stored one after the other at the front of a run, at any type: each turn of a loop stores one more.
 -- Assumes nothing.
 use Prim.Native.Nat.{ℕ, zero, suc, _+_, _-_, _*_, _≤_}
-use mathlib.Core.Path.{_≡_, refl, sym, _∙_, ap, ap₂, subst}
+use mathlib.Core.Bool.{Bool}
+use mathlib.Core.Path.{_≡_, refl, sym, _∙_, ap, ap₂}
 use mathlib.Core.List.{List, [], _∷_, _++_, append-assoc, append-nil}
 use native.Mathlib.Omega.{arith}
-use native.Mathlib.Nat.{sub-zero, zero-sub, suc-sub-suc}
+use native.Mathlib.Nat.{mul-le-mul, sub-zero, zero-sub, suc-sub-suc}
 use lib.ListN.{length, set, take, drop, replicate, length-append}
 use lib.Seq.{sets, sets-eq, length-sets, take-at, drop-append-add, drop-drop}
 use Rattle.knots.specs.declared.refusal.Refusal.{Refusal}
-use Rattle.knots.proofs.Refusals.{stop, skip}
-use Rattle.many.specs.Rows.{rowsBy, left}
+use Rattle.knots.proofs.Refusals.{stop, skip, orElse-none}
+use lib.Ieee.{Float}
+use Rattle.doubles.specs.Value.{zero+}
+use Rattle.knots.specs.Clear.{zeros}
+use Rattle.knots.specs.Curve.{curveRefusal, ValidCurve}
+use Rattle.knots.proofs.Curves.{valid-curve}
+use Rattle.evaluate.specs.Shape.{degreeRefusal, roomRefusal}
+use Rattle.evaluate.proofs.Steps.{room-open}
+use Rattle.many.specs.Rows.{rowsBy, left, RowsMeet, tableRefusal, roomsRefusal}
+use Rattle.many.specs.declared.answer.ManyAnswer.the-variants.{Rows, Refused}
 
 module _ {Y : Type 0} where
   -- two runs of stores, one behind the other
@@ -101,6 +110,37 @@ module _ {X Y : Type 0} (f : X → List Y) (w : ℕ) (fits : (x : X) → length 
       let m : length (rowsBy f xs) ≡ k = length-rows f w fits xs ∙ sym p in
       simp (skip {r = r} {a = r} refl h) (e ∙ ap (λ (l : List Y). rowsBy f xs ++ l) (ap (drop k) c ∙ (drop-replicate k n z ∙ ap (λ (a : ℕ). replicate (n - a) z) (sym m))))
 
-pub left-refused : {Y : Type 0} (z : Y) (r : Refusal) (n : ℕ) (l now : List Y) → now ≡ replicate n z → (r .number ≡ 0 → ⊥) → now ≡ left z r n l
-unfolding left
-left-refused z r n l now e h = simp (stop {r = r} {a = r} refl h) e
+-- ---- the whole call: both runs were cleared before, so their lengths are a and b
+module _ {X : Type 0} (f : X → List ℕ) (u : ℕ) (fits : (x : X) → length (f x) ≡ u) (h : X → List Float) (w : ℕ) (fits′ : (x : X) → length (h x) ≡ w) (xs : List X)
+    (a b : ℕ) (n₀ : List ℕ) (r₀ : List Float) (cn : n₀ ≡ replicate a 0) (cr : r₀ ≡ zeros b) (s r : Refusal) (e : r ≡ s) where
+  same : s .number ≡ r .number
+  same = ap (λ (x : Refusal). x .number) (sym e)
+
+  pub meets-refused : (r .number ≡ 0 → ⊥) → RowsMeet s xs f h a b n₀ r₀ (Refused r)
+  unfolding left
+  meets-refused q = record {
+    answered = simp (stop e q) (ap Refused e);
+    numbers = simp (stop e q) cn;
+    rows = simp (stop e q) cr;
+  }
+
+  pub meets-answered : r .number ≡ 0 → (m k j : ℕ) (n₁ : List ℕ) (r₁ : List Float) → m ≡ length xs → k ≡ length xs * u → j ≡ length xs * w
+      → n₁ ≡ rowsBy f xs ++ drop k n₀ → r₁ ≡ rowsBy h xs ++ drop j r₀ → RowsMeet s xs f h a b n₁ r₁ (Rows m)
+  meets-answered q m k j n₁ r₁ em ek ej en er = record {
+    answered = simp (skip e q) (ap Rows em);
+    numbers = in-end f u fits n₀ xs k n₁ 0 a s ek en cn (same ∙ q);
+    rows = in-end h w fits′ r₀ xs j r₁ zero+ b s ej er cr (same ∙ q);
+  }
+
+-- ---- refusals that are none
+pub table-open : (p : ℕ) (ks ps : List Float) (g : Bool) (ws : List Float) → tableRefusal p ks ps g ws .number ≡ 0 → ValidCurve p ks ps g ws
+unfolding tableRefusal
+table-open p ks ps g ws h = valid-curve p ks ps g ws (orElse-none (curveRefusal p ks ps g ws) (degreeRefusal p) h .0)
+
+pub rooms-open : (a m b n : ℕ) → roomsRefusal a m b n .number ≡ 0 → (m ≤ a) × (n ≤ b)
+unfolding roomsRefusal
+rooms-open a m b n h = let z = orElse-none (roomRefusal a m) (roomRefusal b n) h in (room-open a m (z .0), room-open b n (z .1))
+
+-- a product that cannot wrap
+pub small-product : (n w : ℕ) → n ≤ 1048576 → w ≤ 18 → n * w ≤ 1048576 * 18
+small-product n w a b = mul-le-mul a b

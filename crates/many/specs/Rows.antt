@@ -2,10 +2,12 @@
 -- Assumes nothing.
 use Prim.Native.Nat.{ℕ, _-_}
 use mathlib.Core.Bool.{Bool, cond}
+use mathlib.Core.Path.{_≡_}
 use mathlib.Core.List.{List, [], _∷_, _++_}
 use lib.ListN.{length, replicate}
 use lib.Dec.{eqb}
 use lib.Ieee.{Float}
+use Rattle.doubles.specs.Value.{zero+}
 use Rattle.knots.specs.Refusal.{orElse}
 use Rattle.knots.specs.Curve.{curveRefusal}
 use Rattle.knots.specs.declared.refusal.Refusal.{Refusal}
@@ -28,6 +30,12 @@ left z r n l = cond (eqb (r .number) 0) (l ++ replicate (n - length l) z) (repli
 -- how many rows, or the refusal
 abbrev pub answer : Refusal → ℕ → ManyAnswer
 answer r n = cond (eqb (r .number) 0) (Rows n) (Refused r)
+
+-- the promise of a call: rows of xs, by f and h, in lent runs of a and b numbers that hold ns and rs afterwards; r is the refusal before any row
+pub record RowsMeet {X : Type 0} (r : Refusal) (xs : List X) (f : X → List ℕ) (h : X → List Float) (a b : ℕ) (ns : List ℕ) (rs : List Float) (A : ManyAnswer) : Type 0 where
+  pub answered : A ≡ answer r (length xs)
+  pub numbers : ns ≡ left 0 r a (rowsBy f xs)
+  pub rows : rs ≡ left zero+ r b (rowsBy h xs)
 
 -- ---- refusals before any row
 -- the curve's, then 31

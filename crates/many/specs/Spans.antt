@@ -2,7 +2,6 @@
 -- Assumes nothing.
 use Prim.Native.Nat.{ℕ, zero, suc, _+_, _-_, _*_}
 use mathlib.Core.Bool.{Bool, cond}
-use mathlib.Core.Path.{_≡_}
 use mathlib.Core.List.{List, [], _∷_, _++_}
 use lib.ListN.{length}
 use lib.Ieee.{Float}
@@ -18,7 +17,7 @@ use Rattle.bounds.specs.declared.answer.Triple.{Triple}
 use Rattle.bounds.specs.declared.answer.NurbsBounds.{NurbsBounds}
 use Rattle.bounds.specs.declared.answer.Bounded.{Bounded}
 use Rattle.bounds.specs.declared.answer.Bounded.the-variants.{Are, Refused}
-use Rattle.many.specs.Rows.{rowsBy, left, answer, tableRefusal, roomsRefusal, sixOf}
+use Rattle.many.specs.Rows.{RowsMeet, tableRefusal, roomsRefusal, sixOf}
 use Rattle.many.specs.declared.answer.ManyAnswer.{ManyAnswer}
 use Rattle.many.specs.declared.boxes.BoxRow.{BoxRow}
 
@@ -66,8 +65,6 @@ module _ (p : ℕ) (ks ps : List Float) (g : Bool) (ws : List Float) where
   unfoldable pub spansStart : ℕ → ℕ → Refusal
   spansStart a b = let n = length (spansOf p ks ps) in orElse (tableRefusal p ks ps g ws) (roomsRefusal a (n * 2) b (n * 18))
 
--- the promise of `bound_spans`: lent runs of a and b numbers hold ms and bs afterwards
-pub record SpansMeet (p : ℕ) (ks ps : List Float) (g : Bool) (ws : List Float) (a b : ℕ) (ms : List ℕ) (bs : List Float) (r : ManyAnswer) : Type 0 where
-  pub answered : r ≡ answer (spansStart p ks ps g ws a b) (length (spansOf p ks ps))
-  pub marks : ms ≡ left 0 (spansStart p ks ps g ws a b) a (rowsBy (markAt p ks ps g ws) (spansOf p ks ps))
-  pub boxes : bs ≡ left zero+ (spansStart p ks ps g ws a b) b (rowsBy (boxAt p ks ps g ws) (spansOf p ks ps))
+  -- the promise
+  abbrev pub SpansMeet : ℕ → ℕ → List ℕ → List Float → ManyAnswer → Type 0
+  SpansMeet a b = RowsMeet (spansStart a b) (spansOf p ks ps) markAt boxAt a b

@@ -1,40 +1,27 @@
 // A curve at many parameters.
 use crate::answer::ManyAnswer;
-use crate::start::rooms_refusal;
-use crate::start::table_refusal;
+use crate::start::points_start;
 use crate::store::clear_numbers;
+use crate::store::origin;
 use crate::store::store_vector;
 use evaluate::curve::CurveAnswer;
 use evaluate::curve::eval_at;
 use evaluate::vector::Vector;
 use knots::clear::clear;
-use knots::limits::over_long;
-use knots::refusal::Refusal;
-use knots::refusal::refuse;
 ghost use mathlib.Core.Path.{_≡_};
 ghost use mathlib.Core.List.{_++_};
 ghost use Prim.Native.Nat.{_+_, _*_, _<_, _≤_};
-ghost use lib.ListN.{length, drop};
+ghost use lib.ListN.{length, drop, set};
 ghost use lib.Seq.{sets};
 ghost use Rattle.knots.specs.Curve.{ValidCurve};
 ghost use Rattle.many.specs.Rows.{rowsBy};
-ghost use Rattle.many.specs.Points.{origin as originOf, pointRow, numberOf, numbersOf, numberAt, numbersAt, pointsStart, PointsMeet};
+ghost use Rattle.many.specs.Points.{pointRow, numbersOf, numberAt, numbersAt, PointsMeet};
 
 // What is stored of one answer: the number of its refusal or 0, then the point and the derivative.
 struct PointRow {
     number: u32,
     point: Vector,
     d1: Vector,
-}
-
-fn origin() -> Vector
-    ensures { λ r. ⌜ r ≡ originOf ⌝ }
-{
-    Vector {
-        x: 0.0,
-        y: 0.0,
-        z: 0.0,
-    }
 }
 
 fn row_of(a: CurveAnswer) -> PointRow
@@ -63,7 +50,7 @@ fn put_row(numbers: &mut [u32], rows: &mut [f64], i: usize, row: PointRow)
     requires { ⌜ i < length (now numbers) ⌝ }
     requires { ⌜ i * 6 + 5 < length (now rows) ⌝ }
     requires { ⌜ i < 1048576 ⌝ }
-    ensures { λ _. ⌜ now (numbers .exit) ≡ sets (now (numbers .entry)) i (numberOf row) ⌝ }
+    ensures { λ _. ⌜ now (numbers .exit) ≡ set (now (numbers .entry)) i (row .number) ⌝ }
     ensures { λ _. ⌜ now (rows .exit) ≡ sets (now (rows .entry)) (i * 6) (numbersOf row) ⌝ }
 {
     let at = i * 6;
@@ -98,30 +85,6 @@ fn eval_each(
     }
 }
 
-// The refusal before anything is evaluated: 30 for too many parameters, the curve's, 31, 30 for lent runs of a and b numbers.
-fn points_start(
-    degree: usize,
-    knots: &[f64],
-    points: &[f64],
-    rational: bool,
-    weights: &[f64],
-    ts: &[f64],
-    a: usize,
-    b: usize,
-) -> Refusal
-    ensures { λ r. ⌜ r ≡ pointsStart degree (now (knots .entry)) (now (points .entry)) rational (now (weights .entry)) (now (ts .entry)) a b ⌝ }
-{
-    if over_long(true, ts) {
-        return refuse(30);
-    }
-    let table = table_refusal(degree, knots, points, rational, weights);
-    if table.number != 0 {
-        return table;
-    }
-    let n = ts.len();
-    rooms_refusal(a, n, b, n * 6)
-}
-
 // The point and the first derivative at each parameter, one validation for all: six numbers a parameter, and the number of its own refusal or 0.
 pub fn eval_many(
     degree: usize,
@@ -144,6 +107,7 @@ pub fn eval_many(
         rational,
         weights,
         ts,
+        6,
         numbers.len(),
         rows.len(),
     );

@@ -7,6 +7,7 @@ ghost use Prim.Native.Nat.{_+_, _<_};
 ghost use lib.ListN.{length, replicate};
 ghost use lib.Seq.{sets};
 ghost use Rattle.many.specs.Rows.{threeOf, twoOf, sixOf};
+ghost use Rattle.many.specs.Points.{origin as originOf};
 
 // A lent run of whole numbers is set to 0.
 pub fn clear_numbers(out: &mut [u32])
@@ -16,6 +17,16 @@ pub fn clear_numbers(out: &mut [u32])
     while i < out.len() {
         out[i] = 0;
         i += 1;
+    }
+}
+
+pub fn origin() -> Vector
+    ensures { λ r. ⌜ r ≡ originOf ⌝ }
+{
+    Vector {
+        x: 0.0,
+        y: 0.0,
+        z: 0.0,
     }
 }
 

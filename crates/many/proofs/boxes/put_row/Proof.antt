@@ -1,3 +1,5 @@
+-- `many::boxes::put_row` meets its contract.
+-- Assumes nothing.
 use denote.Ref.{now}
 use mathlib.Core.Path.{refl, _∙_, ap}
 use mathlib.Core.List.{List}
@@ -10,71 +12,52 @@ use Rattle.many.specs.Rows.{sixOf}
 use borrow.Author.Needs.{needs}
 use Rattle.many.proofs.boxes.put_row.Statement.{statement}
 use Rattle.many.proofs.boxes.put_row.Tie as tie
-use Rattle.many.proofs.boxes.put_row.Reads as reads
-use Rattle.many.proofs.boxes.put_row.Lts as lts
-use Rattle.many.proofs.store.store_triple.Reads as store-triple-reads
 
--- src/boxes.rt:61:13
 mul-m : tie.Need-mul-m
 mul-m c = search needs
 
--- src/boxes.rt:62:16
 cast-marks : tie.Need-cast-marks
 cast-marks c = search needs
 
--- src/boxes.rt:62:5
 mul-marks : tie.Need-mul-marks
 mul-marks c = search needs
 
--- src/boxes.rt:62:5
 slice-write-marks : tie.Need-slice-write-marks
 slice-write-marks c = search needs
 
--- src/boxes.rt:63:11
 add-marks : tie.Need-add-marks
 add-marks c = search needs
 
--- src/boxes.rt:63:5
 mul-marks-2 : tie.Need-mul-marks-2
 mul-marks-2 c = search needs
 
--- src/boxes.rt:63:5
 slice-write-marks-2 : tie.Need-slice-write-marks-2
 slice-write-marks-2 c = search needs
 
--- src/boxes.rt:64:14
 mul-at : tie.Need-mul-at
 mul-at c = search needs
 
--- src/boxes.rt:66:5
 store-triple-requires : tie.Need-store-triple-requires
 store-triple-requires c κs = search needs
 
--- src/boxes.rt:67:25
 add-store-triple : tie.Need-add-store-triple
 add-store-triple c = search needs
 
--- src/boxes.rt:67:5
 store-triple-requires-2 : tie.Need-store-triple-requires-2
 store-triple-requires-2 c κs = search needs
 
--- src/boxes.rt:68:25
 add-store-triple-2 : tie.Need-add-store-triple-2
 add-store-triple-2 c = search needs
 
--- src/boxes.rt:68:5
 store-triple-requires-3 : tie.Need-store-triple-requires-3
 store-triple-requires-3 c κs = search needs
 
--- src/boxes.rt:53:1
 same-length : tie.Need-same-length
 same-length c = search needs
 
--- src/boxes.rt:53:1
 same-length-2 : tie.Need-same-length-2
 same-length-2 c = search needs
 
--- src/boxes.rt:53:1
 returns : tie.Need-returns
 returns c = (stored-two (now (c .before .before .before .before .before .before .before .before .before .before .before .before .before .before .before .args .marks)) (c .before .before .before .before .before .before .before .before .before .before .before .before .before .before .before .args .i * 2) (c .before .before .before .before .before .before .before .before .before .before .before .before .before .before .before .args .s) (c .before .before .before .before .before .before .before .before .before .before .before .before .before .before .before .args .row .number), c .before .before .store-triple3 .ensures ∙ (ap (λ (l : List Float). sets l (c .before .before .before .before .before .before .before .before .before .before .before .before .before .before .before .args .i * 18 + 12) (sixOf (c .before .before .before .before .before .before .before .before .before .before .before .before .before .before .before .args .row .bounds .dv))) (c .before .before .before .before .before .before .store-triple2 .ensures ∙ ap (λ (l : List Float). sets l (c .before .before .before .before .before .before .before .before .before .before .before .before .before .before .before .args .i * 18 + 6) (sixOf (c .before .before .before .before .before .before .before .before .before .before .before .before .before .before .before .args .row .bounds .du))) (c .before .before .before .before .before .before .before .before .before .before .store-triple .ensures)) ∙ sets-three (sixOf (c .before .before .before .before .before .before .before .before .before .before .before .before .before .before .before .args .row .bounds .point)) (sixOf (c .before .before .before .before .before .before .before .before .before .before .before .before .before .before .before .args .row .bounds .du)) (sixOf (c .before .before .before .before .before .before .before .before .before .before .before .before .before .before .before .args .row .bounds .dv)) (now (c .before .before .before .before .before .before .before .before .before .before .before .before .before .before .before .args .boxes)) (c .before .before .before .before .before .before .before .before .before .before .before .before .before .before .before .args .i * 18) (c .before .before .before .before .before .before .before .before .before .before .before .before .before .before .before .args .i * 18 + 6) (c .before .before .before .before .before .before .before .before .before .before .before .before .before .before .before .args .i * 18 + 12) refl (omega arith)))
 

@@ -1,3 +1,5 @@
+-- `many::points::put_row` meets its contract.
+-- Assumes nothing.
 use denote.Ref.{now}
 use mathlib.Core.Path.{refl, _∙_, ap}
 use mathlib.Core.List.{List}
@@ -9,43 +11,31 @@ use Rattle.many.specs.Rows.{threeOf}
 use borrow.Author.Needs.{needs}
 use Rattle.many.proofs.points.put_row.Statement.{statement}
 use Rattle.many.proofs.points.put_row.Tie as tie
-use Rattle.many.proofs.points.put_row.Reads as reads
-use Rattle.many.proofs.points.put_row.Lts as lts
-use Rattle.many.proofs.store.store_vector.Reads as store-vector-reads
 
--- src/points.rt:66:14
 mul-at : tie.Need-mul-at
 mul-at c = search needs
 
--- src/points.rt:67:5
 mul-numbers : tie.Need-mul-numbers
 mul-numbers c = search needs
 
--- src/points.rt:67:5
 slice-write-numbers : tie.Need-slice-write-numbers
 slice-write-numbers c = search needs
 
--- src/points.rt:68:5
 store-vector-requires : tie.Need-store-vector-requires
 store-vector-requires c κs = search needs
 
--- src/points.rt:69:24
 add-store-vector : tie.Need-add-store-vector
 add-store-vector c = search needs
 
--- src/points.rt:69:5
 store-vector-requires-2 : tie.Need-store-vector-requires-2
 store-vector-requires-2 c κs = search needs
 
--- src/points.rt:59:1
 same-length : tie.Need-same-length
 same-length c = search needs
 
--- src/points.rt:59:1
 same-length-2 : tie.Need-same-length-2
 same-length-2 c = search needs
 
--- src/points.rt:59:1
 returns : tie.Need-returns
 returns c = (refl, c .before .before .store-vector2 .ensures ∙ (ap (λ (l : List Float). sets l (c .before .before .before .before .before .before .before .before .before .before .args .i * 6 + 3) (threeOf (c .before .before .before .before .before .before .before .before .before .before .args .row .d1))) (c .before .before .before .before .before .before .store-vector .ensures) ∙ sets-more (threeOf (c .before .before .before .before .before .before .before .before .before .before .args .row .point)) (threeOf (c .before .before .before .before .before .before .before .before .before .before .args .row .d1)) (now (c .before .before .before .before .before .before .before .before .before .before .args .rows)) (c .before .before .before .before .before .before .before .before .before .before .args .i * 6) (c .before .before .before .before .before .before .before .before .before .before .args .i * 6 + 3) refl))
 

@@ -1,36 +1,29 @@
+-- `many::points::row_of` meets its contract.
+-- Assumes nothing.
 use mathlib.Core.Path.{_∙_, sym, ap, ap₂}
-use Rattle.many.specs.Points.{pointRow}
+use Rattle.many.specs.Points.{origin, pointRow}
 use Rattle.many.proofs.Evaluated.{bare}
 use borrow.Author.Needs.{needs}
 use Rattle.many.proofs.points.row_of.Statement.{statement}
 use Rattle.many.proofs.points.row_of.Tie as tie
-use Rattle.many.proofs.points.row_of.Reads as reads
-use Rattle.many.proofs.points.row_of.Lts as lts
-use Rattle.many.proofs.points.origin.Reads as origin-reads
 
--- src/points.rt:44:25
 enum-known-a : tie.Need-enum-known-a
 enum-known-a c = search needs
 
--- src/points.rt:53:30
 enum-known-a-2 : tie.Need-enum-known-a-2
 enum-known-a-2 c = search needs
 
--- src/points.rt:55:20
 origin-requires : tie.Need-origin-requires
 origin-requires c κs = search needs
 
--- src/points.rt:56:17
 origin-requires-2 : tie.Need-origin-requires-2
 origin-requires-2 c κs = search needs
 
--- src/points.rt:40:1
 returns : tie.Need-returns
 returns c = ap pointRow (sym (c .before .before .before .a .given .1))
 
--- src/points.rt:40:1
 returns-2 : tie.Need-returns-2
-returns-2 c = ap₂ (bare (c .before .before .before .a2 .given .0 .0 .number)) (c .before .origin .ensures) (c .origin2 .ensures) ∙ ap pointRow (sym (c .before .before .before .a2 .given .1))
+returns-2 c = (ap₂ (bare (c .before .before .before .a2 .given .0 .0 .number)) (c .before .origin .ensures) (c .origin2 .ensures)) ∙ ap pointRow (sym (c .before .before .before .a2 .given .1))
 
 pub row-of-spec : {M : Type 1} → statement M
 row-of-spec =

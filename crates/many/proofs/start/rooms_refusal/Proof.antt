@@ -1,26 +1,21 @@
+-- `many::start::rooms_refusal` meets its contract.
+-- Assumes nothing.
 use Rattle.knots.proofs.Refusals.{stop, skip}
 use Rattle.many.specs.Rows.{roomsRefusal}
 use borrow.Author.Needs.{needs}
 use Rattle.many.proofs.start.rooms_refusal.Statement.{statement}
 use Rattle.many.proofs.start.rooms_refusal.Tie as tie
-use Rattle.many.proofs.start.rooms_refusal.Reads as reads
-use Rattle.many.proofs.start.rooms_refusal.Lts as lts
-use Rattle.evaluate.proofs.shape.room_refusal.Reads as room-refusal-reads
 
--- src/start.rt:30:9
 room-refusal-requires : tie.Need-room-refusal-requires
 room-refusal-requires c κs = search needs
 
--- src/start.rt:32:9
 returns : tie.Need-returns
 unfolding roomsRefusal
 returns c = simp (stop (c .before .before .room-refusal .ensures) (c .if1 .taken)) (c .before .before .room-refusal .ensures)
 
--- src/start.rt:34:5
 room-refusal-requires-2 : tie.Need-room-refusal-requires-2
 room-refusal-requires-2 c κs = search needs
 
--- src/start.rt:27:1
 returns-2 : tie.Need-returns-2
 unfolding roomsRefusal
 returns-2 c = simp (skip (c .before .before .before .room-refusal .ensures) (c .before .if1 .left)) (c .room-refusal2 .ensures)

@@ -1,3 +1,5 @@
+-- `many::store::store_triple` meets its contract.
+-- Assumes nothing.
 use denote.Ref.{now}
 use mathlib.Core.Path.{refl, _∙_, ap}
 use mathlib.Core.List.{List}
@@ -10,35 +12,25 @@ use Rattle.many.specs.Rows.{twoOf}
 use borrow.Author.Needs.{needs}
 use Rattle.many.proofs.store.store_triple.Statement.{statement}
 use Rattle.many.proofs.store.store_triple.Tie as tie
-use Rattle.many.proofs.store.store_triple.Reads as reads
-use Rattle.many.proofs.store.store_triple.Lts as lts
-use Rattle.many.proofs.store.store_interval.Reads as store-interval-reads
 
--- src/store.rt:43:5
 store-interval-requires : tie.Need-store-interval-requires
 store-interval-requires c κs = search needs
 
--- src/store.rt:44:25
 add-store-interval : tie.Need-add-store-interval
 add-store-interval c = search needs
 
--- src/store.rt:44:5
 store-interval-requires-2 : tie.Need-store-interval-requires-2
 store-interval-requires-2 c κs = search needs
 
--- src/store.rt:45:25
 add-store-interval-2 : tie.Need-add-store-interval-2
 add-store-interval-2 c = search needs
 
--- src/store.rt:45:5
 store-interval-requires-3 : tie.Need-store-interval-requires-3
 store-interval-requires-3 c κs = search needs
 
--- src/store.rt:39:1
 same-length : tie.Need-same-length
 same-length c = search needs
 
--- src/store.rt:39:1
 returns : tie.Need-returns
 returns c = c .before .before .store-interval3 .ensures ∙ (ap (λ (l : List Float). sets l (c .before .before .before .before .before .before .before .before .before .before .before .before .before .args .at + 4) (twoOf (c .before .before .before .before .before .before .before .before .before .before .before .before .before .args .t .z))) (c .before .before .before .before .before .before .store-interval2 .ensures ∙ ap (λ (l : List Float). sets l (c .before .before .before .before .before .before .before .before .before .before .before .before .before .args .at + 2) (twoOf (c .before .before .before .before .before .before .before .before .before .before .before .before .before .args .t .y))) (c .before .before .before .before .before .before .before .before .before .before .store-interval .ensures)) ∙ sets-three (twoOf (c .before .before .before .before .before .before .before .before .before .before .before .before .before .args .t .x)) (twoOf (c .before .before .before .before .before .before .before .before .before .before .before .before .before .args .t .y)) (twoOf (c .before .before .before .before .before .before .before .before .before .before .before .before .before .args .t .z)) (now (c .before .before .before .before .before .before .before .before .before .before .before .before .before .args .out)) (c .before .before .before .before .before .before .before .before .before .before .before .before .before .args .at) (c .before .before .before .before .before .before .before .before .before .before .before .before .before .args .at + 2) (c .before .before .before .before .before .before .before .before .before .before .before .before .before .args .at + 4) refl (omega arith))
 

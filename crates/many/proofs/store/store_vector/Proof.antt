@@ -1,3 +1,5 @@
+-- `many::store::store_vector` meets its contract.
+-- Assumes nothing.
 use denote.Ref.{now}
 use native.Mathlib.Omega.{arith}
 use lib.ListN.{length-set}
@@ -5,46 +7,34 @@ use Rattle.many.proofs.Rows.{stored-three}
 use borrow.Author.Needs.{needs}
 use Rattle.many.proofs.store.store_vector.Statement.{statement}
 use Rattle.many.proofs.store.store_vector.Tie as tie
-use Rattle.many.proofs.store.store_vector.Reads as reads
-use Rattle.many.proofs.store.store_vector.Lts as lts
 
--- src/store.rt:26:5
 mul-out : tie.Need-mul-out
 mul-out c = search needs
 
--- src/store.rt:26:5
 slice-write-out : tie.Need-slice-write-out
 slice-write-out c = search needs
 
--- src/store.rt:27:9
 add-out : tie.Need-add-out
 add-out c = search needs
 
--- src/store.rt:27:5
 mul-out-2 : tie.Need-mul-out-2
 mul-out-2 c = search needs
 
--- src/store.rt:27:5
 slice-write-out-2 : tie.Need-slice-write-out-2
 slice-write-out-2 c = omega (arith, length-set (now (c .args .out)) (c .args .at) (c .args .v .x), c .pre)
 
--- src/store.rt:28:9
 add-out-2 : tie.Need-add-out-2
 add-out-2 c = search needs
 
--- src/store.rt:28:5
 mul-out-3 : tie.Need-mul-out-3
 mul-out-3 c = search needs
 
--- src/store.rt:28:5
 slice-write-out-3 : tie.Need-slice-write-out-3
 slice-write-out-3 c = search needs
 
--- src/store.rt:22:1
 same-length : tie.Need-same-length
 same-length c = search needs
 
--- src/store.rt:22:1
 returns : tie.Need-returns
 returns c = stored-three (now (c .args .out)) (c .args .at) (c .args .v .x) (c .args .v .y) (c .args .v .z)
 
