@@ -4,3 +4,4 @@ pub mod Tables
 pub mod Boxes
 pub mod Points
 pub mod Edits
+pub mod Rows

@@ -7,5 +7,6 @@ pub mod intervals;
 pub mod made;
 mod operands;
 pub mod points;
+pub mod rows;
 pub mod spans;
 pub mod tables;

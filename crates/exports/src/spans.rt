@@ -1,5 +1,5 @@
 // Spans of a knot run, and the clamp. Every call is total.
-use knots::refusal::Refusal;
+use crate::tables::high;
 use knots::span::SpanAnswer;
 use knots::span::clamp;
 use knots::span::find_span;
@@ -9,14 +9,7 @@ use knots::walk::next_span;
 ghost use mathlib.Core.Path.{_≡_};
 ghost use Rattle.knots.specs.Span.{clamped, spanAnswer, SpanFound};
 ghost use Rattle.knots.specs.Walk.{nextSpan};
-ghost use Rattle.exports.specs.Tables.{spanNumber, nextNumber, highOf};
-
-// A refusal's number in the upper half, where no span reaches.
-fn high(r: Refusal) -> u64
-    ensures { λ n. ⌜ n ≡ highOf r ⌝ }
-{
-    r.number as u64 * 0x1_0000_0000
-}
+ghost use Rattle.exports.specs.Tables.{spanNumber, nextNumber};
 
 // The span of a parameter, or a refusal's number in the upper 32 bits.
 #[no_mangle]

@@ -7,7 +7,7 @@ ghost use mathlib.Core.Path.{_≡_};
 ghost use Rattle.knots.specs.Refusal.{classOf};
 ghost use Rattle.knots.specs.Curve.{curveRefusal};
 ghost use Rattle.knots.specs.Surface.{surfaceRefusal};
-ghost use Rattle.exports.specs.Tables.{packedOf};
+ghost use Rattle.exports.specs.Tables.{packedOf, highOf};
 
 // The number alone, but for 1 to 7 of a surface: 100 more along u, 200 more along v.
 pub fn packed(r: Refusal) -> u32
@@ -24,6 +24,13 @@ pub fn packed(r: Refusal) -> u32
         return number + 200;
     }
     number
+}
+
+// A refusal's number in the upper half, where no span reaches.
+pub fn high(r: Refusal) -> u64
+    ensures { λ n. ⌜ n ≡ highOf r ⌝ }
+{
+    r.number as u64 * 0x1_0000_0000
 }
 
 // Invalid 0, degenerate 1, unimplemented 2, capacity 3, internal 4; 5 for what is no refusal number.
