@@ -1,0 +1,2 @@
+-- What the walks of the methods share.
+pub mod Walk

@@ -1,0 +1,132 @@
+// A curve that holds its three runs, and thin methods over it. Above each method stands a function with plain parameters that does the work.
+use bounds::answer::Bounded;
+use evaluate::curve::CurveAnswer;
+use knots::refusal::Refusal;
+use knots::span::SpanAnswer;
+ghost use mathlib.Core.Path.{_≡_};
+ghost use Rattle.knots.specs.Curve.{countOf, curveRefusal};
+ghost use Rattle.knots.specs.Span.{spanAnswer};
+ghost use Rattle.evaluate.specs.Curve.{evalOf};
+ghost use Rattle.bounds.specs.Curve.{boundOf};
+ghost use Rattle.bounds.specs.Holds.{Holds};
+
+// A curve by reference, its fields in the order in which every call takes them. Weights count only where it is rational.
+pub struct Curve<'a> {
+    pub degree: usize,
+    pub knots: &'a [f64],
+    pub points: &'a [f64],
+    pub rational: bool,
+    pub weights: &'a [f64],
+}
+
+// The refusal of a curve.
+pub fn refusal_of<'a>(
+    degree: usize,
+    knots: &'a [f64],
+    points: &'a [f64],
+    rational: bool,
+    weights: &'a [f64],
+) -> Refusal
+    ensures { λ r. ⌜ r ≡ curveRefusal degree (now (knots .entry)) (now (points .entry)) rational (now (weights .entry)) ⌝ }
+{
+    knots::curve::curve_refusal(degree, knots, points, rational, weights)
+}
+
+// The span of u. Of the points only their count matters.
+pub fn span_of<'a>(
+    degree: usize,
+    knots: &'a [f64],
+    points: &'a [f64],
+    rational: bool,
+    weights: &'a [f64],
+    u: f64,
+) -> SpanAnswer
+    ensures { λ r. ⌜ r ≡ spanAnswer degree (countOf (now (points .entry))) (now (knots .entry)) u ⌝ }
+{
+    knots::span::find_span(degree, points.len() / 3, knots, u)
+}
+
+// The point and the first derivative at t.
+pub fn eval_of<'a>(
+    degree: usize,
+    knots: &'a [f64],
+    points: &'a [f64],
+    rational: bool,
+    weights: &'a [f64],
+    t: f64,
+) -> CurveAnswer
+    ensures { λ r. ⌜ r ≡ evalOf degree (now (knots .entry)) (now (points .entry)) rational (now (weights .entry)) t ⌝ }
+{
+    evaluate::curve::eval(degree, knots, points, rational, weights, t)
+}
+
+// The bounds over the closed range [lo, hi].
+pub fn bound_of<'a>(
+    degree: usize,
+    knots: &'a [f64],
+    points: &'a [f64],
+    rational: bool,
+    weights: &'a [f64],
+    lo: f64,
+    hi: f64,
+) -> Bounded
+    ensures { λ r. ⌜ r ≡ boundOf degree (now (knots .entry)) (now (points .entry)) rational (now (weights .entry)) lo hi ⌝ }
+    ensures { λ r. ⌜ Holds degree (now (knots .entry)) (now (points .entry)) rational (now (weights .entry)) lo hi r ⌝ }
+{
+    bounds::curve::bound_curve(degree, knots, points, rational, weights, lo, hi)
+}
+
+impl<'a> Curve<'a> {
+    pub fn refusal(self) -> Refusal
+        ensures { λ r. ⌜ r ≡ curveRefusal (self .entry .degree) (now (self .entry .knots)) (now (self .entry .points)) (self .entry .rational) (now (self .entry .weights)) ⌝ }
+    {
+        refusal_of(
+            self.degree,
+            self.knots,
+            self.points,
+            self.rational,
+            self.weights,
+        )
+    }
+
+    pub fn span(self, u: f64) -> SpanAnswer
+        ensures { λ r. ⌜ r ≡ spanAnswer (self .entry .degree) (countOf (now (self .entry .points))) (now (self .entry .knots)) u ⌝ }
+    {
+        span_of(
+            self.degree,
+            self.knots,
+            self.points,
+            self.rational,
+            self.weights,
+            u,
+        )
+    }
+
+    pub fn eval(self, t: f64) -> CurveAnswer
+        ensures { λ r. ⌜ r ≡ evalOf (self .entry .degree) (now (self .entry .knots)) (now (self .entry .points)) (self .entry .rational) (now (self .entry .weights)) t ⌝ }
+    {
+        eval_of(
+            self.degree,
+            self.knots,
+            self.points,
+            self.rational,
+            self.weights,
+            t,
+        )
+    }
+
+    pub fn bound(self, lo: f64, hi: f64) -> Bounded
+        ensures { λ r. ⌜ r ≡ boundOf (self .entry .degree) (now (self .entry .knots)) (now (self .entry .points)) (self .entry .rational) (now (self .entry .weights)) lo hi ⌝ }
+        ensures { λ r. ⌜ Holds (self .entry .degree) (now (self .entry .knots)) (now (self .entry .points)) (self .entry .rational) (now (self .entry .weights)) lo hi r ⌝ }
+    {
+        bound_of(
+            self.degree,
+            self.knots,
+            self.points,
+            self.rational,
+            self.weights,
+            lo,
+            hi,
+        )
+    }
+}
