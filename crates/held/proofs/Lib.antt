@@ -1,2 +1,3 @@
--- What the walks of the methods share.
+-- What the proofs of the methods share.
+pub mod Method
 pub mod Walk

@@ -1,4 +1,4 @@
-// A curve that holds its three runs, and thin methods over it. Above each method stands a function with plain parameters that does the work.
+// A curve that holds its three runs, and thin methods over it. Each method calls a function that takes the fields one by one and does the work, so callers with plain runs need no struct.
 use bounds::answer::Bounded;
 use evaluate::curve::CurveAnswer;
 use knots::refusal::Refusal;
@@ -10,7 +10,7 @@ ghost use Rattle.evaluate.specs.Curve.{evalOf};
 ghost use Rattle.bounds.specs.Curve.{boundOf};
 ghost use Rattle.bounds.specs.Holds.{Holds};
 
-// A curve by reference, its fields in the order in which every call takes them. Weights count only where it is rational.
+// The fields stand in the order in which every call takes them. Weights count only where rational is true.
 pub struct Curve<'a> {
     pub degree: usize,
     pub knots: &'a [f64],
@@ -19,7 +19,7 @@ pub struct Curve<'a> {
     pub weights: &'a [f64],
 }
 
-// The refusal of a curve.
+// The refusal of a curve; one lifetime for the three runs, as the struct has.
 pub fn refusal_of<'a>(
     degree: usize,
     knots: &'a [f64],
@@ -32,8 +32,8 @@ pub fn refusal_of<'a>(
     knots::curve::curve_refusal(degree, knots, points, rational, weights)
 }
 
-// The span of u. Of the points only their count matters.
-pub fn span_of<'a>(
+// The span of u. Of the points only their count matters, and weights do not: they are here because a method passes every field.
+pub fn span_in<'a>(
     degree: usize,
     knots: &'a [f64],
     points: &'a [f64],
@@ -46,8 +46,8 @@ pub fn span_of<'a>(
     knots::span::find_span(degree, points.len() / 3, knots, u)
 }
 
-// The point and the first derivative at t.
-pub fn eval_of<'a>(
+// The point and the first derivative at t, or a refusal.
+pub fn eval_in<'a>(
     degree: usize,
     knots: &'a [f64],
     points: &'a [f64],
@@ -60,8 +60,8 @@ pub fn eval_of<'a>(
     evaluate::curve::eval(degree, knots, points, rational, weights, t)
 }
 
-// The bounds over the closed range [lo, hi].
-pub fn bound_of<'a>(
+// The bounds over the closed range [lo, hi]: the answer, and that a box holds the exact point.
+pub fn bound_in<'a>(
     degree: usize,
     knots: &'a [f64],
     points: &'a [f64],
@@ -76,6 +76,7 @@ pub fn bound_of<'a>(
     bounds::curve::bound_curve(degree, knots, points, rational, weights, lo, hi)
 }
 
+// By value, since the struct is Copy: a method takes it apart, and promises what its function does.
 impl<'a> Curve<'a> {
     pub fn refusal(self) -> Refusal
         ensures { λ r. ⌜ r ≡ curveRefusal (self .entry .degree) (now (self .entry .knots)) (now (self .entry .points)) (self .entry .rational) (now (self .entry .weights)) ⌝ }
@@ -92,7 +93,7 @@ impl<'a> Curve<'a> {
     pub fn span(self, u: f64) -> SpanAnswer
         ensures { λ r. ⌜ r ≡ spanAnswer (self .entry .degree) (countOf (now (self .entry .points))) (now (self .entry .knots)) u ⌝ }
     {
-        span_of(
+        span_in(
             self.degree,
             self.knots,
             self.points,
@@ -105,7 +106,7 @@ impl<'a> Curve<'a> {
     pub fn eval(self, t: f64) -> CurveAnswer
         ensures { λ r. ⌜ r ≡ evalOf (self .entry .degree) (now (self .entry .knots)) (now (self .entry .points)) (self .entry .rational) (now (self .entry .weights)) t ⌝ }
     {
-        eval_of(
+        eval_in(
             self.degree,
             self.knots,
             self.points,
@@ -119,7 +120,7 @@ impl<'a> Curve<'a> {
         ensures { λ r. ⌜ r ≡ boundOf (self .entry .degree) (now (self .entry .knots)) (now (self .entry .points)) (self .entry .rational) (now (self .entry .weights)) lo hi ⌝ }
         ensures { λ r. ⌜ Holds (self .entry .degree) (now (self .entry .knots)) (now (self .entry .points)) (self .entry .rational) (now (self .entry .weights)) lo hi r ⌝ }
     {
-        bound_of(
+        bound_in(
             self.degree,
             self.knots,
             self.points,
