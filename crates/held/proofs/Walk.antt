@@ -2,7 +2,7 @@
 --     called       the call: at entry's resources the function runs, and gives its result, the token and what it says
 --     away         a local is freed, whatever it holds
 --     proved       a method meets its contract where its function meets the same of the fields
--- Assumes nothing of a promise, and of the function that it meets its contract.
+-- Assumes `Given`, and of the function that it meets its contract. Of a promise it knows nothing.
 use mathlib.Core.Path.{_≡_, refl}
 use Prim.Native.Nat.{ℕ, zero, suc}
 use mathlib.Core.List.{List, [], _∷_}
