@@ -1,0 +1,83 @@
+-- `many::boxes::put_row` meets its contract.
+-- Assumes nothing.
+use denote.Ref.{now}
+use mathlib.Core.Path.{refl, _∙_, ap}
+use mathlib.Core.List.{List}
+use Prim.Native.Nat.{_+_, _*_}
+use native.Mathlib.Omega.{arith}
+use lib.Seq.{sets}
+use lib.Ieee.{Float}
+use Rattle.many.proofs.Rows.{stored-two, sets-three}
+use Rattle.many.specs.Rows.{sixOf}
+use borrow.Author.Needs.{needs}
+use Rattle.many.proofs.boxes.put_row.Statement.{statement}
+use Rattle.many.proofs.boxes.put_row.Tie as tie
+
+mul-m : tie.Need-mul-m
+mul-m c = search needs
+
+cast-marks : tie.Need-cast-marks
+cast-marks c = search needs
+
+mul-marks : tie.Need-mul-marks
+mul-marks c = search needs
+
+slice-write-marks : tie.Need-slice-write-marks
+slice-write-marks c = search needs
+
+add-marks : tie.Need-add-marks
+add-marks c = search needs
+
+mul-marks-2 : tie.Need-mul-marks-2
+mul-marks-2 c = search needs
+
+slice-write-marks-2 : tie.Need-slice-write-marks-2
+slice-write-marks-2 c = search needs
+
+mul-at : tie.Need-mul-at
+mul-at c = search needs
+
+store-triple-requires : tie.Need-store-triple-requires
+store-triple-requires c κs = search needs
+
+add-store-triple : tie.Need-add-store-triple
+add-store-triple c = search needs
+
+store-triple-requires-2 : tie.Need-store-triple-requires-2
+store-triple-requires-2 c κs = search needs
+
+add-store-triple-2 : tie.Need-add-store-triple-2
+add-store-triple-2 c = search needs
+
+store-triple-requires-3 : tie.Need-store-triple-requires-3
+store-triple-requires-3 c κs = search needs
+
+same-length : tie.Need-same-length
+same-length c = search needs
+
+same-length-2 : tie.Need-same-length-2
+same-length-2 c = search needs
+
+returns : tie.Need-returns
+returns c = (stored-two (now (c .before .before .before .before .before .before .before .before .before .before .before .before .before .before .before .args .marks)) (c .before .before .before .before .before .before .before .before .before .before .before .before .before .before .before .args .i * 2) (c .before .before .before .before .before .before .before .before .before .before .before .before .before .before .before .args .s) (c .before .before .before .before .before .before .before .before .before .before .before .before .before .before .before .args .row .number), c .before .before .store-triple3 .ensures ∙ (ap (λ (l : List Float). sets l (c .before .before .before .before .before .before .before .before .before .before .before .before .before .before .before .args .i * 18 + 12) (sixOf (c .before .before .before .before .before .before .before .before .before .before .before .before .before .before .before .args .row .bounds .dv))) (c .before .before .before .before .before .before .store-triple2 .ensures ∙ ap (λ (l : List Float). sets l (c .before .before .before .before .before .before .before .before .before .before .before .before .before .before .before .args .i * 18 + 6) (sixOf (c .before .before .before .before .before .before .before .before .before .before .before .before .before .before .before .args .row .bounds .du))) (c .before .before .before .before .before .before .before .before .before .before .store-triple .ensures)) ∙ sets-three (sixOf (c .before .before .before .before .before .before .before .before .before .before .before .before .before .before .before .args .row .bounds .point)) (sixOf (c .before .before .before .before .before .before .before .before .before .before .before .before .before .before .before .args .row .bounds .du)) (sixOf (c .before .before .before .before .before .before .before .before .before .before .before .before .before .before .before .args .row .bounds .dv)) (now (c .before .before .before .before .before .before .before .before .before .before .before .before .before .before .before .args .boxes)) (c .before .before .before .before .before .before .before .before .before .before .before .before .before .before .before .args .i * 18) (c .before .before .before .before .before .before .before .before .before .before .before .before .before .before .before .args .i * 18 + 6) (c .before .before .before .before .before .before .before .before .before .before .before .before .before .before .before .args .i * 18 + 12) refl (omega arith)))
+
+pub put-row-spec : {M : Type 1} → statement M
+put-row-spec =
+    tie.close
+    (tie.spec
+    mul-m
+    cast-marks
+    mul-marks
+    slice-write-marks
+    add-marks
+    mul-marks-2
+    slice-write-marks-2
+    mul-at
+    store-triple-requires
+    add-store-triple
+    store-triple-requires-2
+    add-store-triple-2
+    store-triple-requires-3
+    same-length
+    same-length-2
+    returns)

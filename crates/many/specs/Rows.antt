@@ -1,0 +1,57 @@
+-- Rows of many answers, one after the other: what a call answers, and what it leaves in a lent run.
+-- Assumes nothing.
+use Prim.Native.Nat.{ℕ, _-_}
+use mathlib.Core.Bool.{Bool, cond}
+use mathlib.Core.Path.{_≡_}
+use mathlib.Core.List.{List, [], _∷_, _++_}
+use lib.ListN.{length, replicate}
+use lib.Dec.{eqb}
+use lib.Ieee.{Float}
+use Rattle.doubles.specs.Value.{zero+}
+use Rattle.knots.specs.Refusal.{orElse}
+use Rattle.knots.specs.Curve.{curveRefusal}
+use Rattle.knots.specs.declared.refusal.Refusal.{Refusal}
+use Rattle.evaluate.specs.Shape.{degreeRefusal, roomRefusal}
+use Rattle.evaluate.specs.declared.vector.Vector.{Vector}
+use Rattle.interval.specs.declared.Interval.{Interval}
+use Rattle.bounds.specs.declared.answer.Triple.{Triple}
+use Rattle.many.specs.declared.answer.ManyAnswer.{ManyAnswer}
+use Rattle.many.specs.declared.answer.ManyAnswer.the-variants.{Rows, Refused}
+
+-- the rows of xs
+unfoldable pub rowsBy : {X Y : Type 0} → (X → List Y) → List X → List Y
+rowsBy f [] = []
+rowsBy f (x ∷ xs) = f x ++ rowsBy f xs
+
+-- n numbers: the rows, and z behind them; after a refusal z alone
+unfoldable pub left : {Y : Type 0} → Y → Refusal → ℕ → List Y → List Y
+left z r n l = cond (eqb (r .number) 0) (l ++ replicate (n - length l) z) (replicate n z)
+
+-- how many rows, or the refusal
+abbrev pub answer : Refusal → ℕ → ManyAnswer
+answer r n = cond (eqb (r .number) 0) (Rows n) (Refused r)
+
+-- the promise of a call: rows of xs, by f and h, in lent runs of a and b numbers that hold ns and rs afterwards; r is the refusal before any row
+pub record RowsMeet {X : Type 0} (r : Refusal) (xs : List X) (f : X → List ℕ) (h : X → List Float) (a b : ℕ) (ns : List ℕ) (rs : List Float) (A : ManyAnswer) : Type 0 where
+  pub answered : A ≡ answer r (length xs)
+  pub numbers : ns ≡ left 0 r a (rowsBy f xs)
+  pub rows : rs ≡ left zero+ r b (rowsBy h xs)
+
+-- ---- refusals before any row
+-- the curve's, then 31
+unfoldable pub tableRefusal : ℕ → List Float → List Float → Bool → List Float → Refusal
+tableRefusal p ks ps g ws = orElse (curveRefusal p ks ps g ws) (degreeRefusal p)
+
+-- 30 of two lent runs of a and b numbers that are to hold m and n
+unfoldable pub roomsRefusal : ℕ → ℕ → ℕ → ℕ → Refusal
+roomsRefusal a m b n = orElse (roomRefusal a m) (roomRefusal b n)
+
+-- ---- the numbers of a point, and of three intervals
+abbrev pub threeOf : Vector → List Float
+threeOf v = v .x ∷ v .y ∷ v .z ∷ []
+
+abbrev pub twoOf : Interval → List Float
+twoOf i = i .lo ∷ i .hi ∷ []
+
+abbrev pub sixOf : Triple → List Float
+sixOf t = twoOf (t .x) ++ (twoOf (t .y) ++ twoOf (t .z))

@@ -1,0 +1,7 @@
+// Many answers of one curve with one validation: a point for each parameter, a box for each span.
+pub mod answer;
+pub mod boxes;
+pub mod points;
+pub mod points2;
+mod start;
+mod store;
