@@ -28,7 +28,7 @@ struct Options {
     rounds: u32,
     bench: bool,
     lists: Option<PathBuf>,
-    /// What was passed and failed before, by the test in C.
+    /// What was passed and failed before, from C and by the Rust crate.
     and: (u64, u64),
 }
 
