@@ -5,7 +5,7 @@
  *   that is not null and is aligned to 8 bytes.
  * - A function with a lent run `out` returns 0 and writes its answer to the front of the run; every number behind the
  *   answer is then +0.0. Otherwise it returns a refusal number, and every number of the run is +0.0.
- * - Refusal numbers are those of document 01; rust/src/refusals.txt has the class and the text of each. 30 says that
+ * - Refusal numbers are those of document 01; tasulogi_refusals.h has the class and the text of each. 30 says that
  *   the lent run is shorter than the answer, and then comes after every other refusal; or, before every other, that an
  *   input run has more than 1,048,576 numbers. 99 is no refusal number: two doubles that were passed as the ends of an
  *   interval are none, since the low end is above the high one or an end is NaN.

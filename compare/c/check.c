@@ -1,5 +1,6 @@
 /* The header from C: every function is called, on document 01's worked numbers where there are some. */
 #include "../tasulogi.h"
+#include "../tasulogi_refusals.h"
 
 #include <math.h>
 #include <stdio.h>
@@ -106,6 +107,21 @@ static void tables(void)
     expect(tasulogi_surface_refusal(1, 1, ends, 4, ends, 4, 2, 2, points, 12, false, none, 0) == 0, "a surface");
 }
 
+/* tasulogi_refusals.h has the proved classes, each number at its place. */
+static void texts(void)
+{
+    for (uint32_t n = 0; n < 100; n++) {
+        uint8_t class = tasulogi_class_of(n);
+        if (class == TASULOGI_NO_CLASS) {
+            expect(tasulogi_refusal_text(n) == tasulogi_refusals[0].text, "no text of a number that is none");
+        } else {
+            expect(tasulogi_refusals[n].number == n && tasulogi_refusals[n].letter == "IDUCN"[class], "the class of a text");
+        }
+    }
+    expect(strcmp(tasulogi_refusal_text(12), "evaluation parameter not finite") == 0, "a text");
+    expect(sizeof tasulogi_refusals / sizeof *tasulogi_refusals == 34, "how many texts");
+}
+
 static void spans(void)
 {
     static const double u[] = { 0, 0.5, 1, 2, -1, 3 };
@@ -204,6 +220,7 @@ int main(void)
     intervals();
     refusals();
     tables();
+    texts();
     spans();
     boxes();
     evaluations();

@@ -1,5 +1,6 @@
 use crate::refusal::done;
 use crate::{Interval, Refusal, face, point_of, room};
+use std::iter::FusedIterator;
 
 /// A curve over borrowed runs: `points` has x, y, z of each point, `weights` one number for each.
 ///
@@ -29,6 +30,23 @@ pub const TABLE_A: Curve<'static> = Curve {
     weights: None,
 };
 
+/// A nonempty span: its index, and the knots on both sides of it.
+#[derive(Clone, Copy, Debug, PartialEq)]
+pub struct Span {
+    pub index: usize,
+    pub lo: f64,
+    pub hi: f64,
+}
+
+/// The nonempty spans of a curve, by [`Curve::spans`].
+#[derive(Clone, Debug)]
+pub struct Spans<'a> {
+    degree: usize,
+    count: usize,
+    knots: &'a [f64],
+    from: usize,
+}
+
 /// What an edit forms: degree and points of the answer, and the points of the largest curve on the way.
 struct Formed {
     degree: usize,
@@ -36,7 +54,7 @@ struct Formed {
     most: usize,
 }
 
-impl Curve<'_> {
+impl<'a> Curve<'a> {
     /// Whether this is a curve: refusals 30, 32, 1 to 10, the first in this order.
     ///
     /// ```
@@ -65,6 +83,23 @@ impl Curve<'_> {
         let found = face::find_span(self.degree, self.count(), self.knots, t);
         done((found >> 32) as u32)?;
         Ok(found as usize)
+    }
+
+    /// The nonempty spans in order, of a curve that is valid: a table that is none must not look like one without spans.
+    ///
+    /// ```
+    /// use tasulogi::{Curve, TABLE_A};
+    /// let spans: Vec<_> = TABLE_A.spans()?.map(|s| (s.index, s.lo, s.hi)).collect();
+    /// assert_eq!(spans, [(2, 0.0, 1.0), (3, 1.0, 2.0)]);
+    /// for span in TABLE_A.spans()? {
+    ///     assert!(TABLE_A.bound(span.lo, span.hi).is_ok());
+    /// }
+    /// assert_eq!(Curve { degree: 0, ..TABLE_A }.spans().unwrap_err().text(), "degree 0");
+    /// # Ok::<(), tasulogi::Refusal>(())
+    /// ```
+    pub fn spans(&self) -> Result<Spans<'a>, Refusal> {
+        self.validate()?;
+        Ok(Spans { degree: self.degree, count: self.count(), knots: self.knots, from: 0 })
     }
 
     /// The point and the first derivative at `t`; outside the domain those of the nearer end.
@@ -98,7 +133,7 @@ impl Curve<'_> {
     /// ```
     /// use tasulogi::{Class, TABLE_A};
     /// let [x, _, _] = TABLE_A.bound(0.5, 0.5)?;
-    /// assert!(x.lo < 1.75 && 1.75 < x.hi && x.hi - x.lo < 1e-12);
+    /// assert!(x.contains(1.75) && x.width() < 1e-12);
     /// let refusal = TABLE_A.bound(0.5, 1.5).unwrap_err();
     /// assert_eq!((refusal.number, refusal.class()), (25, Class::Invalid));
     /// assert_eq!(refusal.text(), "no nonempty span contains the bound range");
@@ -218,6 +253,22 @@ impl Curve<'_> {
         Ok(out)
     }
 }
+
+impl Iterator for Spans<'_> {
+    type Item = Span;
+
+    fn next(&mut self) -> Option<Span> {
+        let index = face::next_span(self.degree, self.count, self.knots, self.from);
+        if index >= self.count {
+            self.from = self.count;
+            return None;
+        }
+        self.from = index + 1;
+        Some(Span { index, lo: *self.knots.get(index)?, hi: *self.knots.get(index + 1)? })
+    }
+}
+
+impl FusedIterator for Spans<'_> {}
 
 impl CurveBuf {
     /// The same curve, borrowed.

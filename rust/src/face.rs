@@ -3,7 +3,10 @@ use crate::{Curve, Surface};
 
 unsafe extern "C" {
     pub safe fn tasulogi_class_of(number: u32) -> u8;
+    pub safe fn tasulogi_interval_contains(lo: f64, hi: f64, x: f64) -> u32;
+    pub safe fn tasulogi_interval_sign(lo: f64, hi: f64) -> u32;
     fn tasulogi_find_span(degree: usize, count: usize, knots: *const f64, knots_n: usize, u: f64) -> u64;
+    fn tasulogi_next_span(degree: usize, count: usize, knots: *const f64, knots_n: usize, from: usize) -> usize;
 }
 
 /// The span, or a refusal's number times 2^32.
@@ -12,24 +15,44 @@ pub fn find_span(degree: usize, count: usize, knots: &[f64], u: f64) -> u64 {
     unsafe { tasulogi_find_span(degree, count, knots.as_ptr(), knots.len(), u) }
 }
 
-/// Functions that take a table in the parts named, then numbers, a run that is read, and lent runs.
+/// The first nonempty span from a place on, or the count.
+pub fn next_span(degree: usize, count: usize, knots: &[f64], from: usize) -> usize {
+    // SAFETY: pointer and length are those of a slice.
+    unsafe { tasulogi_next_span(degree, count, knots.as_ptr(), knots.len(), from) }
+}
+
+/// Functions that take a table in the parts named, or none, then numbers, a run that is read, and lent runs.
 macro_rules! calls {
     ($table:tt $(fn $name:ident = $symbol:literal $takes:tt $(reads $read:ident)? $(lends $($out:ident),+)?;)*) => {
         $(calls! { @one $table $name $symbol $takes ($($read)?) $($($out)+)? })*
     };
-    (@one ($t:ident: $table:ty => $($part:expr, $kind:ty;)*) $name:ident $symbol:literal ($($x:ident: $number:ty),*)
+    (@one ($($t:ident: $table:ty => $($part:expr, $kind:ty;)*)?) $name:ident $symbol:literal ($($x:ident: $number:ty),*)
         ($($read:ident)?) $($out:ident)*) => {
-        pub fn $name($t: &$table, $($x: $number,)* $($read: &[f64],)? $($out: &mut [f64],)*) -> u32 {
+        pub fn $name($($t: &$table,)? $($x: $number,)* $($read: &[f64],)? $($out: &mut [f64],)*) -> u32 {
             unsafe extern "C" {
                 #[link_name = $symbol]
                 fn call(
-                    $(_: $kind,)* $($x: $number,)* $($read: *const f64, _: usize,)? $($out: *mut f64, _: usize,)*
+                    $($(_: $kind,)*)? $($x: $number,)* $($read: *const f64, _: usize,)? $($out: *mut f64, _: usize,)*
                 ) -> u32;
             }
             // SAFETY: each pointer and length are those of a slice, and the lent ones overlap no other.
-            unsafe { call($($part,)* $($x,)* $($read.as_ptr(), $read.len(),)? $($out.as_mut_ptr(), $out.len(),)*) }
+            unsafe { call($($($part,)*)? $($x,)* $($read.as_ptr(), $read.len(),)? $($out.as_mut_ptr(), $out.len(),)*) }
         }
     };
+}
+
+calls! {
+    ()
+    fn interval_new = "tasulogi_interval_new"(lo: f64, hi: f64) lends out;
+    fn interval_point = "tasulogi_interval_point"(x: f64) lends out;
+    fn interval_width = "tasulogi_interval_width"(lo: f64, hi: f64) lends out;
+    fn interval_sqr = "tasulogi_interval_sqr"(lo: f64, hi: f64) lends out;
+    fn interval_neg = "tasulogi_interval_neg"(lo: f64, hi: f64) lends out;
+    fn interval_hull = "tasulogi_interval_hull"(al: f64, ah: f64, bl: f64, bh: f64) lends out;
+    fn interval_add = "tasulogi_interval_add"(al: f64, ah: f64, bl: f64, bh: f64) lends out;
+    fn interval_sub = "tasulogi_interval_sub"(al: f64, ah: f64, bl: f64, bh: f64) lends out;
+    fn interval_mul = "tasulogi_interval_mul"(al: f64, ah: f64, bl: f64, bh: f64) lends out;
+    fn interval_divide = "tasulogi_interval_divide"(al: f64, ah: f64, bl: f64, bh: f64) lends out;
 }
 
 calls! {

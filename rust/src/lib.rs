@@ -19,23 +19,18 @@
 //! ```
 mod curve;
 mod face;
+mod interval;
 mod refusal;
 mod surface;
 
-pub use curve::{Curve, CurveBuf, TABLE_A};
+pub use curve::{Curve, CurveBuf, Span, Spans, TABLE_A};
+pub use interval::{Interval, Sign};
 pub use refusal::{Class, Direction, Refusal};
 pub use surface::Surface;
 
-/// All numbers from `lo` to `hi`, both included; an end may be infinite.
-#[derive(Clone, Copy, Debug, PartialEq)]
-pub struct Interval {
-    pub lo: f64,
-    pub hi: f64,
-}
-
 /// The first three intervals of an answered box: x, y, z of the point.
 fn point_of(numbers: &[f64; 18]) -> [Interval; 3] {
-    [0, 2, 4].map(|i| Interval { lo: numbers[i], hi: numbers[i + 1] })
+    [0, 2, 4].map(|i| Interval::of([numbers[i], numbers[i + 1]]))
 }
 
 /// A run of `n` numbers to lend; 30 where there is no memory for it.

@@ -1,8 +1,8 @@
 use crate::face;
 use std::fmt;
 
-/// A line for each refusal: number, class, text. The texts of every interface; document 01 has the same table.
-const TABLE: &str = include_str!("refusals.txt");
+/// A line for each refusal: number, class, text.
+const TABLE: &str = include_str!("../../docs/refusals.txt");
 
 /// Along which direction of a surface refusals 1 to 7 were met.
 #[derive(Clone, Copy, Debug, PartialEq, Eq, Hash)]

@@ -53,7 +53,7 @@ impl Surface<'_> {
     /// # let x = [[0.0, 0.0, 0.0], [2.0, 0.0, 0.0], [4.0, 0.0, 0.0], [6.0, 0.0, 0.0]];
     /// # let s = Surface { degrees: [1, 1], knots: [ends; 2], counts: [2, 2], points: x.as_flattened(), weights: None };
     /// let [x, _, _] = s.bound([0.5, 0.5], [0.5, 0.5])?;
-    /// assert!(x.lo < 3.0 && 3.0 < x.hi);
+    /// assert!(x.contains(3.0) && x.width() < 1e-12);
     /// assert_eq!(s.bound([0.5, 0.0], [0.5, 0.5]).unwrap_err().text(), "bound range not finite or reversed");
     /// # Ok::<(), tasulogi::Refusal>(())
     /// ```

@@ -1,5 +1,5 @@
 //! Any numbers and lengths: each method answers or refuses by a number of document 01.
-use tasulogi::{Class, Curve, CurveBuf, Direction, Refusal, Surface, TABLE_A};
+use tasulogi::{Class, Curve, CurveBuf, Direction, Interval, Refusal, Sign, Span, Surface, TABLE_A};
 
 /// A step of Knuth's generator; the high bits are used.
 struct Rng(u64);
@@ -57,6 +57,12 @@ fn told<T>(result: Result<T, Refusal>, seen: &mut [usize]) -> Option<T> {
     result.ok()
 }
 
+/// The nonempty spans by document 01's words.
+fn nonempty(c: &Curve) -> Vec<Span> {
+    let spans = (c.degree..c.points.len() / 3).map(|index| Span { index, lo: c.knots[index], hi: c.knots[index + 1] });
+    spans.filter(|s| s.lo < s.hi).collect()
+}
+
 #[test]
 fn every_call_answers_or_refuses() {
     let mut r = Rng(1);
@@ -67,6 +73,7 @@ fn every_call_answers_or_refuses() {
         let (t, lo, hi) = (r.double(), r.double(), r.double());
         told(c.validate(), &mut seen);
         told(c.span(t), &mut seen);
+        assert_eq!(told(c.spans(), &mut seen).map(Iterator::collect), c.validate().ok().map(|()| nonempty(&c)));
         told(c.eval(t), &mut seen);
         told(c.eval2(t), &mut seen);
         told(c.bound(lo, hi), &mut seen);
@@ -96,6 +103,56 @@ fn every_call_answers_or_refuses() {
     }
 }
 
+/// From the least to the greatest, each end a double outward; the whole line where a NaN is met.
+fn outward(ends: &[f64]) -> Interval {
+    let (lo, hi) = ends.iter().fold((f64::INFINITY, -f64::INFINITY), |(lo, hi), x| (lo.min(*x), hi.max(*x)));
+    let nan = ends.iter().any(|x| x.is_nan());
+    if nan { Interval::ENTIRE } else { Interval::new(lo.next_down(), hi.next_up()).unwrap() }
+}
+
+fn products(a: Interval, b: Interval) -> Interval {
+    outward(&[a.lo() * b.lo(), a.lo() * b.hi(), a.hi() * b.lo(), a.hi() * b.hi()])
+}
+
+/// Each call on any two intervals is document 01's; ends that are none make no interval.
+#[test]
+fn intervals_are_the_rules() {
+    let mut r = Rng(2);
+    let (mut made, mut divided) = (0, 0);
+    for _ in 0..100_000 {
+        let [al, ah, bl, bh, x] = [(); 5].map(|()| r.double() * [1.0, -1.0][r.below(2)]);
+        assert_eq!(Interval::new(al, ah).is_some(), al <= ah);
+        assert_eq!(Interval::point(x), Interval::new(x, x).unwrap_or(Interval::ENTIRE));
+        let (Some(a), Some(b)) = (Interval::new(al, ah), Interval::new(bl, bh)) else { continue };
+        made += 1;
+        assert_eq!((a.lo(), a.hi(), a.contains(x)), (al, ah, al <= x && x <= ah));
+        assert_eq!(a + b, outward(&[al + bl, ah + bh]));
+        assert_eq!(a - b, outward(&[al - bh, ah - bl]));
+        assert_eq!(a * b, products(a, b));
+        assert_eq!(Some(-a), Interval::new(-ah, -al));
+        assert_eq!(Some(a.hull(b)), Interval::new(al.min(bl), ah.max(bh)));
+        let square = outward(&[al * al, ah * ah]);
+        let low = if a.contains(0.0) { 0.0 } else { square.lo().max(0.0) };
+        assert_eq!(Some(a.sqr()), Interval::new(low, square.hi()));
+        assert!(a.width() == (ah - al).next_up() || (ah - al).is_nan() && a.width().is_nan());
+        let sign = if al > 0.0 {
+            Sign::Positive
+        } else if ah < 0.0 {
+            Sign::Negative
+        } else {
+            Sign::Unknown
+        };
+        assert_eq!(a.sign(), if al == 0.0 && ah == 0.0 { Sign::Zero } else { sign });
+        match a / b {
+            Ok(q) => assert_eq!(q, products(a, outward(&[1.0 / bl, 1.0 / bh]))),
+            Err(refusal) => assert_eq!(refusal.number, 26),
+        }
+        assert_eq!((a / b).is_err(), b.contains(0.0));
+        divided += (a / b).is_ok() as u32;
+    }
+    assert!(made > 10_000 && divided > 1_000);
+}
+
 #[test]
 fn too_long_a_run_is_refused() {
     let long = vec![0.5; 1_048_577];
@@ -121,7 +178,7 @@ fn weights_go_along() {
     same(arc.trim(0.125, 0.5).unwrap(), 0.25);
     same(arc.elevate_degree(5).unwrap(), 0.25);
     let [bx, by, _] = arc.bound(0.25, 0.25).unwrap();
-    assert!(bx.lo <= x && x <= bx.hi && by.lo <= y && y <= by.hi);
+    assert!(bx.contains(x) && by.contains(y));
 }
 
 #[test]

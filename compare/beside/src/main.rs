@@ -8,7 +8,7 @@ mod rng;
 mod tables;
 mod tally;
 
-use modules::{ALL, Desk, Module, Place};
+use modules::{ALL, Desk, Module, Place, Times};
 use rng::Rng;
 use std::io::{IsTerminal, Write};
 use std::path::{Path, PathBuf};
@@ -28,12 +28,12 @@ struct Options {
     rounds: u32,
     bench: bool,
     lists: Option<PathBuf>,
-    /// What was passed and failed before, by the test in C.
+    /// What was passed and failed before, from C and by the Rust crate.
     and: (u64, u64),
 }
 
 fn options() -> Option<Options> {
-    let mut o = Options { cases: None, seed: 1, only: None, rounds: 25, bench: false, lists: None, and: (0, 0) };
+    let mut o = Options { cases: None, seed: 1, only: None, rounds: 100, bench: false, lists: None, and: (0, 0) };
     let mut words = std::env::args().skip(1);
     while let Some(word) = words.next() {
         match word.as_str() {
@@ -65,10 +65,21 @@ fn main() -> ExitCode {
         return picked.iter().map(|m| write_list(m, crates)).find(|c| *c != ExitCode::SUCCESS).unwrap_or(ExitCode::SUCCESS);
     }
     if o.bench {
-        picked.iter().for_each(|m| (m.bench)(o.rounds));
+        bench(&picked, o.rounds);
         return ExitCode::SUCCESS;
     }
     compare(&picked, &o)
+}
+
+/// How often all calls are timed, each time with a part of the rounds: a busy while is not one call's alone.
+const SWEEPS: u32 = 5;
+
+/// Prints the lines that compare/bench makes a table of.
+fn bench(picked: &[Module], rounds: u32) {
+    let sweep = || picked.iter().flat_map(|m| (m.bench)(rounds.div_ceil(SWEEPS))).collect::<Vec<Times>>();
+    let best = |a: Vec<Times>, b: Vec<Times>| a.into_iter().zip(b).map(|(a, b)| a.best(b)).collect();
+    let lines = (1..SWEEPS).fold(sweep(), |lines, _| best(lines, sweep()));
+    lines.iter().for_each(|line| println!("{line}"));
 }
 
 /// Writes stdin and stdout of the program crate replay_NAME.

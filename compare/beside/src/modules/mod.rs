@@ -13,6 +13,8 @@ mod knots;
 mod listed;
 mod timed;
 
+pub use timed::Times;
+
 /// Where a case stands in a run.
 #[derive(Clone, Copy, PartialEq, Eq, PartialOrd, Ord)]
 pub struct Place {
@@ -42,8 +44,8 @@ pub struct Module {
     pub case: fn(Place, &mut Desk) -> Option<String>,
     /// Writes the list that `crates/replay_NAME` reads, where there is one, and the lines that it then has to print.
     pub list: Option<List>,
-    /// Prints times against the Rust, the best of so many rounds.
-    pub bench: fn(u32),
+    /// Times against the Rust, the best of so many rounds.
+    pub bench: fn(u32) -> Vec<Times>,
 }
 
 pub const ALL: [Module; 5] = [interval::MODULE, knots::MODULE, evaluate::MODULE, bounds::MODULE, edits::MODULE];

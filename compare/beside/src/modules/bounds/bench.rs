@@ -1,95 +1,78 @@
-//! Times of bounds beside the Rust's. Ours validate the table at each call; the Rust's are given a valid one, and once
-//! more with the making of it counted.
+//! Times of bounds by degree and by the number of points. Ours check the table at each call; the Rust's are given a valid
+//! one alone, and make it in full.
 use super::calls::{BOX, CurveCase, SurfaceCase, bounded};
-use crate::modules::timed::{Times, time};
+use crate::modules::timed::{Times, clamped, clamped_surface, time};
 use crate::rng::Rng;
-use crate::tables::{Curve, Surface};
 use oracle::{NurbsBounds, bound_curve, bound_surface};
 use std::hint::black_box;
 
-const CASES: usize = 256;
-
-const TIMES: Times<3, 2> =
-    Times { name: 24, times: (["ours", "the Rust", "with new"], 10, 0), ratios: [("ratio", 8), ("to with new", 12)] };
-
-fn clamped(degree: usize, count: usize) -> Vec<f64> {
-    let last = count - degree;
-    (0..count + degree + 1).map(|i| i.saturating_sub(degree).min(last) as f64 / last as f64).collect()
-}
-
-fn some(r: &mut Rng, n: usize) -> Vec<f64> {
-    (0..n).map(|_| r.unit() + 0.25).collect()
-}
-
-/// A rational curve of four spans, and a range inside one of them.
-fn curve(r: &mut Rng, degree: usize) -> CurveCase {
-    let count = degree + 4;
-    let table =
-        Curve { degree, knots: clamped(degree, count), points: some(r, 3 * count), rational: true, weights: some(r, count) };
-    let s = degree + r.below(4) as usize;
-    let (a, b) = (table.knots[s], table.knots[s + 1]);
-    let lo = a + (b - a) * 0.5 * r.unit();
-    CurveCase { range: (lo, lo + (b - lo) * r.unit()), table }
-}
-
-fn surface(r: &mut Rng, degree: usize) -> SurfaceCase {
-    let count = degree + 3;
-    let table = Surface {
-        degrees: [degree; 2],
-        knots: [clamped(degree, count), clamped(degree, count)],
-        counts: [count; 2],
-        points: some(r, 3 * count * count),
-        rational: true,
-        weights: some(r, count * count),
-    };
-    SurfaceCase { table, u: (0.4, 0.45), v: (0.7, 0.9) }
+/// A part of some span of the knots 0, 1, 2 and so on.
+fn range(r: &mut Rng, spans: usize) -> (f64, f64) {
+    let s = r.below(spans as u64) as f64;
+    let lo = s + 0.5 * r.unit();
+    (lo, lo + (s + 1.0 - lo) * r.unit())
 }
 
 fn low(b: NurbsBounds) -> f64 {
     b.point[0].lo()
 }
 
-/// One row: the Rust's call on a table made before, and with the making of it.
-fn row<C, T>(
-    (name, rounds, calls): (&str, u32, usize),
-    cases: impl Iterator<Item = C>,
+/// Our call, the Rust's on a table made before, and with the making of it.
+fn timed<C, T>(
+    (call, degree, points): (&str, usize, usize),
+    rounds: u32,
+    cases: &[C],
     ours: impl Fn(&C, &mut [f64]) -> u32,
     made: impl Fn(&C) -> T,
     rust: impl Fn(&C, &T) -> f64,
-) {
-    let with_table = |c: C| {
-        let table = made(&c);
-        (c, table)
-    };
-    let cases: Vec<(C, T)> = cases.take(CASES).map(with_table).collect();
+) -> Times {
     let mut out = [0.0; BOX];
-    let us = time(rounds, calls, &cases, |c| {
-        ours(&c.0, black_box(&mut out).as_mut_slice());
+    let mut done = true;
+    let ours = time(rounds, cases, |c| {
+        done &= ours(c, black_box(&mut out).as_mut_slice()) == 0;
         out[0]
     });
-    let on_valid = time(rounds, calls, &cases, |c| rust(&c.0, &c.1));
-    let with_new = time(rounds, calls, &cases, |c| rust(&c.0, &made(&c.0)));
-    TIMES.row(name, [us, on_valid, with_new]);
+    assert!(done, "{call} was refused");
+    let full = time(rounds, cases, |c| rust(c, &made(c)));
+    let tables: Vec<(&C, T)> = cases.iter().map(|c| (c, made(c))).collect();
+    let alone = time(rounds, &tables, |(c, table)| rust(c, table));
+    Times::new(call, &[("degree", degree), ("points", points)], ours, alone, Some(full))
 }
 
-pub fn table(rounds: u32) {
-    TIMES.head("ns");
-    for degree in [1, 2, 3, 5, 10, 20] {
-        let mut r = Rng::new(7, degree as u64);
-        row(
-            (&format!("bound_curve, degree {degree}"), rounds, 200_000 / (degree * degree + 4)),
-            std::iter::repeat_with(|| curve(&mut r, degree)),
-            CurveCase::ours,
-            |c| c.table.rust().expect("valid"),
-            |c, made| bound_curve(made, bounded(c.range)).map_or(0.0, low),
-        );
-    }
-    let mut r = Rng::new(7, 0);
-    row(
-        ("bound_surface, 3 x 3", rounds, 2000),
-        std::iter::repeat_with(|| surface(&mut r, 3)),
+fn curve(rounds: u32, degree: usize, points: usize) -> Times {
+    let mut r = Rng::new(7, (degree * points) as u64);
+    let case = |_| CurveCase { table: clamped(&mut r, degree, points), range: range(&mut r, points - degree) };
+    let cases: Vec<CurveCase> = (0..if points > 1_000 { 4 } else { 16 }).map(case).collect();
+    timed(
+        ("bound_curve", degree, points),
+        rounds,
+        &cases,
+        CurveCase::ours,
+        |c| c.table.rust().expect("valid"),
+        |c, made| bound_curve(made, bounded(c.range)).map_or(0.0, low),
+    )
+}
+
+fn surface(rounds: u32, degree: usize, side: usize) -> Times {
+    let mut r = Rng::new(7, degree as u64);
+    let mut case = || {
+        let table = clamped_surface(&mut r, degree, side);
+        SurfaceCase { table, u: range(&mut r, side - degree), v: range(&mut r, side - degree) }
+    };
+    let cases: Vec<SurfaceCase> = (0..16).map(|_| case()).collect();
+    timed(
+        ("bound_surface", degree, side * side),
+        rounds,
+        &cases,
         SurfaceCase::ours,
         |s| s.table.rust().expect("valid"),
         |s, made| bound_surface(made, bounded(s.u), bounded(s.v)).map_or(0.0, low),
-    );
+    )
+}
+
+pub fn table(rounds: u32) -> Vec<Times> {
+    let by_degree = [1, 2, 3, 5, 10, 20].map(|degree| curve(rounds, degree, 24));
+    let by_points = [10, 1_000, 100_000].map(|points| curve(rounds, 3, points));
+    let surfaces = [1, 2, 3, 5].map(|degree| surface(rounds, degree, 8));
+    by_degree.into_iter().chain(by_points).chain(surfaces).collect()
 }

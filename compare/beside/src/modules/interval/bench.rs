@@ -1,15 +1,12 @@
-//! Times of interval calls beside the Rust's: inlined as Rust callers have them, and behind a call like ours.
+//! Times of interval calls beside the Rust's: alone, inlined as Rust callers have them, and in full, behind a call like
+//! ours.
 use crate::face::*;
-use crate::modules::timed::{self, Times};
+use crate::modules::timed::{Times, time};
 use crate::rng::Rng;
 use oracle::{Interval, divide};
 use std::hint::black_box;
 
 const CASES: usize = 4096;
-const CALLS: usize = 16 * CASES;
-
-const TIMES: Times<3, 2> =
-    Times { name: 8, times: (["ours", "inlined", "called"], 9, 2), ratios: [("to inlined", 12), ("to called", 12)] };
 
 type Ends = [f64; 4];
 
@@ -58,32 +55,38 @@ fn rust_divide(x: &Ends, out: &mut [f64]) -> u32 {
     put(both(x).and_then(|(a, b)| divide(a, b).ok()), out)
 }
 
-fn time(rounds: u32, cases: &[Ends], f: impl FnMut(&Ends) -> f64) -> f64 {
-    timed::time(rounds, CALLS, cases, f)
-}
-
 type Behind = fn(&Ends, &mut [f64]) -> u32;
 
-fn row(name: &str, rounds: u32, cases: &[Ends], ours: impl Fn(&Ends, &mut [f64]) -> u32, behind: Behind, inlined: f64) {
+fn row(call: &str, rounds: u32, cases: &[Ends], ours: impl Fn(&Ends, &mut [f64]) -> u32, behind: Behind, alone: f64) -> Times {
     let mut out = [0.0; 2];
     let called = time(rounds, cases, |x| {
         behind(x, black_box(&mut out));
         out[0]
     });
-    let us = time(rounds, cases, |x| {
-        ours(x, black_box(&mut out).as_mut_slice());
+    let mut done = true;
+    let ours = time(rounds, cases, |x| {
+        done &= ours(x, black_box(&mut out).as_mut_slice()) == 0;
         out[0]
     });
-    TIMES.row(name, [us, inlined, called]);
+    assert!(done, "{call} was refused");
+    Times::new(call, &[], ours, alone, Some(called))
 }
 
-pub fn table(rounds: u32) {
+pub fn table(rounds: u32) -> Vec<Times> {
     let cases = operands();
-    TIMES.head("ns");
     let add = time(rounds, &cases, |x| both(x).map_or(0.0, |(a, b)| (a + b).lo()));
-    row("add", rounds, &cases, |x, out| tasulogi_interval_add(x[0], x[1], x[2], x[3], out), rust_add, add);
     let mul = time(rounds, &cases, |x| both(x).map_or(0.0, |(a, b)| (a * b).lo()));
-    row("mul", rounds, &cases, |x, out| tasulogi_interval_mul(x[0], x[1], x[2], x[3], out), rust_mul, mul);
     let quotient = time(rounds, &cases, |x| both(x).and_then(|(a, b)| divide(a, b).ok()).map_or(0.0, |i| i.lo()));
-    row("divide", rounds, &cases, |x, out| tasulogi_interval_divide(x[0], x[1], x[2], x[3], out), rust_divide, quotient);
+    vec![
+        row("interval add", rounds, &cases, |x, out| tasulogi_interval_add(x[0], x[1], x[2], x[3], out), rust_add, add),
+        row("interval mul", rounds, &cases, |x, out| tasulogi_interval_mul(x[0], x[1], x[2], x[3], out), rust_mul, mul),
+        row(
+            "interval divide",
+            rounds,
+            &cases,
+            |x, out| tasulogi_interval_divide(x[0], x[1], x[2], x[3], out),
+            rust_divide,
+            quotient,
+        ),
+    ]
 }

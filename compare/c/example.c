@@ -1,0 +1,68 @@
+/* A first program: a cam's table is checked, evaluated, bounded and given another knot.
+ * cc -std=c11 compare/c/example.c target/staticlib/libexports.a -o example && ./example; it prints example.out. */
+#include "../tasulogi.h"
+#include "../tasulogi_refusals.h"
+
+#include <stdio.h>
+
+/* A rise of 12 mm between two dwells: x is the angle in degrees, y the lift. */
+enum { DEGREE = 3, COUNT = 6, KNOTS = COUNT + DEGREE + 1 };
+static const double knots[KNOTS] = { 0, 0, 0, 0, 90, 210, 360, 360, 360, 360 };
+static const double points[3 * COUNT] = { 0, 0, 0, 30, 0, 0, 100, 0, 0, 220, 12, 0, 310, 12, 0, 360, 12, 0 };
+
+/* The table as each call takes it. It has no weights: that run is not looked at, and its pointer is not null. */
+#define CAM DEGREE, knots, KNOTS, points, 3 * COUNT, false, points, 0
+
+static bool done(const char *call, uint32_t returned)
+{
+    uint32_t number = TASULOGI_REFUSAL(returned);
+    if (returned == TASULOGI_DONE) {
+        return true;
+    }
+    printf("%s: refusal %u, class %c: %s\n", call, (unsigned)number, "IDUCN?"[tasulogi_class_of(number)], tasulogi_refusal_text(number));
+    return false;
+}
+
+/* The exact lift at every angle from lo to hi lies between the two ends; a shorter range has a narrower box. */
+static void bound(double lo, double hi)
+{
+    double box[TASULOGI_BOX];
+    if (done("bound", tasulogi_bound_curve(CAM, lo, hi, box, TASULOGI_BOX))) {
+        printf("from %.17g to %.17g degrees the lift is from %.17g to %.17g\n", lo, hi, box[2], box[3]);
+    }
+}
+
+/* The sizes are those that tasulogi.h states for count + inserted_n points. */
+static void insert(double knot)
+{
+    enum { N = COUNT + 1 };
+    double more[N + DEGREE + 1], moved[3 * N], weights[1], scratch[10 * N + 2 * (DEGREE + 1)];
+    if (!done("insert", tasulogi_insert_knots(CAM, &knot, 1, more, N + DEGREE + 1, moved, 3 * N, weights, 0, scratch, 10 * N + 2 * (DEGREE + 1)))) {
+        return;
+    }
+    printf("with a knot at %.17g:\n", knot);
+    for (int i = 0; i < N; i++) {
+        printf("  %.17g %.17g\n", moved[3 * i], moved[3 * i + 1]);
+    }
+}
+
+int main(void)
+{
+    /* A point was forgotten; then the whole table. */
+    done("check", tasulogi_curve_refusal(DEGREE, knots, KNOTS, points, 3 * (COUNT - 1), false, points, 0));
+    if (!done("check", tasulogi_curve_refusal(CAM))) {
+        return 1;
+    }
+    uint64_t span = tasulogi_find_span(DEGREE, COUNT, knots, KNOTS, 120.0);
+    double at[6];
+    if (!done("find_span", TASULOGI_SPAN_REFUSAL(span)) || !done("eval", tasulogi_eval(CAM, 120.0, at, 6))) {
+        return 1;
+    }
+    printf("at 120 degrees, span %u: lift %.17g mm, rising %.17g mm per degree\n", (unsigned)span, at[1], at[4]);
+    bound(knots[span], knots[span + 1]);
+    bound(119.0, 121.0);
+    bound(knots[span], 220.0);
+    insert(150.0);
+    insert(400.0);
+    return 0;
+}
