@@ -42,7 +42,7 @@ enum {
 #define TASULOGI_REFUSAL(r) ((r) % 100)
 #define TASULOGI_DIRECTION(r) ((r) / 100)
 
-/* The refusal of tasulogi_find_span; where it is 0, what was returned is the span. */
+/* The refusal of tasulogi_find_span and tasulogi_bound_spans; where it is 0, what was returned is the span or the count. */
 #define TASULOGI_SPAN_REFUSAL(r) ((uint32_t)((r) >> 32))
 
 /* How many numbers a box has: point, du, dv, each x, y, z, each low before high. */
@@ -199,6 +199,31 @@ uint32_t tasulogi_eval_surface(
     size_t u_count, size_t v_count, const double *points, size_t points_n, bool rational, const double *weights,
     size_t weights_n,
     double u, double v, double *out, size_t n);
+
+/* Many at once: the table is checked once. A row is the answer of the single call, with its bits, and +0.0 throughout
+ * where that is refused; what stands behind the rows is 0 and +0.0. After a refusal of the whole call both runs are 0
+ * and +0.0. */
+
+/* The point and the first derivative at each of ts_n parameters: `numbers` gets the refusal of each, or 0, and `rows` 6
+ * numbers of each. Refusals: 30 for more than 1,048,576 parameters, those of the curve, 31, 30 for a lent run. */
+uint32_t tasulogi_eval_many(
+    size_t degree, const double *knots, size_t knots_n, const double *points, size_t points_n, bool rational,
+    const double *weights, size_t weights_n, const double *ts, size_t ts_n,
+    uint32_t *numbers, size_t numbers_n, double *rows, size_t rows_n);
+
+/* The same with two derivatives: 9 numbers of each. */
+uint32_t tasulogi_eval2_many(
+    size_t degree, const double *knots, size_t knots_n, const double *points, size_t points_n, bool rational,
+    const double *weights, size_t weights_n, const double *ts, size_t ts_n,
+    uint32_t *numbers, size_t numbers_n, double *rows, size_t rows_n);
+
+/* The box of each nonempty span over its own closed range, in order: `marks` gets the span and its refusal, or 0, and
+ * `boxes` 18 numbers of each. Returns how many rows there are, which is never more than count - degree; else a refusal's
+ * number times 2^32, as tasulogi_find_span: those of the curve, 31, 30 for a lent run. */
+uint64_t tasulogi_bound_spans(
+    size_t degree, const double *knots, size_t knots_n, const double *points, size_t points_n, bool rational,
+    const double *weights, size_t weights_n,
+    uint32_t *marks, size_t marks_n, double *boxes, size_t boxes_n);
 
 /* Curves made of others. Each run starts with the made numbers and ends with +0.0; after a refusal all is +0.0. */
 

@@ -168,6 +168,27 @@ static void evaluations(void)
     expect(same(ders[0], 0.25) && same(ders[65], -1.0) && same(ders[3], 0.0), "the basis of A at 0.5");
 }
 
+static void many(void)
+{
+    static const double ts[] = { 0.5, NAN, 2 };
+    uint32_t numbers[4] = { 7, 7, 7, 7 };
+    double rows[28];
+    rows[18] = rows[27] = 7.0;
+    expect(tasulogi_eval_many(2, knots, 7, points, 12, false, none, 0, ts, 3, numbers, 4, rows, 19) == TASULOGI_DONE, "points of A");
+    expect(numbers[0] == 0 && numbers[1] == 12 && numbers[2] == 0 && numbers[3] == 0, "their refusals");
+    expect(same(rows[0], 1.75) && same(rows[3], 3.0) && same(rows[6], 0.0) && same(rows[12], 6.0) && same(rows[18], 0.0), "their numbers");
+    expect(tasulogi_eval_many(2, knots, 7, points, 12, false, none, 0, ts, 3, numbers, 2, rows, 18) == 30 && numbers[1] == 0 && same(rows[0], 0.0), "no room for points");
+    expect(tasulogi_eval2_many(2, knots, 7, points, 12, false, none, 0, ts, 3, numbers, 3, rows, 28) == TASULOGI_DONE, "two derivatives");
+    expect(numbers[1] == 12 && same(rows[6], -2.0) && same(rows[18], 6.0) && same(rows[27], 0.0), "their numbers");
+    uint32_t marks[5] = { 7, 7, 7, 7, 7 };
+    double boxes[2 * TASULOGI_BOX], box[TASULOGI_BOX];
+    expect(tasulogi_bound_spans(2, knots, 7, points, 12, false, none, 0, marks, 5, boxes, 2 * TASULOGI_BOX) == 2, "the spans of A");
+    expect(marks[0] == 2 && marks[1] == 0 && marks[2] == 3 && marks[3] == 0 && marks[4] == 0, "their places");
+    tasulogi_bound_curve(2, knots, 7, points, 12, false, none, 0, 1.0, 2.0, box, TASULOGI_BOX);
+    expect(memcmp(box, boxes + TASULOGI_BOX, sizeof box) == 0, "the box of one span");
+    expect(TASULOGI_SPAN_REFUSAL(tasulogi_bound_spans(0, knots, 7, points, 12, false, none, 0, marks, 5, boxes, 36)) == 1 && marks[0] == 0 && same(boxes[0], 0.0), "no curve");
+}
+
 static void made(void)
 {
     double k[8], p[12], w[4];
@@ -224,6 +245,7 @@ int main(void)
     spans();
     boxes();
     evaluations();
+    many();
     made();
     edits();
     printf("C: %d passed, %d failed\n", passed, failed);

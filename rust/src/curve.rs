@@ -47,11 +47,35 @@ pub struct Spans<'a> {
     from: usize,
 }
 
+/// A point and its first derivative, x, y, z of each.
+pub type Point = [[f64; 3]; 2];
+
+/// A point and two derivatives, x, y, z of each.
+pub type Point2 = [[f64; 3]; 3];
+
+/// A nonempty span with what bounds the curve on it.
+#[derive(Clone, Copy, Debug, PartialEq)]
+pub struct SpanBound {
+    pub span: Span,
+    pub point: Result<[Interval; 3], Refusal>,
+}
+
 /// What an edit forms: degree and points of the answer, and the points of the largest curve on the way.
 struct Formed {
     degree: usize,
     count: usize,
     most: usize,
+}
+
+/// A row of N vectors for each of n parameters, or its own refusal.
+fn rows<const N: usize>(
+    n: usize,
+    call: impl FnOnce(&mut [u32], &mut [f64]) -> u32,
+) -> Result<Vec<Result<[[f64; 3]; N], Refusal>>, Refusal> {
+    let (mut numbers, mut rows) = (room(n)?, room(3 * N * n)?);
+    done(call(&mut numbers, &mut rows))?;
+    let row = |(number, row): (&u32, &[f64])| done(*number).map(|()| std::array::from_fn(|i| [0, 1, 2].map(|k| row[3 * i + k])));
+    Ok(numbers.iter().zip(rows.chunks(3 * N)).map(row).collect())
 }
 
 impl<'a> Curve<'a> {
@@ -109,7 +133,7 @@ impl<'a> Curve<'a> {
     /// assert_eq!(TABLE_A.eval(0.5), Ok([[1.75, 0.0, 0.0], [3.0, 0.0, 0.0]]));
     /// assert_eq!(TABLE_A.eval(f64::NAN).unwrap_err().to_string(), "refusal 12: evaluation parameter not finite");
     /// ```
-    pub fn eval(&self, t: f64) -> Result<[[f64; 3]; 2], Refusal> {
+    pub fn eval(&self, t: f64) -> Result<Point, Refusal> {
         let mut out = [[0.0; 3]; 2];
         done(face::eval(self, t, out.as_flattened_mut()))?;
         Ok(out)
@@ -122,7 +146,7 @@ impl<'a> Curve<'a> {
     /// assert_eq!(TABLE_A.eval2(0.5), Ok([[1.75, 0.0, 0.0], [3.0, 0.0, 0.0], [-2.0, 0.0, 0.0]]));
     /// assert_eq!(TABLE_A.eval2(f64::NAN).unwrap_err().number, 12);
     /// ```
-    pub fn eval2(&self, t: f64) -> Result<[[f64; 3]; 3], Refusal> {
+    pub fn eval2(&self, t: f64) -> Result<Point2, Refusal> {
         let mut out = [[0.0; 3]; 3];
         done(face::eval2(self, t, out.as_flattened_mut()))?;
         Ok(out)
@@ -143,6 +167,57 @@ impl<'a> Curve<'a> {
         let mut out = [0.0; 18];
         done(face::bound_curve(self, lo, hi, &mut out))?;
         Ok(point_of(&out))
+    }
+
+    /// The point and the first derivative at each parameter, with the curve checked once: what [`Curve::eval`] answers.
+    ///
+    /// ```
+    /// use tasulogi::{Curve, TABLE_A};
+    /// let ts = [0.5, f64::NAN, 2.0];
+    /// let points = TABLE_A.eval_many(&ts)?;
+    /// assert_eq!(points, ts.map(|t| TABLE_A.eval(t)));
+    /// assert_eq!(points[1].unwrap_err().number, 12);
+    /// assert_eq!(Curve { degree: 65, ..TABLE_A }.eval_many(&ts).unwrap_err().number, 2);
+    /// # Ok::<(), tasulogi::Refusal>(())
+    /// ```
+    pub fn eval_many(&self, ts: &[f64]) -> Result<Vec<Result<Point, Refusal>>, Refusal> {
+        rows(ts.len(), |numbers, rows| face::eval_many(self, ts, numbers, rows))
+    }
+
+    /// The point and two derivatives at each parameter, with the curve checked once: what [`Curve::eval2`] answers.
+    ///
+    /// ```
+    /// use tasulogi::TABLE_A;
+    /// let ts = [0.5, f64::NAN, 2.0];
+    /// assert_eq!(TABLE_A.eval2_many(&ts)?, ts.map(|t| TABLE_A.eval2(t)));
+    /// # Ok::<(), tasulogi::Refusal>(())
+    /// ```
+    pub fn eval2_many(&self, ts: &[f64]) -> Result<Vec<Result<Point2, Refusal>>, Refusal> {
+        rows(ts.len(), |numbers, rows| face::eval2_many(self, ts, numbers, rows))
+    }
+
+    /// What [`Curve::bound`] answers on each nonempty span, in order, with the curve checked once.
+    ///
+    /// ```
+    /// use tasulogi::{Curve, TABLE_A};
+    /// for b in TABLE_A.bound_spans()? {
+    ///     assert_eq!(b.point, TABLE_A.bound(b.span.lo, b.span.hi));
+    /// }
+    /// assert_eq!(TABLE_A.bound_spans()?.len(), 2);
+    /// assert_eq!(Curve { degree: 0, ..TABLE_A }.bound_spans().unwrap_err().text(), "degree 0");
+    /// # Ok::<(), tasulogi::Refusal>(())
+    /// ```
+    pub fn bound_spans(&self) -> Result<Vec<SpanBound>, Refusal> {
+        let most = self.count().saturating_sub(self.degree);
+        let (mut marks, mut boxes) = (room(2 * most)?, room(18 * most)?);
+        let count = face::bound_spans(self, &mut marks, &mut boxes);
+        done((count >> 32) as u32)?;
+        let row = |(mark, numbers): (&[u32], &[f64])| {
+            let index = mark[0] as usize;
+            let span = Span { index, lo: self.knots[index], hi: self.knots[index + 1] };
+            SpanBound { span, point: done(mark[1]).map(|()| point_of(numbers)) }
+        };
+        Ok(marks.chunks(2).zip(boxes.chunks(18)).take(count as usize).map(row).collect())
     }
 
     /// The curve run backwards over the same domain.

@@ -21,22 +21,42 @@ pub fn next_span(degree: usize, count: usize, knots: &[f64], from: usize) -> usi
     unsafe { tasulogi_next_span(degree, count, knots.as_ptr(), knots.len(), from) }
 }
 
-/// Functions that take a table in the parts named, or none, then numbers, a run that is read, and lent runs.
+/// What a function answers where it does not say.
+macro_rules! answer {
+    () => {
+        u32
+    };
+    ($kind:ty) => {
+        $kind
+    };
+}
+
+/// Functions that take a table in the parts named, or none, then numbers, a run that is read, a lent run of whole
+/// numbers, and lent runs of doubles.
 macro_rules! calls {
-    ($table:tt $(fn $name:ident = $symbol:literal $takes:tt $(reads $read:ident)? $(lends $($out:ident),+)?;)*) => {
-        $(calls! { @one $table $name $symbol $takes ($($read)?) $($($out)+)? })*
+    ($table:tt $(fn $name:ident = $symbol:literal $takes:tt $(reads $read:ident)? $(marks $mark:ident)?
+        $(lends $($out:ident),+)? $(-> $kind:ty)?;)*) => {
+        $(calls! { @one $table $name $symbol $takes ($($read)?) ($($mark)?) ($($kind)?) $($($out)+)? })*
     };
     (@one ($($t:ident: $table:ty => $($part:expr, $kind:ty;)*)?) $name:ident $symbol:literal ($($x:ident: $number:ty),*)
-        ($($read:ident)?) $($out:ident)*) => {
-        pub fn $name($($t: &$table,)? $($x: $number,)* $($read: &[f64],)? $($out: &mut [f64],)*) -> u32 {
+        ($($read:ident)?) ($($mark:ident)?) ($($answer:ty)?) $($out:ident)*) => {
+        pub fn $name(
+            $($t: &$table,)? $($x: $number,)* $($read: &[f64],)? $($mark: &mut [u32],)? $($out: &mut [f64],)*
+        ) -> answer!($($answer)?) {
             unsafe extern "C" {
                 #[link_name = $symbol]
                 fn call(
-                    $($(_: $kind,)*)? $($x: $number,)* $($read: *const f64, _: usize,)? $($out: *mut f64, _: usize,)*
-                ) -> u32;
+                    $($(_: $kind,)*)? $($x: $number,)* $($read: *const f64, _: usize,)? $($mark: *mut u32, _: usize,)?
+                    $($out: *mut f64, _: usize,)*
+                ) -> answer!($($answer)?);
             }
             // SAFETY: each pointer and length are those of a slice, and the lent ones overlap no other.
-            unsafe { call($($($part,)*)? $($x,)* $($read.as_ptr(), $read.len(),)? $($out.as_mut_ptr(), $out.len(),)*) }
+            unsafe {
+                call(
+                    $($($part,)*)? $($x,)* $($read.as_ptr(), $read.len(),)? $($mark.as_mut_ptr(), $mark.len(),)?
+                    $($out.as_mut_ptr(), $out.len(),)*
+                )
+            }
         }
     };
 }
@@ -67,6 +87,9 @@ calls! {
     fn bound_curve = "tasulogi_bound_curve"(lo: f64, hi: f64) lends out;
     fn eval = "tasulogi_eval"(t: f64) lends out;
     fn eval2 = "tasulogi_eval2"(t: f64) lends out;
+    fn eval_many = "tasulogi_eval_many"() reads ts marks numbers lends rows;
+    fn eval2_many = "tasulogi_eval2_many"() reads ts marks numbers lends rows;
+    fn bound_spans = "tasulogi_bound_spans"() marks spans lends boxes -> u64;
     fn reversed = "tasulogi_reversed"() lends knots, points, weights;
     fn insert_knots = "tasulogi_insert_knots"() reads inserted lends knots, points, weights, scratch;
     fn trim = "tasulogi_trim"(lo: f64, hi: f64) lends knots, points, weights, scratch;

@@ -23,20 +23,20 @@ mod interval;
 mod refusal;
 mod surface;
 
-pub use curve::{Curve, CurveBuf, Span, Spans, TABLE_A};
+pub use curve::{Curve, CurveBuf, Point, Point2, Span, SpanBound, Spans, TABLE_A};
 pub use interval::{Interval, Sign};
 pub use refusal::{Class, Direction, Refusal};
 pub use surface::Surface;
 
 /// The first three intervals of an answered box: x, y, z of the point.
-fn point_of(numbers: &[f64; 18]) -> [Interval; 3] {
+fn point_of(numbers: &[f64]) -> [Interval; 3] {
     [0, 2, 4].map(|i| Interval::of([numbers[i], numbers[i + 1]]))
 }
 
 /// A run of `n` numbers to lend; 30 where there is no memory for it.
-fn room(n: usize) -> Result<Vec<f64>, Refusal> {
+fn room<T: Clone + Default>(n: usize) -> Result<Vec<T>, Refusal> {
     let mut run = Vec::new();
     run.try_reserve_exact(n).or_else(|_| refusal::done(30))?;
-    run.resize(n, 0.0);
+    run.resize(n, T::default());
     Ok(run)
 }

@@ -1,5 +1,5 @@
 //! Any numbers and lengths: each method answers or refuses by a number of document 01.
-use tasulogi::{Class, Curve, CurveBuf, Direction, Interval, Refusal, Sign, Span, Surface, TABLE_A};
+use tasulogi::{Class, Curve, CurveBuf, Direction, Interval, Refusal, Sign, Span, SpanBound, Surface, TABLE_A};
 
 /// A step of Knuth's generator; the high bits are used.
 struct Rng(u64);
@@ -63,6 +63,20 @@ fn nonempty(c: &Curve) -> Vec<Span> {
     spans.filter(|s| s.lo < s.hi).collect()
 }
 
+/// Many at once are the single calls; as text, where each double has its own and every NaN the same.
+fn many(c: &Curve, ts: &[f64], seen: &mut [usize]) {
+    if let Some(points) = told(c.eval_many(ts), seen) {
+        assert_eq!(format!("{points:?}"), format!("{:?}", ts.iter().map(|t| c.eval(*t)).collect::<Vec<_>>()));
+    }
+    if let Some(points) = told(c.eval2_many(ts), seen) {
+        assert_eq!(format!("{points:?}"), format!("{:?}", ts.iter().map(|t| c.eval2(*t)).collect::<Vec<_>>()));
+    }
+    if let Some(bounds) = told(c.bound_spans(), seen) {
+        let alone = nonempty(c).into_iter().map(|span| SpanBound { span, point: c.bound(span.lo, span.hi) });
+        assert_eq!(format!("{bounds:?}"), format!("{:?}", alone.collect::<Vec<_>>()));
+    }
+}
+
 #[test]
 fn every_call_answers_or_refuses() {
     let mut r = Rng(1);
@@ -77,6 +91,7 @@ fn every_call_answers_or_refuses() {
         told(c.eval(t), &mut seen);
         told(c.eval2(t), &mut seen);
         told(c.bound(lo, hi), &mut seen);
+        many(&c, &[t, lo, hi], &mut seen);
         let more = r.below(4);
         let more = r.run(more);
         let raised = [c.degree, c.degree.wrapping_add(1), 3, 64, 65, usize::MAX][r.below(6)];

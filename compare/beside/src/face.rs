@@ -30,22 +30,40 @@ unsafe extern "C" {
     );
 }
 
-/// Functions that take a table in the parts named, then numbers, runs that are read, and lent runs; callers hand over
-/// table and runs whole.
+/// What a function answers where it does not say.
+macro_rules! answer {
+    () => {
+        u32
+    };
+    ($kind:ty) => {
+        $kind
+    };
+}
+
+/// Functions that take a table in the parts named, then numbers, a run that is read, a lent run of whole numbers, and
+/// lent runs of doubles; callers hand over table and runs whole.
 macro_rules! exported {
-    ($table:tt $(fn $name:ident $takes:tt $(reads $read:ident)? $(lends $($out:ident),+)?;)*) => {
-        $(exported! { @one $table $name $takes ($($read)?) $($($out)+)? })*
+    ($table:tt $(fn $name:ident $takes:tt $(reads $read:ident)? $(marks $mark:ident)? $(lends $($out:ident),+)? $(-> $kind:ty)?;)*) => {
+        $(exported! { @one $table $name $takes ($($read)?) ($($mark)?) ($($kind)?) $($($out)+)? })*
     };
     (@one ($($t:ident: $table:ty => $($part:expr, $kind:ty;)*)?) $name:ident ($($x:ident: $number:ty),*) ($($read:ident)?)
-        $($out:ident)*) => {
+        ($($mark:ident)?) ($($answer:ty)?) $($out:ident)*) => {
         #[inline]
-        pub fn $name($($t: $table,)? $($x: $number,)* $($read: &[f64],)? $($out: &mut [f64],)*) -> u32 {
+        pub fn $name(
+            $($t: $table,)? $($x: $number,)* $($read: &[f64],)? $($mark: &mut [u32],)? $($out: &mut [f64],)*
+        ) -> answer!($($answer)?) {
             unsafe extern "C" {
                 fn $name(
-                    $($(_: $kind,)*)? $($x: $number,)* $($read: *const f64, _: usize,)? $($out: *mut f64, _: usize,)*
-                ) -> u32;
+                    $($(_: $kind,)*)? $($x: $number,)* $($read: *const f64, _: usize,)? $($mark: *mut u32, _: usize,)?
+                    $($out: *mut f64, _: usize,)*
+                ) -> answer!($($answer)?);
             }
-            unsafe { $name($($($part,)*)? $($x,)* $($read.as_ptr(), $read.len(),)? $($out.as_mut_ptr(), $out.len(),)*) }
+            unsafe {
+                $name(
+                    $($($part,)*)? $($x,)* $($read.as_ptr(), $read.len(),)? $($mark.as_mut_ptr(), $mark.len(),)?
+                    $($out.as_mut_ptr(), $out.len(),)*
+                )
+            }
         }
     };
 }
@@ -78,6 +96,9 @@ exported! {
     fn tasulogi_eval(t: f64) lends out;
     fn tasulogi_eval_at(t: f64) lends out;
     fn tasulogi_eval2(t: f64) lends out;
+    fn tasulogi_eval_many() reads ts marks numbers lends rows;
+    fn tasulogi_eval2_many() reads ts marks numbers lends rows;
+    fn tasulogi_bound_spans() marks spans lends boxes -> u64;
     fn tasulogi_reversed() lends knots, points, weights;
     fn tasulogi_insert_knots() reads inserted lends knots, points, weights, scratch;
     fn tasulogi_trim(lo: f64, hi: f64) lends knots, points, weights, scratch;

@@ -1,6 +1,6 @@
 //! Module 6: outward bounds of curves and surfaces.
 mod bench;
-mod calls;
+pub mod calls;
 mod exact;
 mod list;
 

@@ -1,6 +1,6 @@
 //! Modules 3 and 4: points and derivatives of curves and surfaces, reversal, isocurves.
 mod bench;
-mod calls;
+pub mod calls;
 mod list;
 
 use super::answered::{Asked, Wanted, compared};

@@ -11,6 +11,7 @@ mod evaluate;
 mod interval;
 mod knots;
 mod listed;
+mod many;
 mod timed;
 
 pub use timed::Times;
@@ -48,4 +49,4 @@ pub struct Module {
     pub bench: fn(u32) -> Vec<Times>,
 }
 
-pub const ALL: [Module; 5] = [interval::MODULE, knots::MODULE, evaluate::MODULE, bounds::MODULE, edits::MODULE];
+pub const ALL: [Module; 6] = [interval::MODULE, knots::MODULE, evaluate::MODULE, bounds::MODULE, edits::MODULE, many::MODULE];

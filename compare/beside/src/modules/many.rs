@@ -1,0 +1,171 @@
+//! Many parameters and all spans of a curve with one validation: each row beside the Rust's single call.
+mod bench;
+
+use super::answered::Wanted;
+use super::bounds::calls as bounds;
+use super::evaluate::calls as evaluate;
+use super::{Desk, Module, Place};
+use crate::face::*;
+use crate::lent::Match;
+use crate::rng::Rng;
+use crate::tables::make::{self, Care};
+use crate::tables::{Curve, FEATURES, LIMIT};
+use crate::tally::Call;
+use evaluate::Order;
+
+const CARE: Care = Care { steep: [300, 300, 200, 100, 10, 10], broken: 8, long: 8000 };
+
+const WHOLE: &[u32] = &[0, 1, 2, 3, 4, 5, 6, 7, 8, 9, 10, 30, 31, 32];
+
+/// Each call, and below it the items of its rows.
+const CALLS: [(&str, &[u32]); 6] = [
+    ("eval_many", WHOLE),
+    ("  each", &[0, 12]),
+    ("eval2_many", WHOLE),
+    ("  each", &[0, 12, 21]),
+    ("bound_spans", WHOLE),
+    ("  each", &[0, 26, 27]),
+];
+
+pub const MODULE: Module = Module {
+    name: "many",
+    calls: || CALLS.map(|c| Call { name: c.0, numbers: c.1, idle: &[] }).into(),
+    // The last is of surfaces alone.
+    features: FEATURES.split_at(FEATURES.len() - 1).0,
+    default_cases: 200_000,
+    case,
+    list: None,
+    bench: bench::table,
+};
+
+/// An item's row: whole numbers that go before the refusal, the refusal or 0, and the doubles.
+struct Item {
+    before: Vec<u32>,
+    number: u32,
+    words: Vec<u64>,
+}
+
+fn item(before: Vec<u32>, width: usize, want: Wanted) -> Item {
+    match want {
+        Wanted::Runs(mut runs) => Item { before, number: 0, words: runs.remove(0) },
+        Wanted::Refused(number) | Wanted::Formed(number) => Item { before, number, words: vec![0; width] },
+    }
+}
+
+/// The refusal of the whole call, but for the rooms.
+fn whole(table: &Curve) -> u32 {
+    match table.rust() {
+        Err(n) => n,
+        Ok(_) if table.is_steep() => 31,
+        Ok(_) => 0,
+    }
+}
+
+/// Mostly the room that is needed, now and then one short, one over, or none.
+fn room(r: &mut Rng, need: usize) -> usize {
+    match r.below(24) {
+        0 => need.saturating_sub(1),
+        1 => need + 1,
+        2 => need + r.below(20) as usize,
+        3 if r.below(4) == 0 => 0,
+        _ => need,
+    }
+}
+
+const MARK: u32 = 0xc0ff_ee11;
+
+/// Lends both runs, and holds what is left in them and what is returned against the items.
+fn compared(
+    desk: &mut Desk,
+    row: usize,
+    width: usize,
+    refusal: u32,
+    items: &[Item],
+    ours: impl FnOnce(&mut [u32], &mut [f64]) -> (u32, usize),
+    literal: impl FnOnce() -> String,
+) -> Option<String> {
+    let Desk { r, lent, tally } = desk;
+    let each = items.first().map_or(1, |i| i.before.len() + 1);
+    let rooms = [room(r, items.len() * each), room(r, items.len() * width)];
+    let short = rooms[0] < items.len() * each || rooms[1] < items.len() * width;
+    let (number, items) = match refusal {
+        0 if short => (30, &[][..]),
+        0 => (0, items),
+        n => (n, &[][..]),
+    };
+    let mut marks = vec![MARK; rooms[0] + 2];
+    let (got, count) = ours(&mut marks[1..=rooms[0]], lent[0].lend(r, rooms[1]));
+    let mut left: Vec<u32> = items.iter().flat_map(|i| i.before.iter().copied().chain([i.number])).collect();
+    left.resize(rooms[0], 0);
+    let words: Vec<u64> = items.iter().flat_map(|i| i.words.iter().copied()).collect();
+    let kept = marks[0] == MARK && marks[rooms[0] + 1] == MARK;
+    let same = kept && marks[1..=rooms[0]] == left && lent[0].holds(&words, false) == Match::Same;
+    let agrees = same && got == number && count == items.len();
+    for i in items {
+        tally.judged(row + 1, i.number, agrees, String::new);
+    }
+    tally.judged(row, number, agrees, || {
+        format!(
+            "{}\n  Rust literal:  {}\n  lent:          {rooms:?} numbers\n  wanted:        {number} {left:x?} {words:x?}\n  ours:          {got} {:x?} {:x?}",
+            CALLS[row].0,
+            literal(),
+            &marks[1..=rooms[0]],
+            lent[0].words()
+        )
+    })
+}
+
+fn points(desk: &mut Desk, order: Order) -> Option<String> {
+    let (row, width) = if order == Order::Two { (2, 9) } else { (0, 6) };
+    let table = made(desk);
+    let n = if desk.r.below(20_000) == 0 { LIMIT + 1 } else { desk.r.below(9) as usize };
+    let ts: Vec<f64> = (0..n).map(|i| if i < 9 { make::parameter(&mut desk.r, &table.knots) } else { 0.0 }).collect();
+    desk.tally.count(ts.iter().take(9));
+    let refusal = if n > LIMIT { 30 } else { whole(&table) };
+    let mut case = evaluate::CurveCase { table, t: 0.0 };
+    let mut each = |t: f64| {
+        case.t = t;
+        item(vec![], width, case.rust_point(order))
+    };
+    let items: Vec<Item> = if refusal == 0 { ts.iter().map(|t| each(*t)).collect() } else { vec![] };
+    let table = &case.table;
+    let ours = |numbers: &mut [u32], rows: &mut [f64]| {
+        let call = if order == Order::Two { tasulogi_eval2_many } else { tasulogi_eval_many };
+        let n = call(table, &ts, numbers, rows);
+        (n, if n == 0 { ts.len() } else { 0 })
+    };
+    compared(desk, row, width, refusal, &items, ours, || format!("{}, at {ts:?}", table.literal()))
+}
+
+fn spans(desk: &mut Desk) -> Option<String> {
+    let table = made(desk);
+    let refusal = whole(&table);
+    let places = if refusal == 0 { table.degree..table.count() } else { 0..0 };
+    let mut case = bounds::CurveCase { table, range: (0.0, 0.0) };
+    let each = |s: usize| {
+        case.range = (case.table.knots[s], case.table.knots[s + 1]);
+        (case.range.0 < case.range.1).then(|| item(vec![s as u32], bounds::BOX, case.rust()))
+    };
+    let items: Vec<Item> = places.filter_map(each).collect();
+    let table = &case.table;
+    let ours = |marks: &mut [u32], boxes: &mut [f64]| {
+        let n = tasulogi_bound_spans(table, marks, boxes);
+        ((n >> 32) as u32, n as u32 as usize)
+    };
+    compared(desk, 4, bounds::BOX, refusal, &items, ours, || table.literal())
+}
+
+fn made(desk: &mut Desk) -> Curve {
+    let table = make::curve(&mut desk.r, &CARE);
+    table.features(&mut desk.tally.features);
+    desk.tally.count(table.doubles().take(400));
+    table
+}
+
+fn case(_: Place, desk: &mut Desk) -> Option<String> {
+    match desk.r.below(4) {
+        0 => points(desk, Order::One),
+        1 => points(desk, Order::Two),
+        _ => spans(desk),
+    }
+}
