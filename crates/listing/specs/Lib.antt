@@ -1,3 +1,5 @@
 pub mod Text
+pub mod Fixed
+pub mod Figures
 pub mod Listing
 pub mod Worked

@@ -1,4 +1,6 @@
 // The span lister's lines.
+mod figures;
+mod fixed;
 mod text;
 
 use knots::refusal::Refusal;
