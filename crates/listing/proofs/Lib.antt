@@ -2,3 +2,8 @@ pub mod Digits
 pub mod Widths
 pub mod Lines
 pub mod Walked
+pub mod Passes
+pub mod Places
+pub mod Rounding
+pub mod Decimals
+pub mod Patterns

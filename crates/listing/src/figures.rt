@@ -1,6 +1,6 @@
 // A whole number of any size as a run of decimal figures, the least significant first.
 ghost use mathlib.Core.Path.{_≡_};
-ghost use mathlib.Core.Bool.{Bool};
+ghost use mathlib.Core.Bool.{cond};
 ghost use Prim.Native.Nat.{_+_, _-_, _*_, _/_, _^_, _≤_, _<_};
 ghost use lib.ListN.{length};
 ghost use lib.Seq.{sets};
@@ -9,7 +9,7 @@ ghost use Rattle.listing.specs.Fixed.{whole};
 ghost use Rattle.listing.specs.Figures.{number, Figures};
 
 // The number times f, and c more. Every carry fits 64 bits.
-pub fn raise(run: &mut [u64], f: u64, c: u64)
+fn raise(run: &mut [u64], f: u64, c: u64)
     requires { ⌜ Figures (now run) ⌝ }
     requires { ⌜ f ≤ 4294967296 ⌝ }
     requires { ⌜ c ≤ 1152921504606846976 ⌝ }
@@ -45,6 +45,17 @@ fn lower(run: &mut [u64], g: u64)
     }
 }
 
+// What is added before a division by g that rounds up.
+fn extra(away: bool, g: u64) -> u64
+    requires { ⌜ 0 < g ⌝ }
+    ensures { λ r. ⌜ r ≡ cond away (g - 1) 0 ⌝ }
+{
+    if away {
+        return g - 1;
+    }
+    0
+}
+
 // The number divided by g, the rest cut or counted as one more.
 fn divide(run: &mut [u64], away: bool, g: u64)
     requires { ⌜ Figures (now run) ⌝ }
@@ -54,9 +65,7 @@ fn divide(run: &mut [u64], away: bool, g: u64)
     ensures { λ _. ⌜ Figures (now (run .exit)) ⌝ }
     ensures { λ _. ⌜ number (now (run .exit)) ≡ whole away (number (now (run .entry))) g ⌝ }
 {
-    if away {
-        raise(run, 1, g - 1);
-    }
+    raise(run, 1, extra(away, g));
     lower(run, g);
 }
 
@@ -107,7 +116,7 @@ fn halve(run: &mut [u64], away: bool, k: usize)
 }
 
 // The number in units of 2^-1074 as a whole one, rounded.
-pub fn scale(run: &mut [u64], away: bool, j: usize)
+fn scale(run: &mut [u64], away: bool, j: usize)
     requires { ⌜ Figures (now run) ⌝ }
     requires { ⌜ length (now run) ≡ 330 ⌝ }
     requires { ⌜ number (now run) < 9671406556917033397649408 ⌝ }
@@ -118,9 +127,25 @@ pub fn scale(run: &mut [u64], away: bool, j: usize)
 {
     if j < 1074 {
         halve(run, away, 1074 - j);
-    } else {
-        double(run, j - 1074);
+        return;
     }
+    double(run, j - 1074);
+}
+
+// q * 2^j / 2^1074 in billionths, rounded.
+pub fn round(run: &mut [u64], away: bool, q: u64, j: usize)
+    requires { ⌜ Figures (now run) ⌝ }
+    requires { ⌜ length (now run) ≡ 330 ⌝ }
+    requires { ⌜ number (now run) ≡ 0 ⌝ }
+    requires { ⌜ q < 9007199254740992 ⌝ }
+    requires { ⌜ j ≤ 2045 ⌝ }
+    ensures { λ _. ⌜ Figures (now (run .exit)) ⌝ }
+    ensures { λ _. ⌜ number (now (run .exit)) ≡ whole away (q * 2 ^ j * 1000000000) (2 ^ 1074) ⌝ }
+    ensures { λ _. ⌜ number (now (run .exit)) < 10 ^ 318 ⌝ }
+{
+    raise(run, 1, q);
+    raise(run, 1000000000, 0);
+    scale(run, away, j);
 }
 
 // How many figures the number has; none for 0.

@@ -1,11 +1,13 @@
 // A double as a decimal with nine digits behind the point.
 use crate::figures::count;
 use crate::figures::put_figures;
-use crate::figures::raise;
-use crate::figures::scale;
+use crate::figures::round;
 use interval::bits::bits_of;
 ghost use mathlib.Core.Path.{_≡_};
-ghost use Prim.Native.Nat.{_+_, _*_, _^_, _≤_, _<_};
+ghost use mathlib.Core.Bool.{cond};
+ghost use lib.Dec.{ltb};
+ghost use Prim.Native.Nat.{_+_, _-_, _*_, _^_, _≤_, _<_};
+ghost use mathlib.Core.List.{[], _∷_};
 ghost use lib.ListN.{length};
 ghost use lib.Seq.{sets};
 ghost use Rattle.listing.specs.Fixed.{minus, whole, billionths, fixed};
@@ -24,6 +26,16 @@ fn put_minus(out: &mut [u8], at: usize, negative: bool) -> usize
     at
 }
 
+// How many of n digits stand before the point.
+fn ahead(n: usize) -> usize
+    ensures { λ r. ⌜ r ≡ cond (ltb 10 n) (n - 9) 1 ⌝ }
+{
+    if 10 < n {
+        return n - 9;
+    }
+    1
+}
+
 // The number of a run as billionths.
 fn put_billionths(out: &mut [u8], at: usize, negative: bool, run: &[u64]) -> usize
     requires { ⌜ at + 330 ≤ length (now out) ⌝ }
@@ -36,7 +48,7 @@ fn put_billionths(out: &mut [u8], at: usize, negative: bool, run: &[u64]) -> usi
 {
     let n = count(run);
     let start = put_minus(out, at, negative & (n > 0));
-    let w = if n > 10 { n - 9 } else { 1 };
+    let w = ahead(n);
     put_figures(out, start, run, 9, w);
     let point = start + w;
     out[point] = b'.';
@@ -54,14 +66,16 @@ fn put_finite(out: &mut [u8], at: usize, negative: bool, away: bool, q: u64, j: 
     ensures { λ r. ⌜ r ≤ at + 330 ⌝ }
 {
     let mut run = [0u64; 330];
-    raise(&mut run, 1, q);
-    raise(&mut run, 1000000000, 0);
-    scale(&mut run, away, j);
+    round(&mut run, away, q, j);
     put_billionths(out, at, negative, &run)
 }
 
-// `nan`, `inf`, `-inf`.
-fn put_word(out: &mut [u8], at: usize, a: u8, b: u8, c: u8) -> usize {
+// A word of three letters.
+fn put_word(out: &mut [u8], at: usize, a: u8, b: u8, c: u8) -> usize
+    requires { ⌜ at + 3 ≤ length (now out) ⌝ }
+    ensures { λ r. ⌜ now (out .exit) ≡ sets (now (out .entry)) at (a ∷ b ∷ c ∷ []) ⌝ }
+    ensures { λ r. ⌜ r ≡ at + 3 ⌝ }
+{
     out[at] = a;
     out[at + 1] = b;
     out[at + 2] = c;
