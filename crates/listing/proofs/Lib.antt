@@ -7,3 +7,4 @@ pub mod Places
 pub mod Rounding
 pub mod Decimals
 pub mod Patterns
+pub mod Enclosing
