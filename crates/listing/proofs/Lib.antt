@@ -2,3 +2,10 @@ pub mod Digits
 pub mod Widths
 pub mod Lines
 pub mod Walked
+pub mod Storing
+pub mod Passes
+pub mod Places
+pub mod Rounding
+pub mod Decimals
+pub mod Patterns
+pub mod Enclosing
