@@ -4,13 +4,14 @@ use Prim.Native.Nat.{ℕ, zero, suc, _+_, _-_, _≤_, _<_}
 use mathlib.Core.Path.{_≡_, refl, sym, _∙_, ap, subst}
 use mathlib.Core.List.{List, [], _∷_, _++_}
 use native.Mathlib.Omega.{arith}
-use native.Mathlib.Nat.{sub-zero, zero-sub, suc-sub-suc, not-suc-le-zero, le-of-suc-le-suc}
+use native.Mathlib.Nat.{not-suc-le-zero, le-of-suc-le-suc}
 use native.Mathlib.Numerals.{add-one}
 use lib.ListN.{length, set, take, drop, length-append, length-replicate}
 use lib.Seq.{take-at}
 use lib.Ieee.{Float}
 use Rattle.doubles.specs.Value.{zero+}
 use Rattle.knots.specs.Clear.{zeros}
+use Rattle.knots.proofs.Fill.{drop-replicate}
 use Rattle.knots.specs.declared.refusal.Refusal.{Refusal}
 use Rattle.knots.proofs.Refusals.{stop, skip}
 use Rattle.basis.specs.Basis.{tabulate}
@@ -33,9 +34,7 @@ store-more n f d xs x l e h =
 
 -- ---- over a run of +0.0
 pub drop-zeros : (n m : ℕ) → drop n (zeros m) ≡ zeros (m - n)
-drop-zeros zero m = ap zeros (sym (sub-zero m))
-drop-zeros (suc n) zero = ap zeros (sym (zero-sub (suc n)))
-drop-zeros (suc n) (suc m) = drop-zeros n m ∙ ap zeros (sym (suc-sub-suc m n))
+drop-zeros n m = drop-replicate n m zero+
 
 pub stored : (n m : ℕ) (f : ℕ → Float) (d xs : List Float) → d ≡ zeros m → xs ≡ tabulate n f ++ drop n d → xs ≡ padded m (tabulate n f)
 unfolding padded

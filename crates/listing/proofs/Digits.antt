@@ -2,12 +2,12 @@
 -- Assumes nothing.
 use Prim.Native.Nat.{ℕ, zero, suc, _+_, _-_, _/_, _%_, _≤_, _<_}
 use mathlib.Core.Path.{_≡_, refl, sym, _∙_, ap}
-use mathlib.Core.List.{List, [], _∷_, _++_}
+use mathlib.Core.List.{List, [], _∷_}
 use native.Mathlib.Numerals.{add-one}
 use native.Mathlib.Omega.{arith}
 use lib.ListN.{length, set, length-append}
 use lib.Seq.{sets, set-comm}
-use Rattle.record.proofs.Stores.{sets-append}
+use Rattle.knots.proofs.Fill.{sets-append}
 use Rattle.listing.specs.Text.{digit, digits}
 
 pub length-digits : (base k n : ℕ) → length (digits base k n) ≡ k

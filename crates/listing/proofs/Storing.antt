@@ -8,7 +8,7 @@ use native.Mathlib.Omega.{arith}
 use lib.ListN.{length, set, replicate, length-append}
 use lib.Seq.{sets}
 use lib.Ieee.{Float}
-use Rattle.record.proofs.Stores.{sets-append}
+use Rattle.knots.proofs.Fill.{sets-append}
 use Rattle.bounds.specs.declared.answer.Bounded.{Bounded}
 use Rattle.listing.specs.Text.{decimal, spacedBits, Shown}
 use Rattle.listing.specs.Boxes.{outcome, boxLine}

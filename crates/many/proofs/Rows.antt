@@ -1,14 +1,15 @@
 -- Rows stored one after the other at the front of a run, at any type: each turn of a loop stores one more.
 -- Assumes nothing.
-use Prim.Native.Nat.{ℕ, zero, suc, _+_, _-_, _*_, _≤_}
+use Prim.Native.Nat.{ℕ, suc, _+_, _-_, _*_, _≤_}
 use mathlib.Core.Bool.{Bool}
 use mathlib.Core.Path.{_≡_, refl, sym, _∙_, ap, ap₂}
 use mathlib.Core.List.{List, [], _∷_, _++_, append-assoc, append-nil}
 use native.Mathlib.Omega.{arith}
-use native.Mathlib.Nat.{mul-le-mul, sub-zero, zero-sub, suc-sub-suc}
+use native.Mathlib.Nat.{mul-le-mul}
 use lib.ListN.{length, set, take, drop, replicate, length-append}
 use lib.Seq.{sets, sets-eq, length-sets, take-at, drop-append-add, drop-drop}
 use Rattle.knots.specs.declared.refusal.Refusal.{Refusal}
+use Rattle.knots.proofs.Fill.{sets-append, drop-replicate}
 use Rattle.knots.proofs.Refusals.{stop, skip, orElse-none}
 use lib.Ieee.{Float}
 use Rattle.doubles.specs.Value.{zero+}
@@ -23,8 +24,7 @@ use Rattle.many.specs.declared.answer.ManyAnswer.the-variants.{Rows, Ref
 module _ {Y : Type 0} where
   -- two runs of stores, one behind the other
   pub sets-more : (xs ys l : List Y) (i j : ℕ) → j ≡ i + length xs → sets (sets l i xs) j ys ≡ sets l i (xs ++ ys)
-  sets-more [] ys l i j e = let h : j ≡ i = omega (arith, e) in ap (λ (k : ℕ). sets l k ys) h
-  sets-more (x ∷ xs) ys l i j e = sets-more xs ys (set l i x) (suc i) j (omega (arith, e))
+  sets-more xs ys l i j e = ap (λ (k : ℕ). sets (sets l i xs) k ys) e ∙ sets-append l i xs ys
 
   -- stores one by one
   pub stored-two : (l : List Y) (i : ℕ) (a b : Y) → set (set l i a) (i + 1) b ≡ sets l i (a ∷ b ∷ [])
@@ -38,11 +38,6 @@ module _ {Y : Type 0} where
   -- three runs of stores, one behind the other
   pub sets-three : (xs ys zs l : List Y) (i j k : ℕ) → j ≡ i + length xs → k ≡ j + length ys → sets (sets (sets l i xs) j ys) k zs ≡ sets l i (xs ++ (ys ++ zs))
   sets-three xs ys zs l i j k e h = sets-more ys zs (sets l i xs) j k h ∙ sets-more xs (ys ++ zs) l i j e
-
-  drop-replicate : (n m : ℕ) (z : Y) → drop n (replicate m z) ≡ replicate (m - n) z
-  drop-replicate zero m z = ap (λ (k : ℕ). replicate k z) (sym (sub-zero m))
-  drop-replicate (suc n) zero z = ap (λ (k : ℕ). replicate k z) (sym (zero-sub (suc n)))
-  drop-replicate (suc n) (suc m) z = drop-replicate n m z ∙ ap (λ (k : ℕ). replicate k z) (sym (suc-sub-suc m n))
 
 module _ {X Y : Type 0} (f : X → List Y) where
   rows-snoc : (xs : List X) (x : X) → rowsBy f (xs ++ x ∷ []) ≡ rowsBy f xs ++ f x

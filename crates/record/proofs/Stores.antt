@@ -1,13 +1,14 @@
 -- Stores into a run, one after another: `sets l i vs` is the run l with vs stored from place i on.
 -- Assumes nothing.
-use Prim.Native.Nat.{ℕ, zero, suc, _+_, _-_, _*_, _/_, _^_, _≤_, _<_}
+use Prim.Native.Nat.{ℕ, _+_, _-_, _*_, _/_, _^_, _≤_, _<_}
 use mathlib.Core.Path.{_≡_, _∙_}
-use mathlib.Core.List.{List, [], _∷_, _++_, append-nil}
-use native.Mathlib.Nat.{add-zero, add-suc, suc-add, zero-add, sub-zero, zero-sub, suc-sub-suc}
+use mathlib.Core.List.{List, [], _∷_, _++_}
+use native.Mathlib.Nat.{zero-add}
 use native.Mathlib.Omega.{arith}
-use lib.ListN.{length, getD, set, take, drop, replicate, length-replicate}
-use lib.Seq.{sets, sets-eq, drop-length}
+use lib.ListN.{length, getD, set, take, replicate, length-replicate}
+use lib.Seq.{sets, sets-eq}
 use lib.Ieee.{Float, nan, binary64, toBits}
+use Rattle.knots.proofs.Fill.{sets-append, drop-replicate}
 use Rattle.record.specs.Format.{little, doubles, head, field}
 use Rattle.record.specs.Writing.{bits}
 use Rattle.record.proofs.Little.{length-little, little-add}
@@ -15,23 +16,13 @@ use Rattle.record.proofs.Runs.{length-bits, doubles-more}
 use Rattle.record.proofs.Fields.{length-head}
 
 module _ {A : Type 0} where
-  -- two runs of stores are one
-  pub sets-append : (l : List A) (i : ℕ) (xs ys : List A) → sets (sets l i xs) (i + length xs) ys ≡ sets l i (xs ++ ys)
-  sets-append l i [] ys = rw add-zero
-  sets-append l i (x ∷ xs) ys = rw (add-suc, ← suc-add) (sets-append (set l i x) (suc i) xs ys)
-
-  -- the same behind a front
+  -- a run of stores behind a front
   pub sets-next : (l p q : List A) (a : ℕ) → length p ≡ a → sets (sets l 0 p) a q ≡ sets l 0 (p ++ q)
   sets-next l p q a e = rw (zero-add, e) at (sets-append l 0 p q)
 
   -- one store more at the end of a front
   pub front-more : (l xs : List A) (y : A) (j : ℕ) → length xs ≡ j → set (sets l 0 xs) j y ≡ sets l 0 (xs ++ (y ∷ []))
   front-more l xs y j e = sets-next l xs (y ∷ []) j e
-
-  pub drop-replicate : (n m : ℕ) (a : A) → drop n (replicate m a) ≡ replicate (m - n) a
-  drop-replicate zero m a = rw sub-zero
-  drop-replicate (suc n) zero a = rw zero-sub
-  drop-replicate (suc n) (suc m) a = rw suc-sub-suc (drop-replicate n m a)
 
   -- a front stored into equal numbers leaves the others behind it
   pub sets-front : (n : ℕ) (a : A) (xs : List A) → length xs ≤ n → sets (replicate n a) 0 xs ≡ xs ++ replicate (n - length xs) a
