@@ -1,6 +1,10 @@
 // The span lister's lines.
+pub mod drawing;
+mod extremes;
 mod figures;
 mod fixed;
+mod paths;
+mod pieces;
 mod text;
 
 use knots::refusal::Refusal;

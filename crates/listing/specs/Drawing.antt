@@ -1,0 +1,106 @@
+-- The drawing of a motion table, an SVG: the control polygon and the box of each nonempty span, y upward.
+-- Assumes nothing.
+use Prim.Native.Nat.{ℕ, _+_, _-_, _*_, _/_}
+use Prim.Native.String.{String}
+use mathlib.Core.Bool.{Bool, true, false, _&&_, cond}
+use mathlib.Core.Path.{_≡_}
+use mathlib.Core.List.{List, [], _∷_, _++_}
+use lib.ListN.{length, replicate}
+use lib.Ieee.{Float, inf, binary64, neg, lt, sub}
+use lib.Ieee.Scale.{finite}
+use Rattle.doubles.specs.Run.{at}
+use Rattle.doubles.specs.Neighbour.{nextDown, fmin}
+use Rattle.doubles.specs.Value.{zero+, one+}
+use Rattle.interval.specs.declared.Interval.{Interval}
+use Rattle.bounds.specs.Start.{minFrom, maxFrom}
+use Rattle.bounds.specs.declared.answer.Bounded.{Bounded}
+use Rattle.bounds.specs.declared.answer.Bounded.the-variants.{Are, Refused}
+use Rattle.listing.specs.Ascii.{ascii}
+use Rattle.listing.specs.Text.{decimal}
+use Rattle.listing.specs.Fixed.{fixed}
+use Rattle.listing.specs.declared.drawing.View.{View}
+
+-- ---- what is in view
+
+-- coordinate k of point i
+abbrev pub coordinate : List Float → ℕ → ℕ → Float
+coordinate ps k i = at ps (i * 3 + k)
+
+unfoldable pub leastOf : List Float → ℕ → Float
+leastOf ps k = minFrom (inf false) (coordinate ps k) (length ps / 3)
+
+unfoldable pub greatestOf : List Float → ℕ → Float
+greatestOf ps k = maxFrom (inf true) (coordinate ps k) (length ps / 3)
+
+-- how much is in view from lo on: up to hi, but no infinity; 1 where there is nothing between
+unfoldable pub extentOf : Float → Float → Float
+extentOf lo hi = let d = sub binary64 hi lo in cond (lt zero+ d) (fmin d (nextDown (inf false))) one+
+
+-- left end, top with its sign turned, width and height
+unfoldable pub viewOf : List Float → View
+viewOf ps = record {
+  x = leastOf ps 0;
+  y = neg (greatestOf ps 1);
+  width = extentOf (leastOf ps 0) (greatestOf ps 0);
+  height = extentOf (leastOf ps 1) (greatestOf ps 1);
+}
+
+-- ---- the texts
+
+-- a text and a number behind it
+unfoldable pub number : String → Bool → Float → List ℕ
+number lead above x = ascii lead ++ fixed above x
+
+unfoldable pub labelled : String → ℕ → List ℕ
+labelled lead n = ascii lead ++ decimal n
+
+-- up to the view
+abbrev pub opening : String
+opening = "<svg xmlns=\"http://www.w3.org/2000/svg\" width=\"1200\" height=\"600\">\n<svg x=\"60\" y=\"30\" width=\"1080\" height=\"540\" overflow=\"visible\" preserveAspectRatio=\"none\" viewBox=\""
+
+-- from the view to the points
+abbrev pub polygon : String
+polygon = "\">\n<g transform=\"scale(1,-1)\" fill=\"none\">\n<polyline vector-effect=\"non-scaling-stroke\" stroke=\"blue\" points=\"\n"
+
+unfoldable pub headText : View → List ℕ
+headText v = number opening false (v .x) ++ (number " " false (v .y) ++ (number " " true (v .width) ++ (number " " true (v .height) ++ ascii polygon)))
+
+-- a point of the control polygon
+unfoldable pub pointText : Float → Float → List ℕ
+pointText x y = fixed false x ++ (number "," false y ++ (10 ∷ []))
+
+-- from the points to the boxes
+unfoldable pub middleText : List ℕ
+middleText = ascii "\"/>\n<g stroke=\"red\">\n"
+
+unfoldable pub tailText : List ℕ
+tailText = ascii "</g></g></svg></svg>\n"
+
+-- ---- the box of a span
+
+unfoldable pub bothFinite : Interval → Interval → Bool
+bothFinite x y = ((finite (x .lo) && finite (x .hi)) && finite (y .lo)) && finite (y .hi)
+
+-- the sides of a box, by its left, bottom, right and top
+unfoldable pub sidesText : Float → Float → Float → Float → List ℕ
+sidesText l b r t = number " d=\"M" false l ++ (number " " false b ++ (number "H" true r ++ (number "V" true t ++ (number "H" false l ++ ascii "Z\"/>\n"))))
+
+unfoldable pub pathText : ℕ → Interval → Interval → List ℕ
+pathText s x y = labelled "<path id=\"span" s ++ (ascii "\" vector-effect=\"non-scaling-stroke\"" ++ sidesText (x .lo) (y .lo) (x .hi) (y .hi))
+
+unfoldable pub refusedText : ℕ → ℕ → List ℕ
+refusedText s n = labelled "<!-- span " s ++ (labelled " refused " n ++ ascii " -->\n")
+
+unfoldable pub unboundedText : ℕ → List ℕ
+unboundedText s = labelled "<!-- span " s ++ ascii " unbounded -->\n"
+
+-- a path, or, where there is none to draw, why
+abbrev pub boxText : ℕ → Bounded → List ℕ
+boxText s (Are b) = cond (bothFinite (b .point .x) (b .point .y)) (pathText s (b .point .x) (b .point .y)) (unboundedText s)
+boxText s (Refused r) = refusedText s (r .number)
+
+-- a run of `room` bytes holds a text and 0 behind it, and n is the text's length
+pub record Filled (room : ℕ) (text after : List ℕ) (n : ℕ) : Type 0 where
+  pub count : n ≡ length text
+  pub bytes : after ≡ text ++ replicate (room - length text) 0
+  pub long : length after ≡ room
