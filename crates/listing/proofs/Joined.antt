@@ -1,15 +1,16 @@
 -- A text stored byte by byte, and texts stored one behind the other: what is left to store, into the run as it is, gives the run that is asked for.
 -- Assumes nothing.
-use Prim.Native.Nat.{ℕ, suc, _+_, _≤_, _<_}
-use mathlib.Core.Path.{_≡_, refl, sym, _∙_, ap}
+use Prim.Native.Nat.{ℕ, _+_, _≤_, _<_}
+use mathlib.Core.Path.{_≡_, refl, _∙_, ap}
 use mathlib.Core.List.{List, [], _∷_, _++_}
 use native.Mathlib.Numerals.{add-one}
-use native.Mathlib.Nat.{add-suc, add-zero, zero-add}
+use native.Mathlib.Nat.{add-suc, zero-add}
 use native.Mathlib.Omega.{arith}
-use lib.ListN.{length, getD, set, drop, take, replicate, length-append, length-replicate}
-use lib.Seq.{sets, length-sets, drop-cons, drop-length, length-take-le}
-use Rattle.record.proofs.Stores.{sets-append, sets-front}
-use Rattle.listing.specs.Drawing.{Filled}
+use lib.ListN.{length, getD, set, drop, replicate, length-append}
+use lib.Seq.{sets, drop-cons, drop-length}
+use Rattle.record.proofs.Stores.{sets-append}
+use Rattle.listing.specs.Text.{Shown}
+use Rattle.listing.proofs.Lines.{shown}
 
 -- ---- bytes
 
@@ -43,24 +44,9 @@ module _ {l goal o : List ℕ} {a b : ℕ} {o′ : List ℕ} {b′ : ℕ} where
   left-last q left e n = (e ∙ left .stores, n ∙ left .counts)
 
 -- a text at the front of cleared bytes
-pub filled : (room : ℕ) {text after : List ℕ} {n : ℕ} → after ≡ sets (replicate room 0) 0 text → n ≡ 0 + length text → n ≤ room → Filled room text after n
-filled room {text} {after} {n} e count h =
-    record {
-      count = count ∙ zero-add _;
-      bytes = e ∙ sets-front room 0 text (omega arith);
-      long = ap length e ∙ length-sets (replicate room 0) 0 text ∙ length-replicate room 0;
-    }
+pub filled : (room : ℕ) {text after : List ℕ} {n : ℕ} → after ≡ sets (replicate room 0) 0 text → n ≡ 0 + length text → n ≤ room → Shown room text after n
+filled room e count h = shown room _ _ _ e (count ∙ zero-add _) h
 
 -- the same stored in one piece
-pub filled-at : (room : ℕ) {text o after : List ℕ} {n : ℕ} → o ≡ replicate room 0 → after ≡ sets o 0 text → n ≡ 0 + length text → n ≤ room → Filled room text after n
+pub filled-at : (room : ℕ) {text o after : List ℕ} {n : ℕ} → o ≡ replicate room 0 → after ≡ sets o 0 text → n ≡ 0 + length text → n ≤ room → Shown room text after n
 filled-at room {text} cleared e count h = filled room (e ∙ ap (λ (x : List ℕ). sets x 0 text) cleared) count h
-
--- ---- what a caller prints
-
--- the count of a text is within its bytes
-pub filled-counts : {room : ℕ} {text after : List ℕ} {n : ℕ} → Filled room text after n → (n ≤ length after) × (n ≡ length (take n after))
-filled-counts {room} {text} {after} {n} s =
-    let sum = ap length (s .bytes) ∙ length-append text _ in
-    let c = s .count in
-    let within : n ≤ length after = omega arith in
-    (within, sym (length-take-le n after within))

@@ -1,11 +1,10 @@
 -- The drawing of a motion table, an SVG: the control polygon and the box of each nonempty span, y upward.
 -- Assumes nothing.
-use Prim.Native.Nat.{ℕ, _+_, _-_, _*_, _/_}
+use Prim.Native.Nat.{ℕ, _+_, _*_, _/_}
 use Prim.Native.String.{String}
 use mathlib.Core.Bool.{Bool, true, false, _&&_, cond}
-use mathlib.Core.Path.{_≡_}
 use mathlib.Core.List.{List, [], _∷_, _++_}
-use lib.ListN.{length, replicate}
+use lib.ListN.{length}
 use lib.Ieee.{Float, inf, binary64, neg, lt, sub}
 use lib.Ieee.Scale.{finite}
 use Rattle.doubles.specs.Run.{at}
@@ -98,9 +97,3 @@ unboundedText s = labelled "<!-- span " s ++ ascii " unbounded -->\n"
 abbrev pub boxText : ℕ → Bounded → List ℕ
 boxText s (Are b) = cond (bothFinite (b .point .x) (b .point .y)) (pathText s (b .point .x) (b .point .y)) (unboundedText s)
 boxText s (Refused r) = refusedText s (r .number)
-
--- a run of `room` bytes holds a text and 0 behind it, and n is the text's length
-pub record Filled (room : ℕ) (text after : List ℕ) (n : ℕ) : Type 0 where
-  pub count : n ≡ length text
-  pub bytes : after ≡ text ++ replicate (room - length text) 0
-  pub long : length after ≡ room

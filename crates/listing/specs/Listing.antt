@@ -17,23 +17,23 @@ use Rattle.listing.specs.declared.NextLine.the-variants.{Line, End}
 unfoldable pub lineOf : List Float → ℕ → List ℕ
 lineOf ks s = spanLine s (at ks s) (at ks (s + 1))
 
--- ---- one line
+-- ---- one line, where each span has one
 -- what is shown of the next span: its line, and nothing where there is none
-abbrev pub shownOf : List Float → NextSpan → List ℕ
-shownOf ks (At s) = lineOf ks s
-shownOf ks Nothing = []
+abbrev pub shownOf : (ℕ → List ℕ) → NextSpan → List ℕ
+shownOf line (At s) = line s
+shownOf line Nothing = []
 
--- the answer of `next_line`
-abbrev pub answerOf : List Float → NextSpan → NextLine
-answerOf ks (At s) = Line s (length (lineOf ks s))
-answerOf ks Nothing = End
+-- the answer of `next_line` and `next_box`
+abbrev pub answerOf : (ℕ → List ℕ) → NextSpan → NextLine
+answerOf line (At s) = Line s (length (line s))
+answerOf line Nothing = End
 
 -- ---- the listing
 -- the lines of the nonempty spans among the k places from s on
-unfoldable pub linesOf : ℕ → List Float → ℕ → List ℕ
-linesOf zero ks s = []
-linesOf (suc k) ks s = cond (nonempty ks s) (lineOf ks s) [] ++ linesOf k ks (s + 1)
+unfoldable pub linesOf : (ℕ → List ℕ) → ℕ → List Float → ℕ → List ℕ
+linesOf line zero ks s = []
+linesOf line (suc k) ks s = cond (nonempty ks s) (line s) [] ++ linesOf line k ks (s + 1)
 
 -- all that is printed of a curve of degree p and n points
-unfoldable pub listing : ℕ → ℕ → List Float → List ℕ
-listing p n ks = linesOf (n - p) ks p
+unfoldable pub listing : (ℕ → List ℕ) → ℕ → ℕ → List Float → List ℕ
+listing line p n ks = linesOf line (n - p) ks p

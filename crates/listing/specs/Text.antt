@@ -42,8 +42,8 @@ refusedWord = 114 ∷ 101 ∷ 102 ∷ 117 ∷ 115 ∷ 101 ∷ 100 ∷ 32 ∷ []
 unfoldable pub refusalLine : Refusal → List ℕ
 refusalLine r = refusedWord ++ (decimal (r .number) ++ (10 ∷ []))
 
--- a run of 64 bytes holds a text and 0 behind it, and n is the text's length
-pub record Shown (text after : List ℕ) (n : ℕ) : Type 0 where
+-- a run of so many bytes holds a text and 0 behind it, and n is the text's length
+pub record Shown (room : ℕ) (text after : List ℕ) (n : ℕ) : Type 0 where
   pub count : n ≡ length text
-  pub bytes : after ≡ text ++ replicate (64 - length text) 0
-  pub long : length after ≡ 64
+  pub bytes : after ≡ text ++ replicate (room - length text) 0
+  pub long : length after ≡ room

@@ -39,7 +39,7 @@ abbrev bits2 : List ℕ
 bits2 = 52 ∷ 48 ∷ 48 ∷ zeros
 
 pub record Worked : Type 0 where
-  pub table-a : listing 2 4 knotsA ≡ (50 ∷ 32 ∷ bits0) ++ (32 ∷ bits1) ++ (10 ∷ 51 ∷ 32 ∷ bits1) ++ (32 ∷ bits2) ++ (10 ∷ [])
+  pub table-a : listing (lineOf knotsA) 2 4 knotsA ≡ (50 ∷ 32 ∷ bits0) ++ (32 ∷ bits1) ++ (10 ∷ 51 ∷ 32 ∷ bits1) ++ (32 ∷ bits2) ++ (10 ∷ [])
   pub nought : decimal 0 ≡ 48 ∷ []
   pub longest : decimal 0xffffffffffffffff ≡
       49 ∷ 56 ∷ 52 ∷ 52 ∷ 54 ∷ 55 ∷ 52 ∷ 52 ∷ 48 ∷ 55 ∷ 51 ∷ 55 ∷ 48 ∷ 57 ∷ 53 ∷ 53 ∷ 49 ∷ 54 ∷ 49 ∷ 53 ∷ []

@@ -14,7 +14,8 @@ use interval::float::min;
 use interval::float::next_down;
 use record::clear::clear_bytes;
 ghost use mathlib.Core.Path.{_≡_};
-ghost use Rattle.listing.specs.Drawing.{extentOf, viewOf, headText, pointText, middleText, tailText, boxText, Filled};
+ghost use Rattle.listing.specs.Text.{Shown};
+ghost use Rattle.listing.specs.Drawing.{extentOf, viewOf, headText, pointText, middleText, tailText, boxText};
 
 // The numbers of an SVG's viewBox: y grows downward there, so the top is the greatest y with its sign turned.
 pub struct View {
@@ -53,7 +54,7 @@ pub fn view_of(points: &[f64]) -> View
 
 // The start of the drawing, with 0 behind it, and its length.
 pub fn head_text(view: View, out: &mut [u8; 2048]) -> usize
-    ensures { λ r. ⌜ Filled 2048 (headText view) (now (out .exit)) r ⌝ }
+    ensures { λ r. ⌜ Shown 2048 (headText view) (now (out .exit)) r ⌝ }
 {
     clear_bytes(out);
     let a = put_number(
@@ -75,7 +76,7 @@ pub fn head_text(view: View, out: &mut [u8; 2048]) -> usize
 
 // A point of the control polygon, in a line of its own.
 pub fn point_text(x: f64, y: f64, out: &mut [u8; 1024]) -> usize
-    ensures { λ r. ⌜ Filled 1024 (pointText x y) (now (out .exit)) r ⌝ }
+    ensures { λ r. ⌜ Shown 1024 (pointText x y) (now (out .exit)) r ⌝ }
 {
     clear_bytes(out);
     let a = put_fixed(out, 0, false, x);
@@ -86,7 +87,7 @@ pub fn point_text(x: f64, y: f64, out: &mut [u8; 1024]) -> usize
 
 // What stands between the points and the boxes.
 pub fn middle_text(out: &mut [u8; 64]) -> usize
-    ensures { λ r. ⌜ Filled 64 middleText (now (out .exit)) r ⌝ }
+    ensures { λ r. ⌜ Shown 64 middleText (now (out .exit)) r ⌝ }
 {
     clear_bytes(out);
     put_text(out, 0, b"\"/>\n<g stroke=\"red\">\n")
@@ -94,7 +95,7 @@ pub fn middle_text(out: &mut [u8; 64]) -> usize
 
 // The end of the drawing.
 pub fn tail_text(out: &mut [u8; 64]) -> usize
-    ensures { λ r. ⌜ Filled 64 tailText (now (out .exit)) r ⌝ }
+    ensures { λ r. ⌜ Shown 64 tailText (now (out .exit)) r ⌝ }
 {
     clear_bytes(out);
     put_text(out, 0, b"</g></g></svg></svg>\n")
@@ -102,7 +103,7 @@ pub fn tail_text(out: &mut [u8; 64]) -> usize
 
 // The line of a span: its box as a path, or why there is none to draw.
 pub fn box_text(span: usize, answer: Bounded, out: &mut [u8; 2048]) -> usize
-    ensures { λ r. ⌜ Filled 2048 (boxText span answer) (now (out .exit)) r ⌝ }
+    ensures { λ r. ⌜ Shown 2048 (boxText span answer) (now (out .exit)) r ⌝ }
 {
     clear_bytes(out);
     match answer {

@@ -18,7 +18,7 @@ ghost use mathlib.Core.Path.{_≡_};
 ghost use lib.ListN.{length};
 ghost use Rattle.knots.specs.Walk.{nextSpan};
 ghost use Rattle.listing.specs.Text.{spanLine, refusalLine, Shown};
-ghost use Rattle.listing.specs.Listing.{shownOf, answerOf};
+ghost use Rattle.listing.specs.Listing.{lineOf, shownOf, answerOf};
 
 // The line of the next nonempty span, with the bytes that it has, or that there is none.
 pub enum NextLine {
@@ -28,7 +28,7 @@ pub enum NextLine {
 
 // The line of a span between two knots into a lent run, with 0 behind it, and its length. Every NaN is shown as the quiet one with no sign and no payload.
 pub fn span_line(span: usize, lower: f64, upper: f64, out: &mut [u8; 64]) -> usize
-    ensures { λ r. ⌜ Shown (spanLine span lower upper) (now (out .exit)) r ⌝ }
+    ensures { λ r. ⌜ Shown 64 (spanLine span lower upper) (now (out .exit)) r ⌝ }
 {
     clear_bytes(out);
     let a = put_decimal(out, 0, span as u64);
@@ -40,7 +40,7 @@ pub fn span_line(span: usize, lower: f64, upper: f64, out: &mut [u8; 64]) -> usi
 
 // The line of a refusal, with 0 behind it, and its length.
 pub fn refusal_line(refusal: Refusal, out: &mut [u8; 64]) -> usize
-    ensures { λ r. ⌜ Shown (refusalLine refusal) (now (out .exit)) r ⌝ }
+    ensures { λ r. ⌜ Shown 64 (refusalLine refusal) (now (out .exit)) r ⌝ }
 {
     clear_bytes(out);
     put_refused(out);
@@ -57,8 +57,8 @@ pub fn next_line(
     from: usize,
     out: &mut [u8; 64],
 ) -> NextLine
-    ensures { λ r. ⌜ r ≡ answerOf (now (knots .entry)) (nextSpan degree count (now (knots .entry)) from) ⌝ }
-    ensures { λ r. ⌜ Shown (shownOf (now (knots .entry)) (nextSpan degree count (now (knots .entry)) from)) (now (out .exit)) (length (shownOf (now (knots .entry)) (nextSpan degree count (now (knots .entry)) from))) ⌝ }
+    ensures { λ r. ⌜ r ≡ answerOf (lineOf (now (knots .entry))) (nextSpan degree count (now (knots .entry)) from) ⌝ }
+    ensures { λ r. ⌜ Shown 64 (shownOf (lineOf (now (knots .entry))) (nextSpan degree count (now (knots .entry)) from)) (now (out .exit)) (length (shownOf (lineOf (now (knots .entry))) (nextSpan degree count (now (knots .entry)) from))) ⌝ }
 {
     match next_span(degree, count, knots, from) {
         NextSpan::At(span) => {

@@ -68,7 +68,7 @@ returns-2 c =
     let a = c .before .before .before .before .before .before .args in
     let e : nextSpan (a .degree) (a .count) (now (a .knots)) (a .«from») ≡ Nothing = sym (c .before .before .before .before .next-span .ensures) ∙ c .before .before .enum-told .given .1 in
     let long : length (now (a .out)) ≡ 64 = search needs in
-    rw (e, c .clear-bytes .ensures, long) (refl, none-shown)
+    rw (e, c .clear-bytes .ensures, long) (refl, none-shown 64)
 
 pub next-line-spec : {M : Type 1} → statement M
 next-line-spec =

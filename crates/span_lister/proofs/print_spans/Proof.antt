@@ -22,7 +22,7 @@ line : (c : tie.After-known-told Inv-loop μ-loop) →
     Told (a .degree) (a .count) (now (a .knots)) (c .before .before .before .before .before .before .loop .«from») (found .0) (found .1 .0) (c .before .before .before .next-line .last .1 .1 .1 .1 .0)
 line c =
     let next = c .before .before .before .next-line .ensures in
-    told _ _ _ _ _ _ _ (sym (c .before .span .given .1) ∙ next .0) (next .1)
+    told _ _ _ _ _ _ _ _ _ (sym (c .before .span .given .1) ∙ next .0) (next .1)
 
 loop-holds : tie.Need-loop-holds Inv-loop μ-loop
 loop-holds c = tt
