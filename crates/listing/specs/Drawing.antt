@@ -1,22 +1,24 @@
 -- The drawing of a motion table, an SVG: the control polygon and the box of each nonempty span, y upward.
 -- Assumes nothing.
-use Prim.Native.Nat.{ℕ, _+_, _*_, _/_}
+use Prim.Native.Nat.{ℕ, zero, suc, _+_, _*_}
 use Prim.Native.String.{String}
 use mathlib.Core.Bool.{Bool, true, false, _&&_, cond}
 use mathlib.Core.List.{List, [], _∷_, _++_}
-use lib.ListN.{length}
 use lib.Ieee.{Float, inf, binary64, neg, lt, sub}
 use lib.Ieee.Scale.{finite}
 use Rattle.doubles.specs.Run.{at}
 use Rattle.doubles.specs.Neighbour.{nextDown, fmin}
 use Rattle.doubles.specs.Value.{zero+, one+}
 use Rattle.interval.specs.declared.Interval.{Interval}
+use Rattle.knots.specs.Curve.{countOf}
 use Rattle.bounds.specs.Start.{minFrom, maxFrom}
+use Rattle.bounds.specs.Curve.{boundAt}
 use Rattle.bounds.specs.declared.answer.Bounded.{Bounded}
 use Rattle.bounds.specs.declared.answer.Bounded.the-variants.{Are, Refused}
 use Rattle.listing.specs.Ascii.{ascii}
 use Rattle.listing.specs.Text.{decimal}
 use Rattle.listing.specs.Fixed.{fixed}
+use Rattle.listing.specs.Listing.{listing}
 use Rattle.listing.specs.declared.drawing.View.{View}
 
 -- ---- what is in view
@@ -26,10 +28,10 @@ abbrev pub coordinate : List Float → ℕ → ℕ → Float
 coordinate ps k i = at ps (i * 3 + k)
 
 unfoldable pub leastOf : List Float → ℕ → Float
-leastOf ps k = minFrom (inf false) (coordinate ps k) (length ps / 3)
+leastOf ps k = minFrom (inf false) (coordinate ps k) (countOf ps)
 
 unfoldable pub greatestOf : List Float → ℕ → Float
-greatestOf ps k = maxFrom (inf true) (coordinate ps k) (length ps / 3)
+greatestOf ps k = maxFrom (inf true) (coordinate ps k) (countOf ps)
 
 -- how much is in view from lo on: up to hi, but no infinity; 1 where there is nothing between
 unfoldable pub extentOf : Float → Float → Float
@@ -97,3 +99,18 @@ unboundedText s = labelled "<!-- span " s ++ ascii " unbounded -->\n"
 abbrev pub boxText : ℕ → Bounded → List ℕ
 boxText s (Are b) = cond (bothFinite (b .point .x) (b .point .y)) (pathText s (b .point .x) (b .point .y)) (unboundedText s)
 boxText s (Refused r) = refusedText s (r .number)
+
+-- that of a curve's span s, bounded over its own closed range
+unfoldable pub drawnOf : ℕ → List Float → List Float → Bool → List Float → ℕ → List ℕ
+drawnOf p ks ps r ws s = boxText s (boundAt p s ks ps r ws (at ks s) (at ks (s + 1)))
+
+-- ---- the drawing
+
+-- the lines of the k points from i on
+unfoldable pub pointsFrom : ℕ → List Float → ℕ → List ℕ
+pointsFrom zero ps i = []
+pointsFrom (suc k) ps i = pointText (coordinate ps 0 i) (coordinate ps 1 i) ++ pointsFrom k ps (i + 1)
+
+-- all that is printed of a curve of degree p
+unfoldable pub drawing : ℕ → List Float → List Float → Bool → List Float → List ℕ
+drawing p ks ps r ws = headText (viewOf ps) ++ (pointsFrom (countOf ps) ps 0 ++ (middleText ++ (listing (drawnOf p ks ps r ws) p (countOf ps) ks ++ tailText)))

@@ -1,4 +1,5 @@
 // A drawing of a motion table: an SVG of its control polygon and of each span's box. Its texts follow each other as head, points, middle, boxes, tail.
+use crate::NextLine;
 use crate::extremes::greatest;
 use crate::extremes::least;
 use crate::fixed::put_fixed;
@@ -9,13 +10,20 @@ use crate::paths::put_unbounded;
 use crate::pieces::put_number;
 use crate::pieces::put_text;
 use bounds::answer::Bounded;
+use bounds::curve::bound_span;
 use interval::float::infinity;
 use interval::float::min;
 use interval::float::next_down;
+use knots::walk::NextSpan;
+use knots::walk::next_span;
 use record::clear::clear_bytes;
 ghost use mathlib.Core.Path.{_≡_};
+ghost use lib.ListN.{length};
+ghost use Rattle.knots.specs.Curve.{countOf};
+ghost use Rattle.knots.specs.Walk.{nextSpan};
 ghost use Rattle.listing.specs.Text.{Shown};
-ghost use Rattle.listing.specs.Drawing.{extentOf, viewOf, headText, pointText, middleText, tailText, boxText};
+ghost use Rattle.listing.specs.Listing.{shownOf, answerOf};
+ghost use Rattle.listing.specs.Drawing.{extentOf, viewOf, headText, pointText, middleText, tailText, boxText, drawnOf};
 
 // The numbers of an SVG's viewBox: y grows downward there, so the top is the greatest y with its sign turned.
 pub struct View {
@@ -117,5 +125,33 @@ pub fn box_text(span: usize, answer: Bounded, out: &mut [u8; 2048]) -> usize
             }
         }
         Bounded::Refused(refusal) => put_refusal(out, span, refusal.number),
+    }
+}
+
+// The line of the first nonempty span from a place on, bounded over its own closed range, of a curve that was validated before; for any input. Where there is none, nothing but 0.
+pub fn next_path(
+    degree: usize,
+    knots: &[f64],
+    points: &[f64],
+    rational: bool,
+    weights: &[f64],
+    from: usize,
+    out: &mut [u8; 2048],
+) -> NextLine
+    ensures { λ r. ⌜ r ≡ answerOf (drawnOf degree (now (knots .entry)) (now (points .entry)) rational (now (weights .entry))) (nextSpan degree (countOf (now (points .entry))) (now (knots .entry)) from) ⌝ }
+    ensures { λ r. ⌜ Shown 2048 (shownOf (drawnOf degree (now (knots .entry)) (now (points .entry)) rational (now (weights .entry))) (nextSpan degree (countOf (now (points .entry))) (now (knots .entry)) from)) (now (out .exit)) (length (shownOf (drawnOf degree (now (knots .entry)) (now (points .entry)) rational (now (weights .entry))) (nextSpan degree (countOf (now (points .entry))) (now (knots .entry)) from))) ⌝ }
+{
+    match next_span(degree, points.len() / 3, knots, from) {
+        NextSpan::At(span) => {
+            let lower = knots[span];
+            let upper = knots[span + 1];
+            let answer = bound_span(degree, span, knots, points, rational, weights, lower, upper);
+            let length = box_text(span, answer, out);
+            NextLine::Line { span, length }
+        }
+        NextSpan::Nothing => {
+            clear_bytes(out);
+            NextLine::End
+        }
     }
 }
