@@ -15,6 +15,7 @@ use Rattle.listing.proofs.Lines.{span-in, none-shown, shown-whole}
 use Rattle.listing.proofs.drawing.next_path.Statement.{statement}
 use Rattle.listing.proofs.drawing.next_path.Tie as tie
 
+-- both knots of the span that was found are in the run
 inside : (c : tie.After-known-told) → c .before .span .given .0 .0 + 1 < length (now (c .before .before .before .before .before .before .before .args .knots))
 inside c =
     let a = c .before .before .before .before .before .before .before .args in
