@@ -14,8 +14,8 @@ use lib.Seq.{sets}
 use borrow.Author.Tests.{lt-ltb, le-ltb, ltb-true, ltb-false}
 use Rattle.listing.specs.Text.{digits, width}
 use Rattle.listing.specs.Fixed.{minus, billionths}
-use Rattle.record.proofs.Stores.{sets-append}
 use Rattle.listing.proofs.Digits.{length-digits}
+use Rattle.listing.proofs.Storing.{joined-at}
 use Rattle.listing.proofs.Places.{ten-pos, width-is}
 
 -- q has n digits, none where it is 0
@@ -77,10 +77,6 @@ ahead-small n h = go (ltb 10 n)
     go false = omega arith
 
 module _ (l : List ℕ) (at : ℕ) where
-  -- one text more behind a stored one
-  pub behind : {o : List ℕ} (p : List ℕ) {b : ℕ} (t : List ℕ) → o ≡ sets l at p → b ≡ at + length p → sets o b t ≡ sets l at (p ++ t)
-  behind p t e h = rw (e, h) (sets-append l at p t)
-
   pub billionths-stored : {o₁ o₂ o₃ : List ℕ} {start w : ℕ} (s : Bool) (q : ℕ) → o₁ ≡ sets l at (minus (s && ltb 0 q)) → start ≡ at + length (minus (s && ltb 0 q)) → start ≤ at + 1 →
       w ≡ width 318 (q / 1000000000) → w ≤ 309 → o₂ ≡ sets o₁ start (digits 10 w (q / 1000000000)) → o₃ ≡ sets (set o₂ (start + w) 46) (start + w + 1) (digits 10 9 q) →
       (o₃ ≡ sets l at (billionths s q)) × (start + w + 10 ≡ at + length (billionths s q)) × (start + w + 10 ≤ at + 330)
@@ -92,12 +88,12 @@ module _ (l : List ℕ) (at : ℕ) where
       let la : length ahead ≡ w = length-digits 10 w (q / 1000000000) in
       let lr : length rest ≡ 9 = length-digits 10 9 q in
       let two : length (sign ++ ahead) ≡ length sign + w = rw (length-append, la) in
-      let f₂ : o₂ ≡ sets l at (sign ++ ahead) = e₂ ∙ behind sign ahead e₁ a in
+      let f₂ : o₂ ≡ sets l at (sign ++ ahead) = e₂ ∙ joined-at l at sign ahead e₁ a in
       let point : start + w ≡ at + length (sign ++ ahead) = omega arith in
-      let f₃ : o₃ ≡ sets l at ((sign ++ ahead) ++ (46 ∷ rest)) = e₃ ∙ rw (add-one (start + w)) (behind (sign ++ ahead) (46 ∷ rest) f₂ point) in
+      let f₃ : o₃ ≡ sets l at ((sign ++ ahead) ++ (46 ∷ rest)) = e₃ ∙ rw (add-one (start + w)) (joined-at l at (sign ++ ahead) (46 ∷ rest) f₂ point) in
       let long : length (sign ++ (ahead ++ (46 ∷ rest))) ≡ length sign + (w + 10) = rw (length-append, length-append, la, lr) in
       rw (← ew) (f₃ ∙ rw append-assoc, omega arith, omega arith)
 
   pub inf-stored : {o₁ o₂ : List ℕ} {next r : ℕ} (s : Bool) → o₁ ≡ sets l at (minus s) → next ≡ at + length (minus s) → next ≤ at + 1 → o₂ ≡ sets o₁ next (105 ∷ 110 ∷ 102 ∷ []) → r ≡ next + 3 →
       (o₂ ≡ sets l at (minus s ++ (105 ∷ 110 ∷ 102 ∷ []))) × (r ≡ at + length (minus s ++ (105 ∷ 110 ∷ 102 ∷ []))) × (r ≤ at + 330)
-  inf-stored s e₁ a u e₂ b = (e₂ ∙ behind (minus s) (105 ∷ 110 ∷ 102 ∷ []) e₁ a, rw length-append (omega arith), omega arith)
+  inf-stored s e₁ a u e₂ b = (e₂ ∙ joined-at l at (minus s) (105 ∷ 110 ∷ 102 ∷ []) e₁ a, rw length-append (omega arith), omega arith)

@@ -2,6 +2,7 @@ pub mod Digits
 pub mod Widths
 pub mod Lines
 pub mod Walked
+pub mod Storing
 pub mod Passes
 pub mod Places
 pub mod Rounding

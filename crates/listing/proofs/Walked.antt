@@ -2,8 +2,8 @@
 -- Assumes nothing.
 use Prim.Native.Nat.{ℕ, zero, suc, _+_, _-_, _≤_, _<_}
 use mathlib.Core.Bool.{Bool, true, false, cond}
-use mathlib.Core.Path.{_≡_, refl, sym, _∙_, ap, subst}
-use mathlib.Core.List.{List, [], _∷_, _++_}
+use mathlib.Core.Path.{_≡_, refl}
+use mathlib.Core.List.{List, [], _++_}
 use native.Mathlib.Omega.{arith}
 use lib.Dec.{ltb}
 use lib.ListN.{length, take}
@@ -16,7 +16,7 @@ use Rattle.knots.specs.declared.walk.NextSpan.the-variants.{At, Nothing}
 use Rattle.knots.proofs.Walks.{next-at}
 use Rattle.listing.specs.Text.{Shown}
 use Rattle.listing.specs.Listing.{shownOf, answerOf, linesOf, listing}
-use Rattle.listing.specs.declared.NextLine.the-variants.{Line, End}
+use Rattle.listing.specs.declared.NextLine.the-variants.{Line}
 use Rattle.listing.proofs.Lines.{shown-counts}
 
 -- ---- what a caller knows of a line

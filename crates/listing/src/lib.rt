@@ -1,4 +1,5 @@
 // The span lister's lines.
+pub mod boxes;
 pub mod drawing;
 mod extremes;
 mod figures;
@@ -43,7 +44,7 @@ pub fn refusal_line(refusal: Refusal, out: &mut [u8; 64]) -> usize
     ensures { λ r. ⌜ Shown 64 (refusalLine refusal) (now (out .exit)) r ⌝ }
 {
     clear_bytes(out);
-    put_refused(out);
+    put_refused(out, 0);
     let a = put_decimal(out, 8, refusal.number as u64);
     out[a] = b'\n';
     a + 1

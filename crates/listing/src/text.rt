@@ -70,17 +70,17 @@ pub fn put_bits(out: &mut [u8], at: usize, x: f64) -> usize
     at + 17
 }
 
-// `refused ` at the front.
-pub fn put_refused(out: &mut [u8])
-    requires { ⌜ 8 ≤ length (now out) ⌝ }
-    ensures { λ _. ⌜ now (out .exit) ≡ sets (now (out .entry)) 0 refusedWord ⌝ }
+// `refused `, from the place at on.
+pub fn put_refused(out: &mut [u8], at: usize)
+    requires { ⌜ at + 8 ≤ length (now out) ⌝ }
+    ensures { λ _. ⌜ now (out .exit) ≡ sets (now (out .entry)) at refusedWord ⌝ }
 {
-    out[0] = b'r';
-    out[1] = b'e';
-    out[2] = b'f';
-    out[3] = b'u';
-    out[4] = b's';
-    out[5] = b'e';
-    out[6] = b'd';
-    out[7] = b' ';
+    out[at] = b'r';
+    out[at + 1] = b'e';
+    out[at + 2] = b'f';
+    out[at + 3] = b'u';
+    out[at + 4] = b's';
+    out[at + 5] = b'e';
+    out[at + 6] = b'd';
+    out[at + 7] = b' ';
 }

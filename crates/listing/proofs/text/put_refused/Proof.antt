@@ -1,6 +1,9 @@
 -- Eight stores, one behind the other.
 -- Assumes nothing.
 use native.Mathlib.Omega.{arith}
+use Prim.Native.Nat.{suc, _+_}
+use mathlib.Core.Path.{_≡_}
+use native.Mathlib.Numerals.{add-one}
 use lib.ListN.{length-set}
 use borrow.Author.Needs.{needs}
 use Rattle.listing.proofs.text.put_refused.Statement.{statement}
@@ -9,44 +12,79 @@ use Rattle.listing.proofs.text.put_refused.Tie as tie
 slice-write-out : tie.Need-slice-write-out
 slice-write-out c = search needs
 
+add-out : tie.Need-add-out
+add-out c = search needs
+
 slice-write-out-2 : tie.Need-slice-write-out-2
 slice-write-out-2 c = simp length-set (omega arith)
+
+add-out-2 : tie.Need-add-out-2
+add-out-2 c = search needs
 
 slice-write-out-3 : tie.Need-slice-write-out-3
 slice-write-out-3 c = simp length-set (omega arith)
 
+add-out-3 : tie.Need-add-out-3
+add-out-3 c = search needs
+
 slice-write-out-4 : tie.Need-slice-write-out-4
 slice-write-out-4 c = simp length-set (omega arith)
+
+add-out-4 : tie.Need-add-out-4
+add-out-4 c = search needs
 
 slice-write-out-5 : tie.Need-slice-write-out-5
 slice-write-out-5 c = simp length-set (omega arith)
 
+add-out-5 : tie.Need-add-out-5
+add-out-5 c = search needs
+
 slice-write-out-6 : tie.Need-slice-write-out-6
 slice-write-out-6 c = simp length-set (omega arith)
+
+add-out-6 : tie.Need-add-out-6
+add-out-6 c = search needs
 
 slice-write-out-7 : tie.Need-slice-write-out-7
 slice-write-out-7 c = simp length-set (omega arith)
 
+add-out-7 : tie.Need-add-out-7
+add-out-7 c = search needs
+
 slice-write-out-8 : tie.Need-slice-write-out-8
-slice-write-out-8 c = search needs
+slice-write-out-8 c = simp length-set (omega arith)
 
 same-length : tie.Need-same-length
 same-length c = search needs
 
 returns : tie.Need-returns
-returns c = search needs
+returns c =
+    let at2 : c .args .at + 2 ≡ suc (suc (c .args .at)) = omega arith in
+    let at3 : c .args .at + 3 ≡ suc (suc (suc (c .args .at))) = omega arith in
+    let at4 : c .args .at + 4 ≡ suc (suc (suc (suc (c .args .at)))) = omega arith in
+    let at5 : c .args .at + 5 ≡ suc (suc (suc (suc (suc (c .args .at))))) = omega arith in
+    let at6 : c .args .at + 6 ≡ suc (suc (suc (suc (suc (suc (c .args .at)))))) = omega arith in
+    let at7 : c .args .at + 7 ≡ suc (suc (suc (suc (suc (suc (suc (c .args .at))))))) = omega arith in
+    rw (add-one, at2, at3, at4, at5, at6, at7)
 
 pub put-refused-spec : {M : Type 1} → statement M
 put-refused-spec =
     tie.close
     (tie.spec
     slice-write-out
+    add-out
     slice-write-out-2
+    add-out-2
     slice-write-out-3
+    add-out-3
     slice-write-out-4
+    add-out-4
     slice-write-out-5
+    add-out-5
     slice-write-out-6
+    add-out-6
     slice-write-out-7
+    add-out-7
     slice-write-out-8
     same-length
     returns)
