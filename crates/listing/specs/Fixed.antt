@@ -7,7 +7,7 @@ use lib.Dec.{ltb}
 use lib.Ieee.{Float, nan, inf, fin, up, down, unlike}
 use Rattle.listing.specs.Text.{digits, width}
 
--- n / d as a whole number: cut, or, where it is to be no smaller, the least that is not
+-- n / d as a whole number: the part before the point, or, where it is to be no smaller, the least such
 unfoldable pub whole : Bool → ℕ → ℕ → ℕ
 whole false n d = n / d
 whole true n d = (n + (d - 1)) / d
@@ -19,7 +19,7 @@ minus s = cond s (45 ∷ []) []
 unfoldable pub billionths : Bool → ℕ → List ℕ
 billionths s q = minus (s && ltb 0 q) ++ (digits 10 (width 318 (q / 1000000000)) (q / 1000000000) ++ (46 ∷ digits 10 9 q))
 
--- a double rounded down, or, where `above`, up: away from zero where zero is on the other side; else `inf`, `-inf`, `nan`
+-- a double rounded down, or up where `above`: away from 0 where 0 is on the other side. Else `inf`, `-inf`, `nan`
 unfoldable pub fixed : Bool → Float → List ℕ
 fixed above nan = 110 ∷ 97 ∷ 110 ∷ []
 fixed above (inf s) = minus s ++ (105 ∷ 110 ∷ 102 ∷ [])

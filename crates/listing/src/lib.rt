@@ -1,4 +1,4 @@
-// The span lister's lines.
+// The listers' lines.
 pub mod boxes;
 pub mod drawing;
 mod extremes;

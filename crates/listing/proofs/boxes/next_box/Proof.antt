@@ -31,7 +31,7 @@ enum-known-span c = search needs
 
 mul-lower : tie.Need-mul-lower
 mul-lower c =
-    let second = inside (c) in
+    let second = inside c in
     let first : c .before .span .given .0 .0 < length (now (c .before .before .before .before .before .before .before .args .knots)) = omega arith in
     search needs
 
