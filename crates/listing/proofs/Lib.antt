@@ -9,4 +9,4 @@ pub mod Rounding
 pub mod Decimals
 pub mod Patterns
 pub mod Enclosing
-pub mod Joined
+pub mod Bytes

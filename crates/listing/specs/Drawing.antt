@@ -1,10 +1,12 @@
--- The drawing of a motion table, an SVG: the control polygon and the box of each nonempty span, y upward.
+-- The drawing of a motion table, an SVG with y upward: the control polygon, and each nonempty span's box in parts.
 -- Assumes nothing.
-use Prim.Native.Nat.{ℕ, zero, suc, _+_, _*_}
+use Prim.Native.Nat.{ℕ, zero, suc, _+_, _-_, _*_, _/_}
 use Prim.Native.String.{String}
 use mathlib.Core.Bool.{Bool, true, false, _&&_, cond}
 use mathlib.Core.List.{List, [], _∷_, _++_}
-use lib.Ieee.{Float, inf, binary64, neg, lt, sub}
+use lib.Dec.{eqb, ltb}
+use lib.IntN.{pos}
+use lib.Ieee.{Float, inf, binary64, neg, lt, add, sub, mul, div, ofInt}
 use lib.Ieee.Scale.{finite}
 use Rattle.doubles.specs.Run.{at}
 use Rattle.doubles.specs.Neighbour.{nextDown, fmin}
@@ -46,14 +48,11 @@ viewOf ps = record {
   height = extentOf (leastOf ps 1) (greatestOf ps 1);
 }
 
--- ---- the texts
+-- ---- the frame
 
--- a text and a number behind it
+-- a text and a decimal behind it
 unfoldable pub number : String → Bool → Float → List ℕ
 number lead above x = ascii lead ++ fixed above x
-
-unfoldable pub labelled : String → ℕ → List ℕ
-labelled lead n = ascii lead ++ decimal n
 
 -- up to the view
 abbrev pub opening : String
@@ -77,7 +76,15 @@ middleText = ascii "\"/>\n<g stroke=\"red\">\n"
 unfoldable pub tailText : List ℕ
 tailText = ascii "</g></g></svg></svg>\n"
 
--- ---- the box of a span
+-- ---- a box
+
+-- a text and a whole number behind it
+unfoldable pub label : String → ℕ → List ℕ
+label lead n = ascii lead ++ decimal n
+
+-- the part j of the span s
+unfoldable pub partText : String → ℕ → ℕ → List ℕ
+partText lead s j = label lead s ++ label "-" j
 
 unfoldable pub bothFinite : Interval → Interval → Bool
 bothFinite x y = ((finite (x .lo) && finite (x .hi)) && finite (y .lo)) && finite (y .hi)
@@ -86,23 +93,40 @@ bothFinite x y = ((finite (x .lo) && finite (x .hi)) && finite (y .lo)) && finit
 unfoldable pub sidesText : Float → Float → Float → Float → List ℕ
 sidesText l b r t = number " d=\"M" false l ++ (number " " false b ++ (number "H" true r ++ (number "V" true t ++ (number "H" false l ++ ascii "Z\"/>\n"))))
 
-unfoldable pub pathText : ℕ → Interval → Interval → List ℕ
-pathText s x y = labelled "<path id=\"span" s ++ (ascii "\" vector-effect=\"non-scaling-stroke\"" ++ sidesText (x .lo) (y .lo) (x .hi) (y .hi))
+unfoldable pub pathText : ℕ → ℕ → Interval → Interval → List ℕ
+pathText s j x y = partText "<path id=\"span" s j ++ (ascii "\" vector-effect=\"non-scaling-stroke\"" ++ sidesText (x .lo) (y .lo) (x .hi) (y .hi))
 
-unfoldable pub refusedText : ℕ → ℕ → List ℕ
-refusedText s n = labelled "<!-- span " s ++ (labelled " refused " n ++ ascii " -->\n")
+unfoldable pub refusedText : ℕ → ℕ → ℕ → List ℕ
+refusedText s j n = partText "<!-- span " s j ++ (label " refused " n ++ ascii " -->\n")
 
-unfoldable pub unboundedText : ℕ → List ℕ
-unboundedText s = labelled "<!-- span " s ++ ascii " unbounded -->\n"
+unfoldable pub unboundedText : ℕ → ℕ → List ℕ
+unboundedText s j = partText "<!-- span " s j ++ ascii " unbounded -->\n"
 
 -- a path, or, where there is none to draw, why
-abbrev pub boxText : ℕ → Bounded → List ℕ
-boxText s (Are b) = cond (bothFinite (b .point .x) (b .point .y)) (pathText s (b .point .x) (b .point .y)) (unboundedText s)
-boxText s (Refused r) = refusedText s (r .number)
+abbrev pub boxText : ℕ → ℕ → Bounded → List ℕ
+boxText s j (Are b) = cond (bothFinite (b .point .x) (b .point .y)) (pathText s j (b .point .x) (b .point .y)) (unboundedText s j)
+boxText s j (Refused r) = refusedText s j (r .number)
 
--- that of a curve's span s, bounded over its own closed range
-unfoldable pub drawnOf : ℕ → List Float → List Float → Bool → List Float → ℕ → List ℕ
-drawnOf p ks ps r ws s = boxText s (boundAt p s ks ps r ws (at ks s) (at ks (s + 1)))
+-- ---- the parts of a span: bounds over a whole span are wide
+
+-- how many, of a curve of n points: about a thousand boxes in all
+unfoldable pub partsOf : ℕ → ℕ
+partsOf n = cond (ltb n 1024) (1024 / (n + 1)) 1
+
+-- j of k equal steps from a to b
+unfoldable pub markOf : Float → Float → ℕ → ℕ → Float
+markOf a b j k = cond (eqb j 0) a (cond (eqb j k) b (add binary64 a (mul binary64 (sub binary64 b a) (div binary64 (ofInt binary64 (pos j)) (ofInt binary64 (pos k))))))
+
+-- what is behind the last part is the last
+unfoldable pub partOf : ℕ → ℕ → ℕ
+partOf k j = cond (ltb j k) j (k - 1)
+
+-- the line of part j of k of a curve's span s
+unfoldable pub partLine : ℕ → List Float → List Float → Bool → List Float → ℕ → ℕ → ℕ → List ℕ
+partLine p ks ps r ws k j s = boxText s j (boundAt p s ks ps r ws (markOf (at ks s) (at ks (s + 1)) j k) (markOf (at ks s) (at ks (s + 1)) (j + 1) k))
+
+unfoldable pub drawnOf : ℕ → List Float → List Float → Bool → List Float → ℕ → ℕ → List ℕ
+drawnOf p ks ps r ws j s = partLine p ks ps r ws (partsOf (countOf ps)) (partOf (partsOf (countOf ps)) j) s
 
 -- ---- the drawing
 
@@ -111,6 +135,16 @@ unfoldable pub pointsFrom : ℕ → List Float → ℕ → List ℕ
 pointsFrom zero ps i = []
 pointsFrom (suc k) ps i = pointText (coordinate ps 0 i) (coordinate ps 1 i) ++ pointsFrom k ps (i + 1)
 
+-- the lines of k parts of the span s, from j on
+unfoldable pub partsFrom : ℕ → (ℕ → ℕ → List ℕ) → ℕ → ℕ → List ℕ
+partsFrom zero line j s = []
+partsFrom (suc k) line j s = line j s ++ partsFrom k line (j + 1) s
+
+-- those of all its parts
+unfoldable pub spanLines : ℕ → List Float → List Float → Bool → List Float → ℕ → List ℕ
+spanLines p ks ps r ws s = partsFrom (partsOf (countOf ps)) (drawnOf p ks ps r ws) 0 s
+
 -- all that is printed of a curve of degree p
 unfoldable pub drawing : ℕ → List Float → List Float → Bool → List Float → List ℕ
-drawing p ks ps r ws = headText (viewOf ps) ++ (pointsFrom (countOf ps) ps 0 ++ (middleText ++ (listing (drawnOf p ks ps r ws) p (countOf ps) ks ++ tailText)))
+drawing p ks ps r ws =
+    headText (viewOf ps) ++ (pointsFrom (countOf ps) ps 0 ++ (middleText ++ (listing (spanLines p ks ps r ws) p (countOf ps) ks ++ tailText)))

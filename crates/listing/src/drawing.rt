@@ -3,6 +3,8 @@ use crate::NextLine;
 use crate::extremes::greatest;
 use crate::extremes::least;
 use crate::fixed::put_fixed;
+use crate::parts::bound_part;
+use crate::parts::part_in;
 use crate::paths::both_finite;
 use crate::paths::put_path;
 use crate::paths::put_refusal;
@@ -10,7 +12,6 @@ use crate::paths::put_unbounded;
 use crate::pieces::put_number;
 use crate::pieces::put_text;
 use bounds::answer::Bounded;
-use bounds::curve::bound_span;
 use interval::float::infinity;
 use interval::float::min;
 use interval::float::next_down;
@@ -18,12 +19,13 @@ use knots::walk::NextSpan;
 use knots::walk::next_span;
 use record::clear::clear_bytes;
 ghost use mathlib.Core.Path.{_≡_};
+ghost use Prim.Native.Nat.{_≤_, _<_};
 ghost use lib.ListN.{length};
 ghost use Rattle.knots.specs.Curve.{countOf};
 ghost use Rattle.knots.specs.Walk.{nextSpan};
 ghost use Rattle.listing.specs.Text.{Shown};
 ghost use Rattle.listing.specs.Listing.{shownOf, answerOf};
-ghost use Rattle.listing.specs.Drawing.{extentOf, viewOf, headText, pointText, middleText, tailText, boxText, drawnOf};
+ghost use Rattle.listing.specs.Drawing.{extentOf, viewOf, headText, pointText, middleText, tailText, boxText, partsOf, drawnOf};
 
 // The numbers of an SVG's viewBox: y grows downward there, so the top is the greatest y with its sign turned.
 pub struct View {
@@ -109,9 +111,9 @@ pub fn tail_text(out: &mut [u8; 64]) -> usize
     put_text(out, 0, b"</g></g></svg></svg>\n")
 }
 
-// The line of a span: its box as a path, or why there is none to draw.
-pub fn box_text(span: usize, answer: Bounded, out: &mut [u8; 2048]) -> usize
-    ensures { λ r. ⌜ Shown 2048 (boxText span answer) (now (out .exit)) r ⌝ }
+// The line of a part of a span: its box as a path, or why there is none to draw.
+pub fn box_text(span: usize, part: usize, answer: Bounded, out: &mut [u8; 2048]) -> usize
+    ensures { λ r. ⌜ Shown 2048 (boxText span part answer) (now (out .exit)) r ⌝ }
 {
     clear_bytes(out);
     match answer {
@@ -119,16 +121,28 @@ pub fn box_text(span: usize, answer: Bounded, out: &mut [u8; 2048]) -> usize
             let x = bounds.point.x;
             let y = bounds.point.y;
             if both_finite(x, y) {
-                put_path(out, span, x, y)
+                put_path(out, span, part, x, y)
             } else {
-                put_unbounded(out, span)
+                put_unbounded(out, span, part)
             }
         }
-        Bounded::Refused(refusal) => put_refusal(out, span, refusal.number),
+        Bounded::Refused(refusal) => put_refusal(out, span, part, refusal.number),
     }
 }
 
-// The line of the first nonempty span from a place on, bounded over its own closed range, of a curve that was validated before; for any input. Where there is none, nothing but 0.
+// How many parts each span of a curve is drawn in.
+pub fn parts_of(count: usize) -> usize
+    ensures { λ r. ⌜ r ≡ partsOf count ⌝ }
+    ensures { λ r. ⌜ 0 < r ⌝ }
+    ensures { λ r. ⌜ r ≤ 1024 ⌝ }
+{
+    if count < 1024 {
+        return 1024 / (count + 1);
+    }
+    1
+}
+
+// The line of a part of the first nonempty span from a place on, of a curve that was validated before; for any input. Where there is none, nothing but 0.
 pub fn next_path(
     degree: usize,
     knots: &[f64],
@@ -136,17 +150,32 @@ pub fn next_path(
     rational: bool,
     weights: &[f64],
     from: usize,
+    part: usize,
     out: &mut [u8; 2048],
 ) -> NextLine
-    ensures { λ r. ⌜ r ≡ answerOf (drawnOf degree (now (knots .entry)) (now (points .entry)) rational (now (weights .entry))) (nextSpan degree (countOf (now (points .entry))) (now (knots .entry)) from) ⌝ }
-    ensures { λ r. ⌜ Shown 2048 (shownOf (drawnOf degree (now (knots .entry)) (now (points .entry)) rational (now (weights .entry))) (nextSpan degree (countOf (now (points .entry))) (now (knots .entry)) from)) (now (out .exit)) (length (shownOf (drawnOf degree (now (knots .entry)) (now (points .entry)) rational (now (weights .entry))) (nextSpan degree (countOf (now (points .entry))) (now (knots .entry)) from))) ⌝ }
+    ensures { λ r. ⌜ r ≡ answerOf (drawnOf degree (now (knots .entry)) (now (points .entry)) rational (now (weights .entry)) part) (nextSpan degree (countOf (now (points .entry))) (now (knots .entry)) from) ⌝ }
+    ensures { λ r. ⌜ Shown 2048 (shownOf (drawnOf degree (now (knots .entry)) (now (points .entry)) rational (now (weights .entry)) part) (nextSpan degree (countOf (now (points .entry))) (now (knots .entry)) from)) (now (out .exit)) (length (shownOf (drawnOf degree (now (knots .entry)) (now (points .entry)) rational (now (weights .entry)) part) (nextSpan degree (countOf (now (points .entry))) (now (knots .entry)) from))) ⌝ }
 {
-    match next_span(degree, points.len() / 3, knots, from) {
+    let count = points.len() / 3;
+    let parts = parts_of(count);
+    let taken = part_in(parts, part);
+    match next_span(degree, count, knots, from) {
         NextSpan::At(span) => {
             let lower = knots[span];
             let upper = knots[span + 1];
-            let answer = bound_span(degree, span, knots, points, rational, weights, lower, upper);
-            let length = box_text(span, answer, out);
+            let answer = bound_part(
+                degree,
+                span,
+                knots,
+                points,
+                rational,
+                weights,
+                lower,
+                upper,
+                taken,
+                parts,
+            );
+            let length = box_text(span, taken, answer, out);
             NextLine::Line { span, length }
         }
         NextSpan::Nothing => {

@@ -4,6 +4,7 @@ pub mod drawing;
 mod extremes;
 mod figures;
 mod fixed;
+mod parts;
 mod paths;
 mod pieces;
 mod text;

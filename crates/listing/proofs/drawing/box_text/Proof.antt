@@ -1,12 +1,11 @@
 -- The line by what the bound answers, stored into cleared bytes.
 -- Assumes nothing.
-use Prim.Native.Nat.{ℕ}
-use mathlib.Core.Path.{_≡_, sym, _∙_, ap}
+use mathlib.Core.Path.{_≡_, sym}
 use native.Mathlib.Omega.{arith}
 use denote.Ref.{now}
-use lib.ListN.{length, replicate}
+use lib.ListN.{length}
 use borrow.Author.Needs.{needs}
-use Rattle.listing.proofs.Joined.{filled-at}
+use Rattle.listing.proofs.Bytes.{front-shown}
 use Rattle.listing.proofs.drawing.box_text.Statement.{statement}
 use Rattle.listing.proofs.drawing.box_text.Tie as tie
 
@@ -35,25 +34,25 @@ returns : tie.Need-returns
 returns c =
     let a = c .before .before .before .before .before .before .before .before .before .before .before .args in
     let long : length (now (a .out)) ≡ 2048 = search needs in
-    let cleared = c .before .before .before .before .before .before .before .before .before .clear-bytes .ensures ∙ ap (λ (n : ℕ). replicate n 0) long in
+    let cleared = c .before .before .before .before .before .before .before .before .before .clear-bytes .ensures in
     let e = c .put-path .ensures in
-    rw (c .before .before .before .before .before .before .before .answer .given .1, sym (c .before .before .before .both-finite .ensures), c .before .before .if1 .taken) (filled-at 2048 cleared (e .0) (e .1 .0) (omega (arith, e .1 .1)))
+    rw (c .before .before .before .before .before .before .before .answer .given .1, sym (c .before .before .before .both-finite .ensures), c .before .before .if1 .taken) (front-shown 2048 _ cleared long (e .0) (omega (arith, e .1)))
 
 returns-2 : tie.Need-returns-2
 returns-2 c =
     let a = c .before .before .before .before .before .before .before .before .before .before .before .args in
     let long : length (now (a .out)) ≡ 2048 = search needs in
-    let cleared = c .before .before .before .before .before .before .before .before .before .clear-bytes .ensures ∙ ap (λ (n : ℕ). replicate n 0) long in
+    let cleared = c .before .before .before .before .before .before .before .before .before .clear-bytes .ensures in
     let e = c .put-unbounded .ensures in
-    rw (c .before .before .before .before .before .before .before .answer .given .1, sym (c .before .before .before .both-finite .ensures), c .before .before .if1 .left) (filled-at 2048 cleared (e .0) (e .1 .0) (omega (arith, e .1 .1)))
+    rw (c .before .before .before .before .before .before .before .answer .given .1, sym (c .before .before .before .both-finite .ensures), c .before .before .if1 .left) (front-shown 2048 _ cleared long (e .0) (omega (arith, e .1)))
 
 returns-3 : tie.Need-returns-3
 returns-3 c =
     let a = c .before .before .before .before .before .before .before .args in
     let long : length (now (a .out)) ≡ 2048 = search needs in
-    let cleared = c .before .before .before .before .before .clear-bytes .ensures ∙ ap (λ (n : ℕ). replicate n 0) long in
+    let cleared = c .before .before .before .before .before .clear-bytes .ensures in
     let e = c .put-refusal .ensures in
-    rw (c .before .before .before .answer2 .given .1) (filled-at 2048 cleared (e .0) (e .1 .0) (omega (arith, e .1 .1)))
+    rw (c .before .before .before .answer2 .given .1) (front-shown 2048 _ cleared long (e .0) (omega (arith, e .1)))
 
 pub box-text-spec : {M : Type 1} → statement M
 box-text-spec =

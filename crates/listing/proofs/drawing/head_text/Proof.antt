@@ -1,15 +1,13 @@
 -- Five pieces, stored into cleared bytes.
 -- Assumes nothing.
-use Prim.Native.Nat.{ℕ}
-use mathlib.Core.Bool.{true, false}
-use mathlib.Core.Path.{_≡_, _∙_, ap}
-use mathlib.Core.List.{_++_}
+use mathlib.Core.Path.{_≡_}
 use denote.Ref.{now}
-use lib.ListN.{length, replicate}
+use lib.ListN.{length}
 use borrow.Author.Needs.{needs}
 use Rattle.listing.specs.Ascii.{ascii}
-use Rattle.listing.specs.Drawing.{number, opening, polygon, headText}
-use Rattle.listing.proofs.Joined.{left-start, left-step, left-last, filled}
+use Rattle.listing.specs.Drawing.{number, headText}
+use Rattle.listing.proofs.Storing.{both-stored}
+use Rattle.listing.proofs.Bytes.{front-shown}
 use Rattle.listing.proofs.drawing.head_text.Statement.{statement}
 use Rattle.listing.proofs.drawing.head_text.Tie as tie
 
@@ -51,20 +49,8 @@ unfolding headText number ascii
 returns c =
     let a = c .before .before .before .before .before .before .before .before .before .before .before .before .before .before .before .before .before .args in
     let long : length (now (a .out)) ≡ 2048 = search needs in
-    let cleared = c .before .before .before .before .before .before .before .before .before .before .before .before .before .before .before .clear-bytes .ensures ∙ ap (λ (n : ℕ). replicate n 0) long in
-    let v = a .view in
-    let x = number opening false (v .x) in
-    let y = number " " false (v .y) in
-    let w = number " " true (v .width) in
-    let h = number " " true (v .height) in
-    let p = ascii polygon in
-    let s0 = left-start {l = replicate 2048 0} (headText v) 0 cleared in
-    let s1 = left-step x (y ++ (w ++ (h ++ p))) s0 (c .before .before .before .before .before .before .before .before .before .before .before .before .put-number .ensures .0) (c .before .before .before .before .before .before .before .before .before .before .before .before .put-number .ensures .1 .0) in
-    let s2 = left-step y (w ++ (h ++ p)) s1 (c .before .before .before .before .before .before .before .before .before .put-number2 .ensures .0) (c .before .before .before .before .before .before .before .before .before .put-number2 .ensures .1 .0) in
-    let s3 = left-step w (h ++ p) s2 (c .before .before .before .before .before .before .put-number3 .ensures .0) (c .before .before .before .before .before .before .put-number3 .ensures .1 .0) in
-    let s4 = left-step h p s3 (c .before .before .before .put-number4 .ensures .0) (c .before .before .before .put-number4 .ensures .1 .0) in
-    let all = left-last p s4 (c .put-text .ensures .0) (c .put-text .ensures .1) in
-    filled 2048 (all .0) (all .1) (search needs)
+    let cleared = c .before .before .before .before .before .before .before .before .before .before .before .before .before .before .before .clear-bytes .ensures in
+    front-shown 2048 _ cleared long (both-stored (c .before .before .before .before .before .before .before .before .before .before .before .before .put-number .ensures .0) (both-stored (c .before .before .before .before .before .before .before .before .before .put-number2 .ensures .0) (both-stored (c .before .before .before .before .before .before .put-number3 .ensures .0) (both-stored (c .before .before .before .put-number4 .ensures .0) (c .put-text .ensures .0))))) (search needs)
 
 pub head-text-spec : {M : Type 1} → statement M
 head-text-spec =

@@ -1,13 +1,12 @@
 -- One piece, stored into cleared bytes.
 -- Assumes nothing.
-use Prim.Native.Nat.{ℕ}
-use mathlib.Core.Path.{_≡_, _∙_, ap}
+use mathlib.Core.Path.{_≡_}
 use denote.Ref.{now}
-use lib.ListN.{length, replicate}
+use lib.ListN.{length}
 use borrow.Author.Needs.{needs}
 use Rattle.listing.specs.Ascii.{ascii}
 use Rattle.listing.specs.Drawing.{middleText}
-use Rattle.listing.proofs.Joined.{left-start, left-last, filled}
+use Rattle.listing.proofs.Bytes.{front-shown}
 use Rattle.listing.proofs.drawing.middle_text.Statement.{statement}
 use Rattle.listing.proofs.drawing.middle_text.Tie as tie
 
@@ -25,10 +24,8 @@ unfolding middleText ascii
 returns c =
     let a = c .before .before .before .before .before .args in
     let long : length (now (a .out)) ≡ 64 = search needs in
-    let cleared = c .before .before .before .clear-bytes .ensures ∙ ap (λ (n : ℕ). replicate n 0) long in
-    let t = c .put-text .ensures in
-    let all = left-last middleText (left-start middleText 0 cleared) (t .0) (t .1) in
-    filled 64 (all .0) (all .1) (search needs)
+    let cleared = c .before .before .before .clear-bytes .ensures in
+    front-shown 64 _ cleared long (c .put-text .ensures .0) (search needs)
 
 pub middle-text-spec : {M : Type 1} → statement M
 middle-text-spec =

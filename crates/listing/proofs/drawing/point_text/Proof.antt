@@ -1,17 +1,16 @@
 -- Three pieces, stored into cleared bytes.
 -- Assumes nothing.
-use Prim.Native.Nat.{ℕ}
 use mathlib.Core.Bool.{false}
-use mathlib.Core.Path.{_≡_, refl, _∙_, ap}
-use mathlib.Core.List.{[], _∷_, _++_}
+use mathlib.Core.Path.{_≡_}
 use native.Mathlib.Omega.{arith}
 use denote.Ref.{now}
-use lib.ListN.{length, replicate}
+use lib.ListN.{length}
 use borrow.Author.Needs.{needs}
 use Rattle.listing.specs.Ascii.{ascii}
 use Rattle.listing.specs.Fixed.{fixed}
 use Rattle.listing.specs.Drawing.{number, pointText}
-use Rattle.listing.proofs.Joined.{left-start, left-step, left-last, filled}
+use Rattle.listing.proofs.Storing.{both-stored, text-stored, one-stored}
+use Rattle.listing.proofs.Bytes.{front-shown}
 use Rattle.listing.proofs.drawing.point_text.Statement.{statement}
 use Rattle.listing.proofs.drawing.point_text.Tie as tie
 
@@ -38,13 +37,10 @@ unfolding pointText number ascii
 returns c =
     let a = c .before .before .before .before .before .before .before .args in
     let long : length (now (a .out)) ≡ 1024 = search needs in
-    let cleared = c .before .before .before .before .before .clear-bytes .ensures ∙ ap (λ (n : ℕ). replicate n 0) long in
-    let x = fixed false (a .x) in
-    let y = number "," false (a .y) in
-    let p = c .before .before .before .put-fixed .ensures in
-    let q = c .put-number .ensures in
-    let all = left-last (10 ∷ []) (left-step y (10 ∷ []) (left-step x (y ++ (10 ∷ [])) (left-start (pointText (a .x) (a .y)) 0 cleared) (p .0) (p .1 .0)) (q .0) (q .1 .0)) refl refl in
-    filled 1024 (all .0) (all .1) (omega arith)
+    let cleared = c .before .before .before .before .before .clear-bytes .ensures in
+    let x = c .before .before .before .put-fixed .ensures in
+    let y = c .put-number .ensures in
+    front-shown 1024 _ cleared long (both-stored (text-stored (fixed false (a .x)) (x .0) (x .1 .0)) (both-stored (y .0) (one-stored _ _ 10))) (omega arith)
 
 pub point-text-spec : {M : Type 1} → statement M
 point-text-spec =

@@ -1,14 +1,10 @@
 -- Six pieces, one behind the other.
 -- Assumes nothing.
-use mathlib.Core.Bool.{true, false}
-use mathlib.Core.Path.{refl}
-use mathlib.Core.List.{_++_}
 use native.Mathlib.Omega.{arith}
-use denote.Ref.{now}
 use borrow.Author.Needs.{needs}
 use Rattle.listing.specs.Ascii.{ascii}
 use Rattle.listing.specs.Drawing.{number, sidesText}
-use Rattle.listing.proofs.Joined.{left-start, left-step, left-last}
+use Rattle.listing.proofs.Storing.{both-stored}
 use Rattle.listing.proofs.paths.put_sides.Statement.{statement}
 use Rattle.listing.proofs.paths.put_sides.Tie as tie
 
@@ -54,27 +50,13 @@ same-length c = search needs
 returns : tie.Need-returns
 unfolding sidesText number ascii
 returns c =
-    let a = c .before .before .before .before .before .before .before .before .before .before .before .before .before .before .before .before .before .before .before .before .before .before .before .before .before .before .before .before .before .before .before .args in
-    let l = number " d=\"M" false (a .left) in
-    let b = number " " false (a .bottom) in
-    let r = number "H" true (a .right) in
-    let t = number "V" true (a .top) in
-    let k = number "H" false (a .left) in
-    let e = ascii "Z\"/>\n" in
-    let s0 = left-start {l = now (a .out)} (sidesText (a .left) (a .bottom) (a .right) (a .top)) (a .at) refl in
-    let s1 = left-step l (b ++ (r ++ (t ++ (k ++ e)))) s0 (c .before .before .before .before .before .before .before .before .before .before .before .before .before .before .before .before .before .before .before .before .before .before .before .before .before .before .before .put-number .ensures .0) (c .before .before .before .before .before .before .before .before .before .before .before .before .before .before .before .before .before .before .before .before .before .before .before .before .before .before .before .put-number .ensures .1 .0) in
-    let s2 = left-step b (r ++ (t ++ (k ++ e))) s1 (c .before .before .before .before .before .before .before .before .before .before .before .before .before .before .before .before .before .before .before .before .before .before .put-number2 .ensures .0) (c .before .before .before .before .before .before .before .before .before .before .before .before .before .before .before .before .before .before .before .before .before .before .put-number2 .ensures .1 .0) in
-    let s3 = left-step r (t ++ (k ++ e)) s2 (c .before .before .before .before .before .before .before .before .before .before .before .before .before .before .before .before .before .put-number3 .ensures .0) (c .before .before .before .before .before .before .before .before .before .before .before .before .before .before .before .before .before .put-number3 .ensures .1 .0) in
-    let s4 = left-step t (k ++ e) s3 (c .before .before .before .before .before .before .before .before .before .before .before .before .put-number4 .ensures .0) (c .before .before .before .before .before .before .before .before .before .before .before .before .put-number4 .ensures .1 .0) in
-    let s5 = left-step k e s4 (c .before .before .before .before .before .before .before .put-number5 .ensures .0) (c .before .before .before .before .before .before .before .put-number5 .ensures .1 .0) in
-    let all = left-last e s5 (c .before .before .put-text .ensures .0) (c .before .before .put-text .ensures .1) in
-    let b1 = c .before .before .before .before .before .before .before .before .before .before .before .before .before .before .before .before .before .before .before .before .before .before .before .before .before .before .before .put-number .ensures .1 .1 in
-    let b2 = c .before .before .before .before .before .before .before .before .before .before .before .before .before .before .before .before .before .before .before .before .before .before .put-number2 .ensures .1 .1 in
-    let b3 = c .before .before .before .before .before .before .before .before .before .before .before .before .before .before .before .before .before .put-number3 .ensures .1 .1 in
-    let b4 = c .before .before .before .before .before .before .before .before .before .before .before .before .put-number4 .ensures .1 .1 in
-    let b5 = c .before .before .before .before .before .before .before .put-number5 .ensures .1 .1 in
+    let b1 = c .before .before .before .before .before .before .before .before .before .before .before .before .before .before .before .before .before .before .before .before .before .before .before .before .before .before .before .put-number .ensures .1 in
+    let b2 = c .before .before .before .before .before .before .before .before .before .before .before .before .before .before .before .before .before .before .before .before .before .before .put-number2 .ensures .1 in
+    let b3 = c .before .before .before .before .before .before .before .before .before .before .before .before .before .before .before .before .before .put-number3 .ensures .1 in
+    let b4 = c .before .before .before .before .before .before .before .before .before .before .before .before .put-number4 .ensures .1 in
+    let b5 = c .before .before .before .before .before .before .before .put-number5 .ensures .1 in
     let b6 = c .before .before .put-text .ensures .1 in
-    (all .0, (all .1, omega arith))
+    (both-stored (c .before .before .before .before .before .before .before .before .before .before .before .before .before .before .before .before .before .before .before .before .before .before .before .before .before .before .before .put-number .ensures .0) (both-stored (c .before .before .before .before .before .before .before .before .before .before .before .before .before .before .before .before .before .before .before .before .before .before .put-number2 .ensures .0) (both-stored (c .before .before .before .before .before .before .before .before .before .before .before .before .before .before .before .before .before .put-number3 .ensures .0) (both-stored (c .before .before .before .before .before .before .before .before .before .before .before .before .put-number4 .ensures .0) (both-stored (c .before .before .before .before .before .before .before .put-number5 .ensures .0) (c .before .before .put-text .ensures .0))))), omega arith)
 
 pub put-sides-spec : {M : Type 1} → statement M
 put-sides-spec =

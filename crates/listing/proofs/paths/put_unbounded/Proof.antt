@@ -1,19 +1,17 @@
 -- Two pieces, one behind the other.
 -- Assumes nothing.
-use mathlib.Core.Path.{refl}
-use denote.Ref.{now}
 use borrow.Author.Needs.{needs}
 use Rattle.listing.specs.Ascii.{ascii}
-use Rattle.listing.specs.Drawing.{labelled, unboundedText}
-use Rattle.listing.proofs.Joined.{left-start, left-step, left-last}
+use Rattle.listing.specs.Drawing.{label, partText, unboundedText}
+use Rattle.listing.proofs.Storing.{both-stored}
 use Rattle.listing.proofs.paths.put_unbounded.Statement.{statement}
 use Rattle.listing.proofs.paths.put_unbounded.Tie as tie
 
-slice-aggregate-put-label : tie.Need-slice-aggregate-put-label
-slice-aggregate-put-label c = search needs
+slice-aggregate-put-part : tie.Need-slice-aggregate-put-part
+slice-aggregate-put-part c = search needs
 
-put-label-requires : tie.Need-put-label-requires
-put-label-requires c κs = search needs
+put-part-requires : tie.Need-put-part-requires
+put-part-requires c κs = search needs
 
 slice-aggregate-put-text : tie.Need-slice-aggregate-put-text
 slice-aggregate-put-text c = search needs
@@ -25,22 +23,15 @@ same-length : tie.Need-same-length
 same-length c = search needs
 
 returns : tie.Need-returns
-unfolding unboundedText labelled ascii
-returns c =
-    let a = c .before .before .before .before .before .before .before .before .before .before .before .args in
-    let s = labelled "<!-- span " (a .span) in
-    let e = ascii " unbounded -->\n" in
-    let s0 = left-start {l = now (a .out)} (unboundedText (a .span)) 0 refl in
-    let s1 = left-step s e s0 (c .before .before .before .before .before .before .before .put-label .ensures .0) (c .before .before .before .before .before .before .before .put-label .ensures .1 .0) in
-    let all = left-last e s1 (c .before .before .put-text .ensures .0) (c .before .before .put-text .ensures .1) in
-    (all .0, (all .1, search needs))
+unfolding unboundedText partText label ascii
+returns c = (both-stored (c .before .before .before .before .before .before .before .put-part .ensures .0) (c .before .before .put-text .ensures .0), search needs)
 
 pub put-unbounded-spec : {M : Type 1} → statement M
 put-unbounded-spec =
     tie.close
     (tie.spec
-    slice-aggregate-put-label
-    put-label-requires
+    slice-aggregate-put-part
+    put-part-requires
     slice-aggregate-put-text
     put-text-requires
     same-length

@@ -1,12 +1,9 @@
 -- Two pieces, one behind the other.
 -- Assumes nothing.
-use mathlib.Core.Path.{refl}
-use mathlib.Core.List.{_++_}
 use native.Mathlib.Omega.{arith}
-use denote.Ref.{now}
 use borrow.Author.Needs.{needs}
 use Rattle.listing.specs.Text.{decimal}
-use Rattle.listing.proofs.Joined.{left-start, left-step, left-last}
+use Rattle.listing.proofs.Storing.{both-stored, text-stored}
 use Rattle.listing.proofs.pieces.put_label.Statement.{statement}
 use Rattle.listing.proofs.pieces.put_label.Tie as tie
 
@@ -22,12 +19,9 @@ same-length c = search needs
 returns : tie.Need-returns
 returns c =
     let a = c .before .before .before .before .before .before .before .before .before .before .args in
-    let t = c .before .before .before .before .before .before .put-text .ensures in
     let n = c .before .before .put-decimal .ensures in
-    let lead = now (a .lead) in
-    let number = decimal (a .n) in
-    let all = left-last number (left-step lead number (left-start (lead ++ number) (a .at) refl) (t .0) (t .1)) (n .0) (n .1 .0) in
-    (all .0, (all .1, omega arith))
+    let t = c .before .before .before .before .before .before .put-text .ensures in
+    (both-stored (t .0) (text-stored (decimal (a .n)) (n .0) (n .1 .0)), omega arith)
 
 pub put-label-spec : {M : Type 1} → statement M
 put-label-spec = tie.close (tie.spec put-text-requires put-decimal-requires same-length returns)

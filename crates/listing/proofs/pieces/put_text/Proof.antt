@@ -8,7 +8,8 @@ use denote.Ref.{now}
 use lib.ListN.{length, drop, length-set}
 use lib.Seq.{sets}
 use borrow.Author.Needs.{needs}
-use Rattle.listing.proofs.Joined.{text-left, text-none}
+use Rattle.listing.proofs.Storing.{text-stored}
+use Rattle.listing.proofs.Bytes.{text-left, text-none}
 use Rattle.listing.proofs.pieces.put_text.Statement.{statement}
 use Rattle.listing.proofs.pieces.put_text.Tie as tie
 
@@ -53,7 +54,7 @@ returns c =
     let a = c .before .before .args in
     let l = c .before .loop in
     let e : l .i ≡ length (now (a .text)) = omega arith in
-    (sym (text-none (l .out) (a .at) (l .i) _ e) ∙ l .inv .2, omega arith)
+    (text-stored _ (sym (text-none (l .out) (a .at) (l .i) _ e) ∙ l .inv .2) (omega arith), omega arith)
 
 pub put-text-spec : {M : Type 1} → statement M
 put-text-spec =
