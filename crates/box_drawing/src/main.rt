@@ -1,9 +1,12 @@
 // Draws the control polygon and the span boxes of the table record on standard input as an SVG, or says why it is refused.
 use knots::refusal::Refusal;
+use knots::walk::NextSpan;
+use knots::walk::next_span;
 use listing::NextLine;
 use listing::drawing::head_text;
 use listing::drawing::middle_text;
 use listing::drawing::next_path;
+use listing::drawing::parts_of;
 use listing::drawing::point_text;
 use listing::drawing::tail_text;
 use listing::drawing::view_of;
@@ -42,17 +45,48 @@ fn print_middle() {
     io::write_all(1, &text[..n]);
 }
 
-// A line for each nonempty span, in order.
-fn print_paths(degree: usize, knots: &[f64], points: &[f64], rational: bool, weights: &[f64]) {
-    let mut from = 0usize;
-    while from < points.len() / 3 {
+// A line for each part of a nonempty span, in order.
+fn print_parts(
+    degree: usize,
+    knots: &[f64],
+    points: &[f64],
+    rational: bool,
+    weights: &[f64],
+    span: usize,
+) {
+    let parts = parts_of(points.len() / 3);
+    let mut part = 0usize;
+    while part < parts {
         let mut line = [0u8; 2048];
-        match next_path(degree, knots, points, rational, weights, from, &mut line) {
-            NextLine::Line { span, length } => {
+        match next_path(
+            degree,
+            knots,
+            points,
+            rational,
+            weights,
+            span,
+            part,
+            &mut line,
+        ) {
+            NextLine::Line { span: _, length } => {
                 io::write_all(1, &line[..length]);
-                from = span + 1;
+                part += 1;
             }
             NextLine::End => return,
+        }
+    }
+}
+
+fn print_paths(degree: usize, knots: &[f64], points: &[f64], rational: bool, weights: &[f64]) {
+    let count = points.len() / 3;
+    let mut from = 0usize;
+    while from < count {
+        match next_span(degree, count, knots, from) {
+            NextSpan::At(span) => {
+                print_parts(degree, knots, points, rational, weights, span);
+                from = span + 1;
+            }
+            NextSpan::Nothing => return,
         }
     }
 }

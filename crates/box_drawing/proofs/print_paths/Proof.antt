@@ -1,54 +1,47 @@
 -- The walk ends: each span is behind the place where it was looked for, and before the count.
 -- Assumes nothing.
-use Prim.Native.Nat.{_-_, _/_}
+use Prim.Native.Nat.{_-_, _≤_, _<_}
 use mathlib.Core.Path.{sym, _∙_}
 use native.Mathlib.Omega.{arith}
 use denote.Ref.{now}
-use lib.ListN.{length}
 use borrow.Author.Needs.{needs}
 use Rattle.knots.specs.Curve.{countOf}
-use Rattle.listing.proofs.Walked.{Told, told}
+use Rattle.knots.proofs.Walks.{next-at}
 use Rattle.box_drawing.proofs.print_paths.Statement.{statement}
 use Rattle.box_drawing.proofs.print_paths.Tie as tie
 
 abbrev Inv-loop : tie.InvT-loop
-Inv-loop degree knots points rational weights from₀ from = Unit {0}
+Inv-loop degree knots points rational weights count from₀ from = Unit {0}
 
 abbrev μ-loop : tie.MeasureT-loop
-μ-loop degree knots points rational weights from₀ from = length points / 3 - «from»
+μ-loop degree knots points rational weights count from₀ from = count - «from»
 
--- what is known of a line
-line : (c : tie.After-known-told Inv-loop μ-loop) →
-    let a = c .before .before .before .before .before .before .before .before .before .before .args in
-    let found = c .before .span .given .0 in
-    Told (a .degree) (countOf (now (a .points))) (now (a .knots)) (c .before .before .before .before .before .before .loop .«from») (found .0) (found .1 .0) (c .before .before .before .next-path .last .1 .1 .1 .1 .1 .1 .0)
-line c =
-    let next = c .before .before .before .next-path .ensures in
-    told _ _ _ _ _ _ _ _ _ (sym (c .before .span .given .1) ∙ next .0) (next .1)
+-- the span is not before the place, and before the count
+step : (c : tie.After-known-told Inv-loop μ-loop) →
+    let a = c .before .before .before .before .before .before .before .before .before .args in
+    let s = c .before .span .given .0 .0 in
+    (c .before .before .before .before .before .loop .«from» ≤ s) × (s < countOf (now (a .points)))
+step c =
+    let next = next-at _ _ _ _ _ (sym (c .before .before .before .next-span .ensures) ∙ c .before .span .given .1) in
+    (next .from, next .below)
 
 loop-holds : tie.Need-loop-holds Inv-loop μ-loop
 loop-holds c = tt
 
-next-path-requires : tie.Need-next-path-requires Inv-loop μ-loop
-next-path-requires c κs = search needs
+next-span-requires : tie.Need-next-span-requires Inv-loop μ-loop
+next-span-requires c κs = search needs
 
 enum-known-span : tie.Need-enum-known-span Inv-loop μ-loop
 enum-known-span c = search needs
 
-array-share-prefix-line : tie.Need-array-share-prefix-line Inv-loop μ-loop
-array-share-prefix-line c = line c .within
-
-slice-aggregate-write-all : tie.Need-slice-aggregate-write-all Inv-loop μ-loop
-slice-aggregate-write-all c = line (c .before) .whole
-
-write-all-requires : tie.Need-write-all-requires Inv-loop μ-loop
-write-all-requires c κs = search needs
+print-parts-requires : tie.Need-print-parts-requires Inv-loop μ-loop
+print-parts-requires c κs = search needs
 
 add-from : tie.Need-add-from Inv-loop μ-loop
-add-from c = omega (arith, line (c .before .before) .below)
+add-from c = omega (arith, step (c .before) .1)
 
 loop-less : tie.Need-loop-less Inv-loop μ-loop
-loop-less c = omega (arith, line (c .before .before) .below, line (c .before .before) .from)
+loop-less c = omega (arith, step (c .before) .0, step (c .before) .1)
 
 loop-again : tie.Need-loop-again Inv-loop μ-loop
 loop-again c = tt
@@ -69,11 +62,9 @@ print-paths-spec =
     Inv-loop
     μ-loop
     loop-holds
-    next-path-requires
+    next-span-requires
     enum-known-span
-    array-share-prefix-line
-    slice-aggregate-write-all
-    write-all-requires
+    print-parts-requires
     add-from
     loop-less
     loop-again
