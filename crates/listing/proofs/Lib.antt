@@ -9,3 +9,4 @@ pub mod Rounding
 pub mod Decimals
 pub mod Patterns
 pub mod Enclosing
+pub mod Bytes

@@ -1,7 +1,9 @@
+pub mod Ascii
 pub mod Text
 pub mod Fixed
 pub mod Figures
 pub mod Stored
 pub mod Listing
 pub mod Boxes
+pub mod Drawing
 pub mod Worked

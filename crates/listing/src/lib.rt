@@ -1,7 +1,12 @@
 // The listers' lines.
 pub mod boxes;
+pub mod drawing;
+mod extremes;
 mod figures;
 mod fixed;
+mod parts;
+mod paths;
+mod pieces;
 mod text;
 
 use knots::refusal::Refusal;
