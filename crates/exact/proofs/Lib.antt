@@ -18,5 +18,6 @@ pub mod Jets
 pub mod Surface
 pub mod Worked
 pub mod Scheme
+pub mod Second
 pub mod Textbook
 pub mod Homogeneous

@@ -1,4 +1,4 @@
--- Worked over fractions, A2.2 gives the basis functions of the span and A2.3 their first derivatives. Assumes nothing.
+-- Worked over fractions, A2.2 gives the basis functions of the span and row 1 of A2.3 their first derivatives. Assumes nothing.
 use mathlib.Core.Path.{_≡_, refl, sym, _∙_, ap, ap₂, subst}
 use mathlib.Core.Bool.{Bool, true, false, cond, not}
 use mathlib.Core.Logic.{_⊎_, inl, inr}
@@ -15,6 +15,13 @@ use Rattle.exact.proofs.Deriv.{formula, dbasis-formula}
 
 abbrev pub fractions : Arithmetic ℚ
 fractions = record { add = _+q_; sub = _-q_; mul = _*q_; div = _/q_; neg = negq; nought = q0; one = q1; whole = ofℕ }
+
+-- a product whose second factor is 0, alone and after another term
+pub no-first : (x y : ℚ) → y ≡ q0 → q0 ≡ x *q y
+no-first x y h = sym (ap (λ z. x *q z) h ∙ mul-zero x)
+
+pub no-last : (x y z : ℚ) → z ≡ q0 → x ≡ x +q y *q z
+no-last x y z h = q-combine (negq y) h (q-ring (x ∷ y ∷ z ∷ []) (search qring depth 20) tt)
 
 module _ (U : ℕ → ℚ) (t : ℚ) (s : ℕ) where
   -- left[k] and right[k]
@@ -48,12 +55,6 @@ module _ (U : ℕ → ℚ) (t : ℚ) (s : ℕ) where
       let x : s + (i + 1) ≡ suc (b + i) + suc k = omega arith in
       ap₂ (λ n w. (U n -q t) *q (f i /q w)) x (width-is k b i e h)
       ∙ q-ring (t ∷ U (suc (b + i) + suc k) ∷ f i ∷ inv (U (suc (b + i) + suc k) -q U (suc (b + i))) ∷ []) (search qring depth 20) tt
-
-  no-first : (x y : ℚ) → y ≡ q0 → q0 ≡ x *q y
-  no-first x y h = sym (ap (λ z. x *q z) h ∙ mul-zero x)
-
-  no-last : (x y z : ℚ) → z ≡ q0 → x ≡ x +q y *q z
-  no-last x y z h = q-combine (negq y) h (q-ring (x ∷ y ∷ z ∷ []) (search qring depth 20) tt)
 
   module _ (k b : ℕ) (e : b + suc k ≡ s) (f : ℕ → ℚ) (column : (i : ℕ) → i ≤ k → f i ≡ basis U t s k (suc b + i)) where
     carried : (i : ℕ) → i ≤ suc k → carryOf fractions left right f (suc k) i ≡ rise U t k (b + i) *q basis U t s k (b + i)
@@ -101,10 +102,10 @@ module _ (U : ℕ → ℚ) (t : ℚ) (s : ℕ) where
   pick-no true x y h = absurd (h tt)
   pick-no false x y h = refl
 
-  table : ℕ → ℕ → ℚ
+  unfoldable pub table : ℕ → ℕ → ℚ
   table = tableOf fractions left right
 
-  table-width : (k b i : ℕ) → b + suc k ≡ s → i ≤ k → table (suc k) i ≡ U (suc (b + i) + suc k) -q U (suc (b + i))
+  pub table-width : (k b i : ℕ) → b + suc k ≡ s → i ≤ k → table (suc k) i ≡ U (suc (b + i) + suc k) -q U (suc (b + i))
   unfolding table tableOf
   table-width k b i e h = pick-no (leb (suc k) i) _ _ (λ x. let y : suc k ≤ i = leb→le (suc k) i x in omega arith) ∙ width-is k b i e h
 
@@ -119,7 +120,7 @@ module _ (U : ℕ → ℚ) (t : ℚ) (s : ℕ) where
     ones j = q1
 
     -- a term with numerator x over the width under function i, times the function
-    term-is : (x y w N : ℚ) (i : ℕ) → i ≤ k → y ≡ x → w ≡ table (suc k) i → N ≡ table i k → y /q w *q N ≡ x *q (slope U k (suc (b + i)) *q basis U t s k (suc (b + i)))
+    pub term-is : (x y w N : ℚ) (i : ℕ) → i ≤ k → y ≡ x → w ≡ table (suc k) i → N ≡ table i k → y /q w *q N ≡ x *q (slope U k (suc (b + i)) *q basis U t s k (suc (b + i)))
     unfolding slope
     term-is x y w N i h p q r =
         ap₂ (λ u v. y /q u *q v) (q ∙ table-width k b i e h) (r ∙ table-basis k b i e h) ∙ ap (λ z. z /q (U (suc (b + i) + suc k) -q U (suc (b + i))) *q basis U t s k (suc (b + i))) p

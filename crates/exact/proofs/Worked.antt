@@ -5,8 +5,8 @@ use Prim.Native.Nat.{ℕ, zero, suc, _<_}
 use native.Mathlib.Omega.{arith}
 use lib.IntN.{ℤ, pos, negsuc}
 use lib.ListN.{getD}
-use Rattle.exact.specs.Rational.{ℚ, frac, q1, _≤q_}
-use Rattle.exact.specs.Spline.{basis, Knots, exact, dbasis, dexact}
+use Rattle.exact.specs.Rational.{ℚ, frac, q1, _≤q_, ofℕ}
+use Rattle.exact.specs.Spline.{basis, Knots, exact, dbasis, ddbasis, dexact}
 use Rattle.exact.specs.Boehm.{refined, inserted, insertedPoint, cut}
 use Rattle.exact.specs.Bernstein.{ends, raised, raisedTo}
 use Rattle.exact.proofs.Field.{same, by-same, dec-le, dec-lt}
@@ -61,6 +61,19 @@ dbasis-A-1 = by-same tt
 dbasis-A-2 : dbasis A half 2 2 2 ≡ half
 unfolding same dbasis A half
 dbasis-A-2 = by-same tt
+
+-- the second ones
+ddbasis-A-0 : ddbasis A half 2 2 0 ≡ frac (pos 2) 0
+unfolding same ddbasis ofℕ A half
+ddbasis-A-0 = by-same tt
+
+ddbasis-A-1 : ddbasis A half 2 2 1 ≡ frac (negsuc 2) 0
+unfolding same ddbasis ofℕ A half
+ddbasis-A-1 = by-same tt
+
+ddbasis-A-2 : ddbasis A half 2 2 2 ≡ q1
+unfolding same ddbasis ofℕ A half
+ddbasis-A-2 = by-same tt
 
 -- the exact point and derivative, with all the weights 1
 exact-A : exact A half 2 2 4 (λ i. q1) x ≡ frac (pos 7) 3
