@@ -10,3 +10,4 @@ pub mod Decimals
 pub mod Patterns
 pub mod Enclosing
 pub mod Bytes
+pub mod InParts

@@ -6,4 +6,5 @@ pub mod Stored
 pub mod Listing
 pub mod Boxes
 pub mod Drawing
+pub mod Drawn
 pub mod Worked

@@ -2,10 +2,9 @@
 use bounds::answer::Bounded;
 use bounds::curve::bound_span;
 ghost use mathlib.Core.Path.{_≡_};
-ghost use Prim.Native.Nat.{_+_, _*_, _≤_, _<_};
+ghost use Prim.Native.Nat.{_+_, _≤_, _<_};
 ghost use lib.IntN.{pos};
 ghost use lib.Ieee.{binary64, ofInt};
-ghost use Rattle.doubles.specs.Run.{at};
 ghost use Rattle.bounds.specs.Curve.{boundAt};
 ghost use Rattle.listing.specs.Drawing.{markOf, partOf};
 
