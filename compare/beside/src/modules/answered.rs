@@ -17,6 +17,17 @@ pub fn coordinates(c: &BCurve) -> Vec<u64> {
     c.points().iter().flat_map(|p| point(*p)).collect()
 }
 
+/// Mostly the room that is needed, now and then one short, one over, some over, or none.
+pub fn room(r: &mut Rng, need: usize) -> usize {
+    match r.below(24) {
+        0 => need.saturating_sub(1),
+        1 => need + 1,
+        2 => need + r.below(8) as usize,
+        3 if r.below(4) == 0 => 0,
+        _ => need,
+    }
+}
+
 pub enum Wanted {
     /// What each lent run has to start with.
     Runs(Vec<Vec<u64>>),

@@ -3,9 +3,8 @@ mod bench;
 pub mod calls;
 mod list;
 
-use super::answered::{Asked, Wanted, compared};
+use super::answered::{Asked, Wanted, compared, room};
 use super::{Desk, Module, Place};
-use crate::rng::Rng;
 use crate::tables::make::Care;
 use crate::tables::{FEATURES, double_literal};
 use crate::tally::Call;
@@ -56,17 +55,6 @@ fn made_surface(desk: &mut Desk) -> SurfaceCase {
     case.table.features(&mut desk.tally.features);
     desk.tally.count(case.table.doubles().take(400).chain([&case.u, &case.v]));
     case
-}
-
-/// Mostly the room that is needed, now and then one short, one over, or none.
-fn room(r: &mut Rng, need: usize) -> usize {
-    match r.below(24) {
-        0 => need.saturating_sub(1),
-        1 => need + 1,
-        2 => need + r.below(8) as usize,
-        3 if r.below(4) == 0 => 0,
-        _ => need,
-    }
 }
 
 /// The call of a row beside the Rust; the text of the case where they differ.

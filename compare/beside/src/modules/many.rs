@@ -1,13 +1,12 @@
 //! Many parameters and all spans of a curve with one validation: each row beside the Rust's single call.
 mod bench;
 
-use super::answered::Wanted;
+use super::answered::{Wanted, room};
 use super::bounds::calls as bounds;
 use super::evaluate::calls as evaluate;
 use super::{Desk, Module, Place};
 use crate::face::*;
 use crate::lent::Match;
-use crate::rng::Rng;
 use crate::tables::make::{self, Care};
 use crate::tables::{Curve, FEATURES, LIMIT};
 use crate::tally::Call;
@@ -58,17 +57,6 @@ fn whole(table: &Curve) -> u32 {
         Err(n) => n,
         Ok(_) if table.is_steep() => 31,
         Ok(_) => 0,
-    }
-}
-
-/// Mostly the room that is needed, now and then one short, one over, or none.
-fn room(r: &mut Rng, need: usize) -> usize {
-    match r.below(24) {
-        0 => need.saturating_sub(1),
-        1 => need + 1,
-        2 => need + r.below(20) as usize,
-        3 if r.below(4) == 0 => 0,
-        _ => need,
     }
 }
 
