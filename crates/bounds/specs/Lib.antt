@@ -4,6 +4,7 @@ pub mod Range
 pub mod Start
 pub mod Cartesian
 pub mod Answer
+pub mod Numbers
 pub mod Curve
 pub mod Holds
 pub mod Surface

@@ -15,7 +15,7 @@ use Rattle.knots.specs.Knots.{ValidKnots}
 use Rattle.knots.specs.declared.refusal.Refusal.{Refusal}
 use Rattle.knots.proofs.Valid.{not-refused}
 use Rattle.basis.proofs.Whole.{length-tabulate}
-use Rattle.evaluate.specs.Shape.{roomRefusal}
+use Rattle.knots.specs.Shape.{roomRefusal}
 use Rattle.insertion.specs.Counts.{multiplicityOf}
 use Rattle.insertion.specs.Rows.{given}
 use Rattle.insertion.specs.Whole.{givenOf}

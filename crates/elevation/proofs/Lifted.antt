@@ -17,7 +17,7 @@ use Rattle.knots.proofs.Refusals.{skip}
 use Rattle.basis.specs.Basis.{tabulate}
 use Rattle.basis.proofs.Whole.{at-tabulate}
 use Rattle.evaluate.specs.Controls.{pointOf, weightOf}
-use Rattle.evaluate.specs.Shape.{roomRefusal}
+use Rattle.knots.specs.Shape.{roomRefusal}
 use Rattle.evaluate.specs.declared.vector.Vector.{Vector}
 use Rattle.insertion.specs.Control.{vectorOf, liftOf, isLifted}
 use Rattle.insertion.specs.Rows.{liftAt, axis}

@@ -10,7 +10,7 @@ use Rattle.knots.specs.Knots.{allFinite, inOrder, ordered, apart, orderRefusal,
 use Rattle.knots.specs.Curve.{overLong, anyLong, isWeight, allWeights, controlRefusal, formedRefusal, curveRefusal}
 use Rattle.knots.specs.Span.{lastAfter, spanOf}
 use Rattle.evaluate.specs.Controls.{largestFrom, weightOf}
-use Rattle.evaluate.specs.Shape.{roomRefusal}
+use Rattle.knots.specs.Shape.{roomRefusal}
 use Rattle.insertion.specs.Control.{liftOf, isLifted, isBlended, shareOf, blendOf, lowerOf}
 use Rattle.insertion.specs.Counts.{countBelow, multiplicityOf, largestOf, allEqual}
 use Rattle.insertion.specs.Rows.{scaleOf, liftAt, blendAt, lowerAt}

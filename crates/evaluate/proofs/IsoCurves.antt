@@ -28,7 +28,7 @@ use Rattle.basis.specs.Floats.{floats}
 use Rattle.basis.specs.Basis.{cell, leftOf, rightOf, tabulate}
 use Rattle.basis.specs.Ders.{basisTable}
 use Rattle.basis.proofs.Whole.{Reach, basis-at, length-tabulate}
-use Rattle.evaluate.specs.Shape.{roomRefusal}
+use Rattle.knots.specs.Shape.{roomRefusal}
 use Rattle.evaluate.specs.Surface.{degreesRefusal}
 use Rattle.evaluate.specs.Lent.{padded, leftIn}
 use Rattle.evaluate.specs.Controls.{pointOf, noSums}

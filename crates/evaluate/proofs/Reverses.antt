@@ -15,7 +15,7 @@ use Rattle.knots.proofs.Refusals.{orElse-none, stop, skip}
 use Rattle.knots.proofs.Curves.{valid-curve}
 use Rattle.basis.specs.Basis.{tabulate}
 use Rattle.basis.proofs.Whole.{length-tabulate}
-use Rattle.evaluate.specs.Shape.{roomRefusal}
+use Rattle.knots.specs.Shape.{roomRefusal}
 use Rattle.evaluate.specs.Lent.{padded, leftIn}
 use Rattle.evaluate.specs.Reverse.{givenLength, backKnot, backPoint, backWeight, backKnots, backPoints, backWeights, reverseFormed, reverseStart, reverseRefusal, ReverseFormed, ReverseMeets}
 use Rattle.evaluate.proofs.Steps.{room-open}

@@ -16,7 +16,7 @@ use Rattle.knots.specs.Curve.{countOf, curveRefusal, ValidCurve}
 use Rattle.knots.specs.Span.{searched, spanOf}
 use Rattle.knots.proofs.Refusals.{passed, orElse-none}
 use Rattle.knots.proofs.Curves.{thirds, valid-curve}
-use Rattle.evaluate.specs.Shape.{degreeRefusal, finiteRefusal, roomRefusal, weightShape, knotShape, curveShape}
+use Rattle.knots.specs.Shape.{degreeRefusal, finiteRefusal, roomRefusal, weightShape, knotShape, curveShape}
 use Rattle.evaluate.specs.Curve.{parameterRefusal, stepRefusal, evalRefusal, looked}
 use Rattle.evaluate.proofs.Searches.{searched-in, searched-is}
 

@@ -23,7 +23,7 @@ use Rattle.basis.specs.Floats.{floats}
 use Rattle.basis.specs.Basis.{cell, leftOf, rightOf}
 use Rattle.basis.specs.Ders.{basisTable}
 use Rattle.basis.proofs.Whole.{Reach, basis-at}
-use Rattle.evaluate.specs.Shape.{degreeRefusal, finiteRefusal, weightShape, knotShape, surfaceShape}
+use Rattle.knots.specs.Shape.{degreeRefusal, finiteRefusal, weightShape, knotShape, surfaceShape}
 use Rattle.evaluate.specs.Controls.{pointOf}
 use Rattle.evaluate.specs.Surface.{NetReach, netScale, netSums, surfaceQuotient, activeNet, surfaceOf, degreesRefusal, parametersRefusal, surfaceStepRefusal, surfaceEvalRefusal, surfaceAtOf, evalSurfaceOf}
 use Rattle.evaluate.specs.declared.vector.Vector.{Vector}

@@ -12,7 +12,7 @@ use Rattle.knots.specs.Curve.{countOf, curveRefusal}
 use Rattle.knots.specs.declared.refusal.Refusal.{Refusal}
 use Rattle.basis.specs.Floats.{floats}
 use Rattle.basis.specs.Basis.{leftOf, rightOf}
-use Rattle.evaluate.specs.Shape.{degreeRefusal, finiteRefusal, curveShape}
+use Rattle.knots.specs.Shape.{degreeRefusal, finiteRefusal, curveShape}
 use Rattle.evaluate.specs.Controls.{pointOf, scaleOf, rowSums}
 use Rattle.evaluate.specs.declared.vector.Vector.{Vector}
 use Rattle.evaluate.specs.declared.controls.Sums.{Sums}

@@ -16,7 +16,7 @@ use Rattle.knots.specs.Surface.{surfaceRefusal}
 use Rattle.knots.specs.declared.refusal.Refusal.{Refusal}
 use Rattle.basis.specs.Floats.{floats}
 use Rattle.basis.specs.Basis.{leftOf, rightOf, tabulate}
-use Rattle.evaluate.specs.Shape.{roomRefusal}
+use Rattle.knots.specs.Shape.{roomRefusal}
 use Rattle.evaluate.specs.Surface.{degreesRefusal}
 use Rattle.evaluate.specs.Lent.{padded, leftIn}
 use Rattle.evaluate.specs.Iso.{isoSums, isoCoordinate, isoWeight}

@@ -1,8 +1,8 @@
-pub mod Shape
 pub mod Controls
 pub mod Curve
 pub mod Curve2
 pub mod Surface
+pub mod Numbers
 pub mod Lent
 pub mod Reverse
 pub mod Iso

@@ -11,7 +11,7 @@ use Rattle.knots.specs.Refusal.{orElse}
 use Rattle.knots.specs.Curve.{countOf, curveRefusal, formedRefusal}
 use Rattle.knots.specs.declared.refusal.Refusal.{Refusal}
 use Rattle.basis.specs.Basis.{tabulate}
-use Rattle.evaluate.specs.Shape.{roomRefusal}
+use Rattle.knots.specs.Shape.{roomRefusal}
 use Rattle.evaluate.specs.Lent.{padded, leftIn}
 
 -- how many weights are given

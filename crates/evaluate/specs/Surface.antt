@@ -15,7 +15,7 @@ use Rattle.knots.specs.Surface.{surfaceRefusal}
 use Rattle.knots.specs.declared.refusal.Refusal.{Refusal}
 use Rattle.basis.specs.Floats.{floats}
 use Rattle.basis.specs.Basis.{leftOf, rightOf}
-use Rattle.evaluate.specs.Shape.{degreeRefusal, finiteRefusal, surfaceShape}
+use Rattle.knots.specs.Shape.{degreeRefusal, finiteRefusal, surfaceShape}
 use Rattle.evaluate.specs.Controls.{largestFrom, pointOf, noSums, sumsFrom, rowTerm}
 use Rattle.evaluate.specs.Curve.{pointFrom, slopeFrom}
 use Rattle.evaluate.specs.declared.vector.Vector.{Vector}

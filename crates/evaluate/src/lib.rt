@@ -8,6 +8,5 @@ pub mod iso_curve;
 mod net;
 pub mod refusals;
 pub mod reverse;
-pub mod shape;
 pub mod surface;
 pub mod vector;

@@ -1,10 +1,10 @@
 // The refusals of a call: those of the curve or surface, then 31 and 12; and of a step on what was validated before, with its lengths alone in their place.
-use crate::shape::curve_shape;
-use crate::shape::degree_refusal;
-use crate::shape::finite_refusal;
-use crate::shape::surface_shape;
 use knots::curve::curve_refusal;
 use knots::refusal::Refusal;
+use knots::shape::curve_shape;
+use knots::shape::degree_refusal;
+use knots::shape::finite_refusal;
+use knots::shape::surface_shape;
 use knots::surface::surface_refusal;
 ghost use mathlib.Core.Path.{_≡_};
 ghost use Rattle.evaluate.specs.Curve.{parameterRefusal, stepRefusal, evalRefusal};

@@ -1,9 +1,9 @@
 // A curve run backwards over the same domain.
 use crate::front::clear_three;
 use crate::front::front_refusal;
-use crate::shape::room_refusal;
 use knots::curve::curve_refusal;
 use knots::refusal::Refusal;
+use knots::shape::room_refusal;
 ghost use mathlib.Core.Path.{_≡_};
 ghost use mathlib.Core.List.{_++_};
 ghost use Prim.Native.Nat.{_*_, _/_, _≤_};

@@ -24,7 +24,7 @@ use Rattle.knots.proofs.Valid.{valid}
 use Rattle.basis.specs.Basis.{tabulate}
 use Rattle.basis.proofs.Whole.{length-tabulate, at-tabulate}
 use Rattle.basis.proofs.Cases.{lt-or-ge}
-use Rattle.evaluate.specs.Shape.{roomRefusal}
+use Rattle.knots.specs.Shape.{roomRefusal}
 use Rattle.evaluate.specs.declared.vector.Vector.{Vector}
 use Rattle.evaluate.proofs.Steps.{room-open}
 use Rattle.insertion.specs.Control.{vectorOf, isLifted}

@@ -5,5 +5,6 @@ pub mod Insert
 pub mod Fold
 pub mod Start
 pub mod Whole
+pub mod Numbers
 pub mod Work
 pub mod Passes

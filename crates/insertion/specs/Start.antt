@@ -9,7 +9,7 @@ use Rattle.doubles.specs.Run.{at}
 use Rattle.knots.specs.Refusal.{refuse, accepted, orElse, too-long, ends-unclamped}
 use Rattle.knots.specs.Curve.{overLong, countOf, curveRefusal}
 use Rattle.knots.specs.declared.refusal.Refusal.{Refusal}
-use Rattle.evaluate.specs.Shape.{roomRefusal}
+use Rattle.knots.specs.Shape.{roomRefusal}
 use Rattle.insertion.specs.Counts.{allEqual}
 use Rattle.insertion.specs.Rows.{given}
 

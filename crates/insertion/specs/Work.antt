@@ -15,7 +15,7 @@ use Rattle.knots.specs.Curve.{countOf, formedRefusal}
 use Rattle.knots.specs.declared.refusal.Refusal.{Refusal}
 use Rattle.basis.specs.Basis.{tabulate}
 use Rattle.evaluate.specs.Controls.{coordinate, pointOf}
-use Rattle.evaluate.specs.Shape.{roomRefusal}
+use Rattle.knots.specs.Shape.{roomRefusal}
 use Rattle.insertion.specs.Control.{vectorOf, isLifted}
 use Rattle.insertion.specs.Rows.{liftAll, axis, given}
 use Rattle.insertion.specs.Start.{outRoom}

@@ -1,11 +1,11 @@
 // The refusals of an edit before anything is formed.
 use crate::counts::all_equal;
 use crate::counts::given_count;
-use evaluate::shape::room_refusal;
 use knots::curve::curve_refusal;
 use knots::limits::over_long;
 use knots::refusal::Refusal;
 use knots::refusal::refuse;
+use knots::shape::room_refusal;
 ghost use mathlib.Core.Path.{_≡_};
 ghost use Prim.Native.Nat.{_+_, _<_};
 ghost use lib.ListN.{length};

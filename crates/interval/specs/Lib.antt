@@ -1,3 +1,4 @@
 pub mod Ops
+pub mod Numbers
 pub mod Inside
 pub mod Worked

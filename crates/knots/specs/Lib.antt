@@ -4,5 +4,7 @@ pub mod Clear
 pub mod Knots
 pub mod Curve
 pub mod Surface
+pub mod Shape
 pub mod Span
+pub mod Numbers
 pub mod Walk

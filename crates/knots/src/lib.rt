@@ -4,6 +4,7 @@ pub mod curve;
 pub mod knots;
 pub mod limits;
 pub mod refusal;
+pub mod shape;
 pub mod span;
 pub mod surface;
 pub mod walk;

@@ -11,7 +11,7 @@ use Rattle.doubles.specs.Value.{zero+}
 use Rattle.knots.specs.Refusal.{orElse}
 use Rattle.knots.specs.Curve.{curveRefusal}
 use Rattle.knots.specs.declared.refusal.Refusal.{Refusal}
-use Rattle.evaluate.specs.Shape.{degreeRefusal, roomRefusal}
+use Rattle.knots.specs.Shape.{degreeRefusal, roomRefusal}
 use Rattle.evaluate.specs.declared.vector.Vector.{Vector}
 use Rattle.interval.specs.declared.Interval.{Interval}
 use Rattle.bounds.specs.declared.answer.Triple.{Triple}

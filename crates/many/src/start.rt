@@ -1,10 +1,10 @@
 // The refusals of a call before any row is made.
-use evaluate::shape::degree_refusal;
-use evaluate::shape::room_refusal;
 use knots::curve::curve_refusal;
 use knots::limits::over_long;
 use knots::refusal::Refusal;
 use knots::refusal::refuse;
+use knots::shape::degree_refusal;
+use knots::shape::room_refusal;
 ghost use mathlib.Core.Path.{_≡_};
 ghost use Prim.Native.Nat.{_≤_};
 ghost use Rattle.many.specs.Points.{pointsStart};

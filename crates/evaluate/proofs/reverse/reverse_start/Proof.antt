@@ -2,7 +2,7 @@
 -- Assumes nothing.
 use mathlib.Core.Path.{_∙_, ap}
 use Rattle.knots.proofs.Refusals.{stop, skip}
-use Rattle.evaluate.specs.Shape.{roomRefusal}
+use Rattle.knots.specs.Shape.{roomRefusal}
 use Rattle.evaluate.specs.Reverse.{reverseStart}
 use borrow.Author.Needs.{needs}
 use Rattle.evaluate.proofs.reverse.reverse_start.Statement.{statement}

@@ -1,6 +1,6 @@
 use mathlib.Core.Path.{_∙_, ap}
 use native.Mathlib.Omega.{arith}
-use Rattle.evaluate.specs.Shape.{roomRefusal}
+use Rattle.knots.specs.Shape.{roomRefusal}
 use Rattle.insertion.proofs.Starting.{out-knots, out-points, out-weights}
 use borrow.Author.Needs.{needs}
 use Rattle.insertion.proofs.start.out_room.Statement.{statement}

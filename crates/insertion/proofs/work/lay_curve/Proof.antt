@@ -5,7 +5,7 @@ use lib.ListN.{length, length-replicate}
 use Rattle.doubles.specs.Value.{zero+}
 use Rattle.knots.specs.Clear.{zeros}
 use Rattle.knots.specs.declared.refusal.Refusal.{Refusal}
-use Rattle.evaluate.specs.Shape.{roomRefusal}
+use Rattle.knots.specs.Shape.{roomRefusal}
 use Rattle.evaluate.proofs.Steps.{room-open}
 use Rattle.insertion.specs.Work.{workRoom, layOutcome}
 use Rattle.insertion.proofs.Forming.{given-room}

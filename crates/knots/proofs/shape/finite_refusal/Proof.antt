@@ -1,10 +1,10 @@
--- `evaluate::shape::finite_refusal` meets its contract.
+-- `knots::shape::finite_refusal` meets its contract.
 -- Assumes nothing.
 use mathlib.Core.Path.{sym, _∙_}
-use Rattle.evaluate.specs.Shape.{finiteRefusal}
+use Rattle.knots.specs.Shape.{finiteRefusal}
 use borrow.Author.Needs.{needs}
-use Rattle.evaluate.proofs.shape.finite_refusal.Statement.{statement}
-use Rattle.evaluate.proofs.shape.finite_refusal.Tie as tie
+use Rattle.knots.proofs.shape.finite_refusal.Statement.{statement}
+use Rattle.knots.proofs.shape.finite_refusal.Tie as tie
 
 is-finite-requires : tie.Need-is-finite-requires
 is-finite-requires c κs = search needs

@@ -1,11 +1,11 @@
--- `evaluate::shape::curve_shape` meets its contract.
+-- `knots::shape::curve_shape` meets its contract.
 -- Assumes nothing.
 use borrow.Author.Tests.{eq-eqb, ne-eqb}
 use Rattle.knots.proofs.Refusals.{stop, skip}
-use Rattle.evaluate.specs.Shape.{curveShape}
+use Rattle.knots.specs.Shape.{curveShape}
 use borrow.Author.Needs.{needs}
-use Rattle.evaluate.proofs.shape.curve_shape.Statement.{statement}
-use Rattle.evaluate.proofs.shape.curve_shape.Tie as tie
+use Rattle.knots.proofs.shape.curve_shape.Statement.{statement}
+use Rattle.knots.proofs.shape.curve_shape.Tie as tie
 
 refuse-requires : tie.Need-refuse-requires
 refuse-requires c κs = search needs

@@ -1,11 +1,11 @@
--- `evaluate::shape::knot_shape` meets its contract.
+-- `knots::shape::knot_shape` meets its contract.
 -- Assumes nothing.
 use mathlib.Core.Path.{sym, _∙_}
 use borrow.Author.Tests.{not-true, not-false, le-leb, lt-leb, eq-eqb, ne-eqb}
-use Rattle.evaluate.specs.Shape.{knotShape}
+use Rattle.knots.specs.Shape.{knotShape}
 use borrow.Author.Needs.{needs}
-use Rattle.evaluate.proofs.shape.knot_shape.Statement.{statement}
-use Rattle.evaluate.proofs.shape.knot_shape.Tie as tie
+use Rattle.knots.proofs.shape.knot_shape.Statement.{statement}
+use Rattle.knots.proofs.shape.knot_shape.Tie as tie
 
 refuse-requires : tie.Need-refuse-requires
 refuse-requires c κs = search needs

@@ -1,12 +1,12 @@
 // Refusals that the lengths of the runs, the degree and the parameter show: no number of a run is read.
+use crate::limits::is_product;
+use crate::limits::is_sum;
+use crate::refusal::Refusal;
+use crate::refusal::refuse;
+use crate::refusal::refuse_along;
 use interval::float::is_finite;
-use knots::limits::is_product;
-use knots::limits::is_sum;
-use knots::refusal::Refusal;
-use knots::refusal::refuse;
-use knots::refusal::refuse_along;
 ghost use mathlib.Core.Path.{_≡_};
-ghost use Rattle.evaluate.specs.Shape.{degreeRefusal, finiteRefusal, roomRefusal, weightShape, knotShape, curveShape, surfaceShape};
+ghost use Rattle.knots.specs.Shape.{degreeRefusal, finiteRefusal, roomRefusal, weightShape, knotShape, curveShape, surfaceShape};
 
 // 31
 pub fn degree_refusal(degree: usize) -> Refusal

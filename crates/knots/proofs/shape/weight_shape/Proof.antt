@@ -1,10 +1,10 @@
--- `evaluate::shape::weight_shape` meets its contract.
+-- `knots::shape::weight_shape` meets its contract.
 -- Assumes nothing.
 use borrow.Author.Tests.{not-true, not-false, eq-eqb, ne-eqb}
-use Rattle.evaluate.specs.Shape.{weightShape}
+use Rattle.knots.specs.Shape.{weightShape}
 use borrow.Author.Needs.{needs}
-use Rattle.evaluate.proofs.shape.weight_shape.Statement.{statement}
-use Rattle.evaluate.proofs.shape.weight_shape.Tie as tie
+use Rattle.knots.proofs.shape.weight_shape.Statement.{statement}
+use Rattle.knots.proofs.shape.weight_shape.Tie as tie
 
 refuse-requires : tie.Need-refuse-requires
 refuse-requires c κs = search needs

@@ -1,10 +1,10 @@
--- `evaluate::shape::degree_refusal` meets its contract.
+-- `knots::shape::degree_refusal` meets its contract.
 -- Assumes nothing.
 use borrow.Author.Tests.{lt-ltb, le-ltb}
-use Rattle.evaluate.specs.Shape.{degreeRefusal}
+use Rattle.knots.specs.Shape.{degreeRefusal}
 use borrow.Author.Needs.{needs}
-use Rattle.evaluate.proofs.shape.degree_refusal.Statement.{statement}
-use Rattle.evaluate.proofs.shape.degree_refusal.Tie as tie
+use Rattle.knots.proofs.shape.degree_refusal.Statement.{statement}
+use Rattle.knots.proofs.shape.degree_refusal.Tie as tie
 
 refuse-requires : tie.Need-refuse-requires
 refuse-requires c κs = search needs

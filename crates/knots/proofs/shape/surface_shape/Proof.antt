@@ -1,13 +1,13 @@
--- `evaluate::shape::surface_shape` meets its contract.
+-- `knots::shape::surface_shape` meets its contract.
 -- Assumes nothing.
 use mathlib.Core.Path.{sym, _∙_, ap}
 use borrow.Author.Tests.{not-true, not-false, eq-eqb, ne-eqb}
 use Rattle.knots.proofs.Refusals.{stop, skip}
 use Rattle.knots.specs.Refusal.{along}
-use Rattle.evaluate.specs.Shape.{surfaceShape}
+use Rattle.knots.specs.Shape.{surfaceShape}
 use borrow.Author.Needs.{needs}
-use Rattle.evaluate.proofs.shape.surface_shape.Statement.{statement}
-use Rattle.evaluate.proofs.shape.surface_shape.Tie as tie
+use Rattle.knots.proofs.shape.surface_shape.Statement.{statement}
+use Rattle.knots.proofs.shape.surface_shape.Tie as tie
 
 refuse-requires : tie.Need-refuse-requires
 refuse-requires c κs = search needs

@@ -1,0 +1,22 @@
+-- A bound's answer in the paper's numbers, case by case: its refusal, which is `accepted` where there is none, and its values. Definitions only.
+use mathlib.Core.List.{List, []}
+use lib.Ieee.{Float}
+use Rattle.knots.specs.Refusal.{accepted}
+use Rattle.knots.specs.declared.refusal.Refusal.{Refusal}
+use Rattle.interval.specs.Numbers.{endsOnto}
+use Rattle.bounds.specs.declared.answer.Triple.{Triple}
+use Rattle.bounds.specs.declared.answer.Bounded.{Bounded}
+use Rattle.bounds.specs.declared.answer.Bounded.the-variants.{Are, Refused}
+
+-- the six ends of three intervals, x before y before z, then xs
+abbrev pub sixOnto : Triple → List Float → List Float
+sixOnto t xs = endsOnto (t .x) (endsOnto (t .y) (endsOnto (t .z) xs))
+
+abbrev pub boundedRefusal : Bounded → Refusal
+boundedRefusal (Are b) = accepted
+boundedRefusal (Refused r) = r
+
+-- point, du, dv
+abbrev pub boundedValues : Bounded → List Float
+boundedValues (Are b) = sixOnto (b .point) (sixOnto (b .du) (sixOnto (b .dv) []))
+boundedValues (Refused r) = []
