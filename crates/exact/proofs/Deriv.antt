@@ -71,7 +71,7 @@ module _ (U : ℕ → ℚ) (t : ℚ) (s : ℕ) where
   dbasis-high (suc k) i h = four-zeros _ _ _ _ _ _ _ _ (basis-high U t s k i h) (dbasis-high k i h)
       (basis-high U t s k (suc i) (omega arith)) (dbasis-high k (suc i) (omega arith))
 
-  dbasis-suc : (k i : ℕ) → dbasis U t s (suc k) i ≡ (slope U k i *q basis U t s k i +q rise U t k i *q dbasis U t s k i)
+  pub dbasis-suc : (k i : ℕ) → dbasis U t s (suc k) i ≡ (slope U k i *q basis U t s k i +q rise U t k i *q dbasis U t s k i)
       +q (negq (slope U k (suc i)) *q basis U t s k (suc i) +q fall U t k (suc i) *q dbasis U t s k (suc i))
   unfolding dbasis
   dbasis-suc k i = refl

@@ -83,6 +83,11 @@ dwhole-is U t s p b r c e =
     (Σ-zero r (λ m l. rw (dbasis-high U t s p (b + suc p + m) (omega arith)) (zero-mul (c (b + suc p + m)))))
     (Σ-zero (suc p) (λ m l. mul-zero (basis U t s p (b + m))))
 
+pub dwhole-active : (U : ℕ → ℚ) (t : ℚ) (s p b count : ℕ) (c : ℕ → ℚ) → b + p ≡ s → s < count → dwhole U t s p count c ≡ dcurve U t s p b (λ m. c (b + m)) (λ m. q0)
+dwhole-active U t s p b count c e l =
+    let x : count ≡ b + suc p + (count - (b + suc p)) = omega arith in
+    ap (λ k. dwhole U t s p k c) x ∙ dwhole-is U t s p b (count - (b + suc p)) c e
+
 module _ (U : ℕ → ℚ) (t : ℚ) (s p count : ℕ) (w : ℕ → ℚ) where
   pub whole-scale : (σ : ℚ) → whole U t s p count (λ i. w i /q σ) ≡ inv σ *q whole U t s p count w
   unfolding whole
@@ -105,8 +110,7 @@ module _ (U : ℕ → ℚ) (t : ℚ) (s p count : ℕ) (w : ℕ → ℚ) where
 module _ {U : ℕ → ℚ} {n s : ℕ} (K : Knots U n s) (p b count : ℕ) (span : b + p ≡ s) (fits : s < count) (knots : s + p < n) where
   pub dwhole-work : (t : ℚ) (c : ℕ → ℚ) → dwhole U t s p count c ≡ dwork U t p s (λ m. c (b + m)) (λ m. q0) p p
   dwhole-work t c =
-      let x : count ≡ b + suc p + (count - (b + suc p)) = omega arith in
-      ap (λ k. dwhole U t s p k c) x ∙ dwhole-is U t s p b (count - (b + suc p)) c span
+      dwhole-active U t s p b count c span fits
       ∙ sym (dwork-is U t p s (λ m. c (b + m)) (λ m. q0) b span ∙ ddeboor-is K t p b (λ m. c (b + m)) (λ m. q0) span knots)
 
   pub whole-work : (t : ℚ) (c : ℕ → ℚ) → whole U t s p count c ≡ work U t p s (λ m. c (b + m)) p p

@@ -15,6 +15,7 @@ pub mod Bernstein
 pub mod Elevation
 pub mod Deriv
 pub mod Jets
+pub mod Window
 pub mod Surface
 pub mod Worked
 pub mod Scheme

@@ -17,27 +17,27 @@ use Rattle.exact.proofs.Refined.{split}
 pub record Near (U W : ℕ → ℚ) (p b b′ : ℕ) : Type 0 where
   pub alike : (i : ℕ) → 0 < i → i ≤ p + p → U (b + i) ≡ W (b′ + i)
 
-both-zero : (x y : ℚ) {N M : ℚ} → N ≡ q0 → M ≡ q0 → x *q N ≡ y *q M
+pub both-zero : (x y : ℚ) {N M : ℚ} → N ≡ q0 → M ≡ q0 → x *q N ≡ y *q M
 both-zero x y h k = ap (λ z. x *q z) h ∙ mul-zero x ∙ sym (ap (λ z. y *q z) k ∙ mul-zero y)
 
 module _ {U W : ℕ → ℚ} {k b b′ : ℕ} (N : Near U W (suc k) b b′) where
-  near-inner : Near U W k (suc b) (suc b′)
+  pub near-inner : Near U W k (suc b) (suc b′)
   near-inner = record { alike = λ i g h. rw (suc-add b i, suc-add b′ i, ← add-suc b i, ← add-suc b′ i) (N .alike (suc i) (omega arith) (omega arith)) }
 
-  left-knot : (i : ℕ) → i ≤ k → U (suc (b + i)) ≡ W (suc (b′ + i))
+  pub left-knot : (i : ℕ) → i ≤ k → U (suc (b + i)) ≡ W (suc (b′ + i))
   left-knot i h = ap U (sym (add-suc b i)) ∙ N .alike (suc i) (omega arith) (omega arith) ∙ ap W (add-suc b′ i)
 
-  right-knot : (i : ℕ) → i ≤ k → U (suc (b + i) + suc k) ≡ W (suc (b′ + i) + suc k)
+  pub right-knot : (i : ℕ) → i ≤ k → U (suc (b + i) + suc k) ≡ W (suc (b′ + i) + suc k)
   right-knot i h =
       let x : suc (b + i) + suc k ≡ b + (suc i + suc k) = omega arith in
       let y : b′ + (suc i + suc k) ≡ suc (b′ + i) + suc k = omega arith in
       ap U x ∙ N .alike (suc i + suc k) (omega arith) (omega arith) ∙ ap W y
 
-  rise-local : (t : ℚ) (i : ℕ) → i ≤ k → rise U t k (suc (b + i)) ≡ rise W t k (suc (b′ + i))
+  pub rise-local : (t : ℚ) (i : ℕ) → i ≤ k → rise U t k (suc (b + i)) ≡ rise W t k (suc (b′ + i))
   unfolding rise
   rise-local t i h = ap₂ (λ x y. (t -q x) /q (y -q x)) (left-knot i h) (right-knot i h)
 
-  fall-local : (t : ℚ) (i : ℕ) → i ≤ k → fall U t k (suc (b + i)) ≡ fall W t k (suc (b′ + i))
+  pub fall-local : (t : ℚ) (i : ℕ) → i ≤ k → fall U t k (suc (b + i)) ≡ fall W t k (suc (b′ + i))
   unfolding fall
   fall-local t i h = ap₂ (λ x y. (y -q t) /q (y -q x)) (left-knot i h) (right-knot i h)
 
