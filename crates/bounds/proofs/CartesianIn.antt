@@ -21,6 +21,7 @@ use Rattle.interval.specs.declared.Quotient.the-variants as Q
 use Rattle.bounds.specs.declared.jet.Jet.{Jet}
 use Rattle.bounds.specs.declared.net.Control.{Control}
 use Rattle.bounds.specs.declared.start.Point.{Point}
+use Rattle.bounds.specs.Enclosed.{Three}
 use Rattle.bounds.specs.declared.cartesian.Bounds.{Bounds}
 use Rattle.bounds.specs.declared.cartesian.BoundAnswer.{BoundAnswer}
 use Rattle.bounds.specs.declared.cartesian.BoundAnswer.the-variants as B
@@ -43,11 +44,6 @@ module _ (h weight : Jet) (r : Interval) (o : Float) {X X′ X″ W W′ W″ : 
       part a b A B c d = times-in _ r _ W (sub-inside _ _ _ _ c (mul-inside _ _ _ _ q d)) k
 
 -- each coordinate, with its two derivatives
-pub record Three : Type 0 where
-  pub value : ℚ
-  pub du : ℚ
-  pub dv : ℚ
-
 pub record Encloses (b : Bounds) (X Y Z : Three) : Type 0 where
   pub x : JetIn (b .x) (X .value) (X .du) (X .dv)
   pub y : JetIn (b .y) (Y .value) (Y .du) (Y .dv)

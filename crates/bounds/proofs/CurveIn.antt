@@ -4,10 +4,10 @@ use mathlib.Core.Bool.{Bool, true, false, _&&_, _||_, cond}
 use mathlib.Core.Logic.{_≢_, _⊎_}
 use mathlib.Core.List.{List, [], _∷_}
 use Prim.Native.Nat.{ℕ, zero, suc, _+_, _-_, _*_, _/_, _%_, _≤_, _<_}
-use native.Mathlib.Nat.{div-add-mod'}
+use native.Mathlib.Nat.{add-zero}
 use native.Mathlib.Numerals.{add-one}
 use native.Mathlib.Omega.{arith}
-use lib.Dec.{T, eqb}
+use lib.Dec.{T, eqb, leb, ltb}
 use lib.ListN.{length}
 use lib.Ieee.{Float, nan, inf, fin, le}
 use lib.Ieee.Scale.{finite}
@@ -37,21 +37,26 @@ use Rattle.bounds.specs.Net.{mixJet, mixOf, netOf, refusalLevels, lastBy
 use Rattle.bounds.specs.Start.{weightsOf, maxFrom, minFrom, startAt, pointAt, rowBy, rowOf}
 use Rattle.bounds.specs.Cartesian.{cartesianOf, netBy}
 use Rattle.bounds.specs.Range.{weightAt, spanOver, takenSpan, rangeRefusal}
-use Rattle.bounds.specs.Curve.{parameterOf, rangeIs, weightsAre, spanBound, boundOf, boundAt}
+use Rattle.bounds.specs.Read.{startRefusal}
+use Rattle.bounds.specs.Enclosed.{Three, Boxed, at-t}
+use Rattle.bounds.proofs.Active.{Active, Ranged, around, around-is, around-held, around-knots, around-near, valid-active, Started, started, start-valid, taken-first}
+use Rattle.exact.proofs.Local.{Near, exact-local}
+use Rattle.exact.proofs.Window.{dexact-local}
+use Rattle.bounds.specs.Curve.{rangeIs, weightsAre, spanBound, boundOf, boundAt}
+use Rattle.bounds.specs.Jet.{parameterOf}
 use Rattle.bounds.proofs.JetIn.{JetIn, in-one, in-zero}
 use Rattle.bounds.proofs.NetIn.{none, along, nowhere, net-in}
-use Rattle.bounds.proofs.WeightIn.{Cut, Cuts, Largest, Least, largest, least, range-in, scale-in, bound-in, ControlIn, FinitePoint, point-finite, control-in}
-use Rattle.bounds.proofs.CartesianIn.{Three, Boxes, over, cartesian-in, boxes-eq, three-eq}
-use Rattle.bounds.proofs.SpanIn.{SpanValid, span-valid, taken-valid, taken-first, InSpan, in-span, weight-finite, weight-positive}
+use Rattle.bounds.proofs.WeightIn.{Cut, Cuts, Largest, Least, largest, least, range-in, scale-in, bound-in, ControlIn, FinitePoint, control-in}
+use Rattle.bounds.proofs.CartesianIn.{Boxes, over, cartesian-in, boxes-eq, three-eq}
+use Rattle.bounds.proofs.SpanIn.{span-valid, in-parts, t-above, t-below, heavy-pos}
 use Rattle.bounds.specs.Answer.{boundsOf, boundedOf}
-use Rattle.bounds.specs.Holds.{weight, Holding, HoldsOn, Holds, HoldsValid}
+use Rattle.bounds.specs.Holds.{weight, Holding, HoldsOn, Holds}
 use Rattle.bounds.specs.declared.answer.NurbsBounds.{NurbsBounds}
 use Rattle.bounds.specs.declared.answer.Bounded.{Bounded}
 use Rattle.bounds.specs.declared.answer.Bounded.the-variants as C
 use Rattle.knots.specs.declared.refusal.Refusal.{Refusal}
-use Rattle.knots.specs.Refusal as R
-use Rattle.knots.specs.Curve.{countOf, anyLong, curveRefusal, ValidCurve}
-use Rattle.knots.proofs.Curves.{valid-curve, none-long}
+use Rattle.knots.specs.Curve.{countOf, curveRefusal, ValidCurve}
+use Rattle.knots.proofs.Curves.{valid-curve}
 use Rattle.doubles.specs.Run.{valAt}
 use Rattle.bounds.specs.Curve.{unless}
 
@@ -83,52 +88,47 @@ param-in lo hi t f g a b = record { value = record { low = low-of lo t f a; high
 
 -- ---- on one span
 
-module _ (p s : ℕ) (ks ps ws : List Float) (r : Bool) (lo hi : Float) (Va : ValidCurve p ks ps r ws) (Sp : SpanValid p (countOf ps) ks lo hi s) (t : ℚ) (from : val lo ≤q t) (upto : t ≤q val hi) where
+module _ (p s : ℕ) (ks ps ws : List Float) (r : Bool) (lo hi : Float) (A : Active p s ks ps r ws) (Rv : Ranged ks lo hi s) (t : ℚ) (from : val lo ≤q t) (upto : t ≤q val hi) where
   abbrev n : ℕ
   n = countOf ps
 
   abbrev b : ℕ
   b = s - p
 
-  I : InSpan p (countOf ps) ks s t
-  I = in-span p (countOf ps) ks lo hi s (Va .knots) Sp t from upto
-
   base : s - p + p ≡ s
-  base = I .base
+  base = let h = A .first in omega arith
 
   fits : s < countOf ps
-  fits = I .fits
+  fits = A .last
 
-  room : s + p < length ks
-  room = I .room
+  -- the knots that are read, and no others
+  abbrev U : ℕ → ℚ
+  U = around p s ks
 
-  finites : (i : ℕ) → i < length ks → T (finite (at ks i))
-  finites = I .finites
+  room : s + p < suc (s + p)
+  room = omega arith
 
-  knots : Knots (valAt ks) (length ks) s
-  knots = I .knots
+  knots : Knots U (suc (s + p)) s
+  knots = around-knots A (in-parts ks lo hi s (Rv .taken) .0)
 
-  above : valAt ks s ≤q t
-  above = I .above
+  above : U s ≤q t
+  above = let h = A .degree in subst (λ x. x ≤q t) (sym (around-is A s (omega arith) (omega arith))) (t-above ks lo hi s (Rv .taken) (Rv .lo-finite) (Rv .hi-finite) (A .finites s (omega arith) (omega arith)) (A .finites (s + 1) (omega arith) (omega arith)) t from upto)
 
-  below : t ≤q valAt ks (suc s)
-  below = I .below
+  below : t ≤q U (suc s)
+  below = let h = A .degree in subst (λ x. t ≤q x) (sym (around-is A (suc s) (omega arith) (omega arith))) (t-below ks lo hi s (Rv .taken) (Rv .lo-finite) (Rv .hi-finite) (A .finites s (omega arith) (omega arith)) (A .finites (s + 1) (omega arith) (omega arith)) t from upto)
 
-  heavy : (i : ℕ) → i < countOf ps → T (finite (weightAt r ws i))
-  heavy = weight-finite (countOf ps) ps r ws (Va .controls)
-
-  positive : (i : ℕ) → i < countOf ps → q0 <q val (weightAt r ws i)
-  positive = weight-positive (countOf ps) ps r ws (Va .controls)
+  near : Near U (valAt ks) p (s - p) (s - p)
+  near = around-near A
 
   -- the active weights
   abbrev w : ℕ → Float
   w m = weightAt r ws (s - p + m)
 
   least-is : Least w (suc p) (minFrom (inf false) w (suc p))
-  least-is = let h = fits in let e = base in least w p (λ i l. heavy (s - p + i) (omega arith)) (λ i l. positive (s - p + i) (omega arith))
+  least-is = least w p (λ i l. A .heavy i (omega arith) .held) (λ i l. heavy-pos (A .heavy i (omega arith)))
 
   most-is : Largest w (suc p) (maxFrom zero+ w (suc p))
-  most-is = let h = fits in let e = base in largest w (suc p) (λ i l. heavy (s - p + i) (omega arith))
+  most-is = largest w (suc p) (λ i l. A .heavy i (omega arith) .held)
 
   abbrev a : ℚ
   a = val (minFrom (inf false) w (suc p))
@@ -148,8 +148,8 @@ module _ (p s : ℕ) (ks ps ws : List Float) (r : Bool) (lo hi : Float) (Va : Va
   σ-pos : q0 <q σ
   σ-pos = <-≤-trans a-pos (≤-trans (lows 0 (omega arith)) (highs 0 (omega arith)))
 
-  finite-at : (i : ℕ) → i < countOf ps → FinitePoint (pointAt ps i)
-  finite-at = point-finite ps (countOf ps) (Va .triples) (Va .controls .coordinates)
+  first-finite : FinitePoint (pointAt ps (s - p))
+  first-finite = subst (λ i. FinitePoint (pointAt ps i)) (add-zero (s - p)) (A .points 0 (omega arith))
 
   -- the exact homogeneous net
   abbrev H : (ℕ → ℚ) → ℕ → ℚ
@@ -159,7 +159,7 @@ module _ (p s : ℕ) (ks ps ws : List Float) (r : Bool) (lo hi : Float) (Va : Va
   HW m = weight r ws (s - p + m) /q σ
 
   abbrev wh : ℚ
-  wh = work (valAt ks) t p s HW p p
+  wh = work U t p s HW p p
 
   wh-low : a /q σ ≤q wh
   wh-low = divisor-low knots p b n base fits room above below (weight r ws) a σ σ-pos lows
@@ -167,28 +167,28 @@ module _ (p s : ℕ) (ks ps ws : List Float) (r : Bool) (lo hi : Float) (Va : Va
   wh-high : wh ≤q q1
   wh-high = divisor-le-1 knots p b n base fits room above below (weight r ws) σ σ-pos highs
 
-  sum-ne : whole (valAt ks) t s p n (weight r ws) ≢ q0
+  sum-ne : whole U t s p n (weight r ws) ≢ q0
   sum-ne = pos-ne (weight-pos knots p b n base fits room above below (weight r ws) a a-pos lows)
 
-  point-eq : (P : ℕ → ℚ) → work (valAt ks) t p s (H P) p p /q wh +q P b ≡ exact (valAt ks) t s p n (weight r ws) P
-  point-eq P = sym (exact-work knots p b n base fits room t (weight r ws) P (P b) σ (pos-ne σ-pos) sum-ne)
+  point-eq : (P : ℕ → ℚ) → work U t p s (H P) p p /q wh +q P b ≡ exact (valAt ks) t s p n (weight r ws) P
+  point-eq P = sym (exact-work knots p b n base fits room t (weight r ws) P (P b) σ (pos-ne σ-pos) sum-ne) ∙ exact-local near base base fits fits t (weight r ws) P (weight r ws) P (λ i m. refl) (λ i m. refl)
 
-  deriv-eq : (P : ℕ → ℚ) → quotient (work (valAt ks) t p s (H P) p p) (dwork (valAt ks) t p s (H P) (λ m. q0) p p) wh (dwork (valAt ks) t p s HW (λ m. q0) p p) ≡ dexact (valAt ks) t s p n (weight r ws) P
-  deriv-eq P = sym (dexact-work knots p b n base fits room t (weight r ws) P (P b) σ (pos-ne σ-pos) sum-ne)
+  deriv-eq : (P : ℕ → ℚ) → quotient (work U t p s (H P) p p) (dwork U t p s (H P) (λ m. q0) p p) wh (dwork U t p s HW (λ m. q0) p p) ≡ dexact (valAt ks) t s p n (weight r ws) P
+  deriv-eq P = sym (dexact-work knots p b n base fits room t (weight r ws) P (P b) σ (pos-ne σ-pos) sum-ne) ∙ dexact-local near base base fits fits t (weight r ws) P (weight r ws) P (λ i m. refl) (λ i m. refl)
 
   no-dv : (A B : ℚ) → quotient A q0 B q0 ≡ q0
   unfolding quotient
   no-dv A B = q-ring (A ∷ inv B ∷ []) (search qring depth 20) tt
 
   abbrev EX : (ℕ → ℚ) → Three
-  EX P = record { value = exact (valAt ks) t s p n (weight r ws) P; du = dexact (valAt ks) t s p n (weight r ws) P; dv = q0 }
+  EX P = at-t p ks n ws r s t P
 
   -- a homogeneous number with its derivatives
   abbrev HT : (ℕ → ℚ) → Three
-  HT C = record { value = work (valAt ks) t p s C p p; du = dwork (valAt ks) t p s C (λ m. q0) p p; dv = q0 }
+  HT C = record { value = work U t p s C p p; du = dwork U t p s C (λ m. q0) p p; dv = q0 }
 
   exact-eq : (P : ℕ → ℚ) → over (HT (H P)) (HT HW) (P b) ≡ EX P
-  exact-eq P = three-eq (over (HT (H P)) (HT HW) (P b)) (EX P) (point-eq P) (deriv-eq P) (no-dv (work (valAt ks) t p s (H P) p p) wh)
+  exact-eq P = three-eq (over (HT (H P)) (HT HW) (P b)) (EX P) (point-eq P) (deriv-eq P) (no-dv (work U t p s (H P) p p) wh)
 
   abbrev Good : BoundAnswer → Type 0
   Good A = Boxes A (EX (X ps)) (EX (Y ps)) (EX (Z ps))
@@ -202,15 +202,13 @@ module _ (p s : ℕ) (ks ps ws : List Float) (r : Bool) (lo hi : Float) (Va : Va
       start-in : (m : ℕ) → m ≤ p → ControlIn (net m) (H (X ps) m) (H (Y ps) m) (H (Z ps) m) (HW m)
       unfolding startAt pointAt
       start-in m l =
-          let h = fits in
-          let e = base in
-          control-in (pointAt ps (s - p + m)) (pointAt ps (s - p)) (weightAt r ws (s - p + m)) q σ (finite-at (s - p + m) (omega arith)) (finite-at (s - p) (omega arith)) (heavy (s - p + m) (omega arith)) k
+          control-in (pointAt ps (s - p + m)) (pointAt ps (s - p)) (weightAt r ws (s - p + m)) q σ (A .points m l) first-finite (A .heavy m l .held) k
 
       run : (j : Jet) → JetIn j t q1 q0 → refusalLevels ks p s j 1 p ≡ 0 → (sel : Control → Jet) → ((α : Jet) (a b : Control) → sel (mixOf α a b) ≡ mixJet α (sel a) (sel b))
-          → (C : ℕ → ℚ) → ((m : ℕ) → m ≤ p → JetIn (sel (net m)) (C m) q0 q0) → JetIn (sel (netOf ks p s j net p p)) (work (valAt ks) t p s C p p) (dwork (valAt ks) t p s C (λ m. q0) p p) q0
+          → (C : ℕ → ℚ) → ((m : ℕ) → m ≤ p → JetIn (sel (net m)) (C m) q0 q0) → JetIn (sel (netOf ks p s j net p p)) (work U t p s C p p) (dwork U t p s C (λ m. q0) p p) q0
       unfolding dwork
-      run j h e sel mixes C start = net-in ks p s j finites knots (Sp .span .first) room t q1 q0 h sel mixes net C (dwork (valAt ks) t p s C (λ m. q0)) (λ l j. q0)
-          (along (valAt ks) t p s C (λ m. q0)) (nowhere (valAt ks) t p s C) start (none ks p s j e) p p (omega arith)
+      run j h e sel mixes C start = net-in ks p s j knots (A .first) room (around-held A) t q1 q0 h sel mixes net C (dwork U t p s C (λ m. q0)) (λ l j. q0)
+          (along U t p s C (λ m. q0)) (nowhere U t p s C) start (none ks p s j e) p p (omega arith)
 
       levels-in : (j : Jet) → JetIn j t q1 q0 → (k : ℕ) → refusalLevels ks p s j 1 p ≡ k → Good (netBy (pointAt ps (s - p)) bound (lastBy k (netOf ks p s j net p p)))
       unfolding lastBy pointAt mixOf
@@ -223,7 +221,7 @@ module _ (p s : ℕ) (ks ps ws : List Float) (r : Bool) (lo hi : Float) (Va : Va
           (run j h e (λ c. c .y) (λ α a b. refl) (H (Y ps)) (λ m l. start-in m l .y))
           (run j h e (λ c. c .z) (λ α a b. refl) (H (Z ps)) (λ m l. start-in m l .z))
           (run j h e (λ c. c .w) (λ α a b. refl) HW (λ m l. start-in m l .w))
-          (bound-in cut wh wh-low wh-high) (finite-at (s - p) (let h = fits in let k = base in omega arith)))
+          (bound-in cut wh wh-low wh-high) first-finite)
 
     row-in : (j : Jet) → JetIn j t q1 q0 → (a : Quotient) → Divides a (inv σ) → Good (netBy (pointAt ps (s - p)) bound (rowBy ps ws r (s - p) (pointAt ps (s - p)) ks p s j a))
     unfolding deboorOf
@@ -236,7 +234,7 @@ module _ (p s : ℕ) (ks ps ws : List Float) (r : Bool) (lo hi : Float) (Va : Va
     range-is-in = go (le lo hi)
       where
         go : (x : Bool) → Good (rangeIs p s ks ps ws r lo hi scale bound (cond x (Made (record { lo = lo; hi = hi })) Nothing))
-        go true = row-in (parameterOf (record { lo = lo; hi = hi })) (param-in lo hi t (Sp .lo-finite) (Sp .hi-finite) from upto) (reciprocalOf (pointOf scale)) (scale-in cut (most-is .held))
+        go true = row-in (parameterOf (record { lo = lo; hi = hi })) (param-in lo hi t (Rv .lo-finite) (Rv .hi-finite) from upto) (reciprocalOf (pointOf scale)) (scale-in cut (most-is .held))
         go false = tt
 
   pub span-bound-in : Good (spanBound p s ks ps ws r lo hi)
@@ -248,16 +246,6 @@ module _ (p s : ℕ) (ks ps ws : List Float) (r : Bool) (lo hi : Float) (Va : Va
       go (W.Refused k) c = tt
 
 -- ---- the whole answer
-
--- the exact coordinate and its derivative at t in span s; 0 in the other direction
-abbrev pub at-t : ℕ → List Float → ℕ → List Float → Bool → ℕ → ℚ → (ℕ → ℚ) → Three
-at-t p ks n ws r s t P = record { value = exact (valAt ks) t s p n (weight r ws) P; du = dexact (valAt ks) t s p n (weight r ws) P; dv = q0 }
-
--- the boxes of an answer, by point and derivatives
-abbrev pub Boxed : Bounded → Three → Three → Three → Type 0
-Boxed (C.Are b) X Y Z =
-    Holding (b .point) (X .value) (Y .value) (Z .value) × Holding (b .du) (X .du) (Y .du) (Z .du) × Holding (b .dv) (X .dv) (Y .dv) (Z .dv)
-Boxed (C.Refused r) X Y Z = Unit
 
 pub boxed : (A : BoundAnswer) (X Y Z : Three) → Boxes A X Y Z → Boxed (boundedOf A) X Y Z
 unfolding boundsOf
@@ -288,7 +276,8 @@ bound-holds p ks ps ws r lo hi t from upto =
     (λ h. let Va = valid-curve p ks ps r ws h in
     unless-in (rangeRefusal p (countOf ps) s lo hi) (boundedOf A) (e (X ps)) (e (Y ps)) (e (Z ps))
     (λ k. let l = Va .knots .count in
-    boxed A (e (X ps)) (e (Y ps)) (e (Z ps)) (span-bound-in p s ks ps ws r lo hi Va (span-valid p (countOf ps) ks lo hi (omega arith) k) t from upto)))
+    let v = span-valid p (countOf ps) ks lo hi (omega arith) k in
+    boxed A (e (X ps)) (e (Y ps)) (e (Z ps)) (span-bound-in p s ks ps ws r lo hi (valid-active Va (v .span .first) (v .span .last)) (record { lo-finite = v .lo-finite; hi-finite = v .hi-finite; taken = v .span .taken }) t from upto)))
 
 -- the promise on a span, from the boxes of the answer
 pub holds-on : (p s : ℕ) (ks ps ws : List Float) (r : Bool) (lo hi : Float) (A B : Bounded) → A ≡ B
@@ -305,32 +294,31 @@ holds-on p s ks ps ws r lo hi A B e h t from upto b f =
 pub both-hold : (p : ℕ) (ks ps ws : List Float) (r : Bool) (lo hi : Float) (A : Bounded) → A ≡ boundOf p ks ps r ws lo hi → (A ≡ boundOf p ks ps r ws lo hi) × Holds p ks ps r ws lo hi A
 both-hold p ks ps ws r lo hi A e = (e, holds-on p (spanOver p (countOf ps) ks lo hi) ks ps ws r lo hi A _ e (bound-holds p ks ps ws r lo hi))
 
--- bounds on a span of a valid curve hold the exact point and its derivatives at each t of the range
-pub step-holds : (p s : ℕ) (ks ps ws : List Float) (r : Bool) (lo hi : Float) → curveRefusal p ks ps r ws .number ≡ 0 → (t : ℚ) → val lo ≤q t → t ≤q val hi →
+-- bounds on a span that was asked for hold the exact point and its derivatives at each t of the range, whatever the rest of the curve is
+pub step-holds : (p s : ℕ) (ks ps ws : List Float) (r : Bool) (lo hi : Float) (t : ℚ) → val lo ≤q t → t ≤q val hi →
     let e = at-t p ks (countOf ps) ws r s t in
     Boxed (boundAt p s ks ps r ws lo hi) (e (X ps)) (e (Y ps)) (e (Z ps))
 unfolding boundAt
-step-holds p s ks ps ws r lo hi h t from upto = go (anyLong ks ps r ws)
-  where
-    e : (ℕ → ℚ) → Three
-    e = at-t p ks (countOf ps) ws r s t
-
-    rest : Bounded
-    rest = unless (rangeRefusal p (countOf ps) (takenSpan p s ks ps r ws lo hi) lo hi) (boundedOf (spanBound p s ks ps ws r lo hi))
-
-    go : (b : Bool) → Boxed (cond b (C.Refused (R.refuse R.too-long)) rest) (e (X ps)) (e (Y ps)) (e (Z ps))
-    go true = tt
-    go false = unless-in (rangeRefusal p (countOf ps) (takenSpan p s ks ps r ws lo hi) lo hi) (boundedOf (spanBound p s ks ps ws r lo hi)) (e (X ps)) (e (Y ps)) (e (Z ps))
-        (λ k. boxed (spanBound p s ks ps ws r lo hi) (e (X ps)) (e (Y ps)) (e (Z ps))
-        (span-bound-in p s ks ps ws r lo hi (valid-curve p ks ps r ws h) (taken-valid p s ks ps r ws lo hi k .valid) t from upto))
+step-holds p s ks ps ws r lo hi t from upto =
+    let e = at-t p ks (countOf ps) ws r s t in
+    unless-in (startRefusal p s ks ps r ws lo hi) (boundedOf (spanBound p s ks ps ws r lo hi)) (e (X ps)) (e (Y ps)) (e (Z ps))
+    (λ k. let v = started p s ks ps r ws lo hi k in
+    boxed (spanBound p s ks ps ws r lo hi) (e (X ps)) (e (Y ps)) (e (Z ps)) (span-bound-in p s ks ps ws r lo hi (v .active) (v .ranged) t from upto))
 
 -- both promises of bound_span
-pub step-both : (p s : ℕ) (ks ps ws : List Float) (r : Bool) (lo hi : Float) (A : Bounded) → A ≡ boundAt p s ks ps r ws lo hi → (A ≡ boundAt p s ks ps r ws lo hi) × HoldsValid p s ks ps r ws lo hi A
-step-both p s ks ps ws r lo hi A e = (e, λ h. holds-on p s ks ps ws r lo hi A _ e (step-holds p s ks ps ws r lo hi h))
+pub step-both : (p s : ℕ) (ks ps ws : List Float) (r : Bool) (lo hi : Float) (A : Bounded) → A ≡ boundAt p s ks ps r ws lo hi → (A ≡ boundAt p s ks ps r ws lo hi) × HoldsOn p s ks ps r ws lo hi A
+step-both p s ks ps ws r lo hi A e = (e, holds-on p s ks ps ws r lo hi A _ e (step-holds p s ks ps ws r lo hi))
+
+-- on a span of a valid curve that contains the range, the step's answer is the bounds on it
+pub step-is : (p s : ℕ) (ks ps ws : List Float) (r : Bool) (lo hi : Float) → ValidCurve p ks ps r ws
+    → boundAt p s ks ps r ws lo hi ≡ unless (rangeRefusal p (countOf ps) (cond (leb p s && ltb s (countOf ps)) (takenSpan s (countOf ps) ks lo hi) (countOf ps)) lo hi) (boundedOf (spanBound p s ks ps ws r lo hi))
+unfolding boundAt
+step-is p s ks ps ws r lo hi Va = rw (start-valid p s ks ps r ws lo hi Va)
 
 -- on the span that bound_curve takes, the step's answer for a valid curve is bound_curve's
 pub step-is-bound : (p : ℕ) (ks ps ws : List Float) (r : Bool) (lo hi : Float) → curveRefusal p ks ps r ws .number ≡ 0 → boundAt p (spanOver p (countOf ps) ks lo hi) ks ps r ws lo hi ≡ boundOf p ks ps r ws lo hi
-unfolding boundAt boundOf
+unfolding boundOf
 step-is-bound p ks ps ws r lo hi h =
     let Va = valid-curve p ks ps r ws h in
-    rw (eq-eqb (curveRefusal p ks ps r ws .number) 0 h, none-long ks ps r ws (Va .short), taken-first p ks ps r ws lo hi Va)
+    step-is p (spanOver p (countOf ps) ks lo hi) ks ps ws r lo hi Va
+    ∙ rw (eq-eqb (curveRefusal p ks ps r ws .number) 0 h, taken-first p (countOf ps) ks lo hi (let l = Va .knots .count in omega arith))

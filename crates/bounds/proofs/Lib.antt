@@ -5,6 +5,7 @@ pub mod NetIn
 pub mod WeightIn
 pub mod CartesianIn
 pub mod SpanIn
+pub mod Active
 pub mod CurveIn
 pub mod SurfaceIn
 pub mod Worked

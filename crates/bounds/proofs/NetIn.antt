@@ -6,10 +6,8 @@ use mathlib.Core.List.{List, [], _∷_}
 use Prim.Native.Nat.{ℕ, zero, suc, _+_, _-_, _≤_, _<_}
 use native.Mathlib.Omega.{arith}
 use lib.Dec.{T, leb, leb→le, nleb→lt}
-use lib.ListN.{length}
 use lib.Ieee.{Float}
-use lib.Ieee.Scale.{finite}
-use Rattle.doubles.specs.Run.{at, valAt}
+use Rattle.doubles.specs.Run.{at}
 use Rattle.doubles.specs.Value.{val, zero+, one+}
 use Rattle.exact.proofs.DeBoor.{wide}
 use Rattle.exact.proofs.Field.{qring, q-ring, pos-ne}
@@ -17,7 +15,7 @@ use Rattle.exact.proofs.Jets.{dalpha, dwork, dwork-in, dwork-out}
 use Rattle.exact.proofs.Source.{alpha, work, work-in, work-out}
 use Rattle.exact.specs.Rational.{ℚ, _+q_, _-q_, _*q_, _/q_, negq, inv, q0, q1, _≤q_, _<q_}
 use Rattle.exact.specs.Spline.{Knots}
-use Rattle.interval.proofs.Contain.{point-inside, sub-inside, divide-inside}
+use Rattle.interval.proofs.Contain.{sub-inside, divide-inside}
 use Rattle.interval.specs.Inside.{Inside, Encloses as Divides}
 use Rattle.interval.specs.Ops.{pointOf, addOf, subOf, mulOf, divideOf}
 use Rattle.interval.specs.declared.Interval.{Interval}
@@ -94,9 +92,10 @@ module _ (ks : List Float) (p s : ℕ) (J : Jet) where
       subst (λ k. refusedBy (shareAt ks p s J (suc l) k) ≡ 0) e
       (from-0 (suc l) (p + 1 - suc l) p (subst (λ k. refusalFrom ks p s J k (p + 1 - k) p ≡ 0) f (levels-0 1 p h l (omega arith))) (p - j) (omega arith))
 
-  module _ (finites : (i : ℕ) → i < length ks → T (finite (at ks i))) (K : Knots (valAt ks) (length ks) s) (low : p ≤ s) (long : s + p < length ks)
+  -- U are fractions that the 2 p knots around the span hold
+  module _ {U : ℕ → ℚ} {n : ℕ} (K : Knots U n s) (low : p ≤ s) (long : s + p < n) (held : (i : ℕ) → s < i + p → i ≤ s + p → Inside (pointOf (at ks i)) (U i))
       (t e f : ℚ) (param : JetIn J t e f) where
-    pub share-in : (l j : ℕ) → l < j → j ≤ p → Shares (shareAt ks p s J (suc l) j) (alpha (valAt ks) t p s (suc l) j) (e *q dalpha (valAt ks) p s (suc l) j) (f *q dalpha (valAt ks) p s (suc l) j)
+    pub share-in : (l j : ℕ) → l < j → j ≤ p → Shares (shareAt ks p s J (suc l) j) (alpha U t p s (suc l) j) (e *q dalpha U p s (suc l) j) (f *q dalpha U p s (suc l) j)
     unfolding shareAt shareOf alpha dalpha
     share-in l j a b = go (divideOf (pointOf one+) (subOf (pointOf (at ks hi)) (pointOf (at ks lo)))) (divide-inside _ _ _ _ in-one (sub-inside _ _ _ _ right left))
       where
@@ -106,52 +105,52 @@ module _ (ks : List Float) (p s : ℕ) (J : Jet) where
         hi : ℕ
         hi = s + j - suc l + 1
 
-        left : Inside (pointOf (at ks lo)) (valAt ks lo)
-        left = point-inside (at ks lo) (finites lo (omega arith))
+        left : Inside (pointOf (at ks lo)) (U lo)
+        left = held lo (omega arith) (omega arith)
 
-        right : Inside (pointOf (at ks hi)) (valAt ks hi)
-        right = point-inside (at ks hi) (finites hi (omega arith))
+        right : Inside (pointOf (at ks hi)) (U hi)
+        right = held hi (omega arith) (omega arith)
 
-        apart : q0 <q valAt ks hi -q valAt ks lo
+        apart : q0 <q U hi -q U lo
         apart =
             let x : lo + suc (p - suc l) ≡ hi = omega arith in
-            subst (λ k. q0 <q valAt ks k -q valAt ks lo) x (wide K (p - suc l) lo (omega arith) (omega arith) (omega arith))
+            subst (λ k. q0 <q U k -q U lo) x (wide K (p - suc l) lo (omega arith) (omega arith) (omega arith))
 
-        go : (q : Quotient) → Divides q (q1 /q (valAt ks hi -q valAt ks lo)) → Shares (shareBy J (pointOf (at ks lo)) q) ((t -q valAt ks lo) /q (valAt ks hi -q valAt ks lo)) (e *q inv (valAt ks hi -q valAt ks lo)) (f *q inv (valAt ks hi -q valAt ks lo))
+        go : (q : Quotient) → Divides q (q1 /q (U hi -q U lo)) → Shares (shareBy J (pointOf (at ks lo)) q) ((t -q U lo) /q (U hi -q U lo)) (e *q inv (U hi -q U lo)) (f *q inv (U hi -q U lo))
         go (Is q) d =
-            let i = inv (valAt ks hi -q valAt ks lo) in
-            jet-eq (q-ring (t ∷ valAt ks lo ∷ i ∷ []) (search qring depth 20) tt) (q-ring (e ∷ i ∷ []) (search qring depth 20) tt) (q-ring (f ∷ i ∷ []) (search qring depth 20) tt)
+            let i = inv (U hi -q U lo) in
+            jet-eq (q-ring (t ∷ U lo ∷ i ∷ []) (search qring depth 20) tt) (q-ring (e ∷ i ∷ []) (search qring depth 20) tt) (q-ring (f ∷ i ∷ []) (search qring depth 20) tt)
             (jet-scale _ q (jet-sub J _ param (jet-const (pointOf (at ks lo)) left)) d)
         go HoldsZero d = λ x. absurd (omega arith)
         go Unbounded d = λ x. absurd (omega arith)
 
     -- one of the four jets of each point of the net, with its derivatives G and H
     module _ (sel : Control → Jet) (mixes : (α : Jet) (a b : Control) → sel (mixOf α a b) ≡ mixJet α (sel a) (sel b))
-        (c : ℕ → Control) (C : ℕ → ℚ) (G H : ℕ → ℕ → ℚ) (FG : Family (valAt ks) t p s C e G) (FH : Family (valAt ks) t p s C f H)
+        (c : ℕ → Control) (C : ℕ → ℚ) (G H : ℕ → ℕ → ℚ) (FG : Family U t p s C e G) (FH : Family U t p s C f H)
         (start : (m : ℕ) → m ≤ p → JetIn (sel (c m)) (C m) (G 0 m) (H 0 m))
         (right : (l j : ℕ) → l < j → j ≤ p → refusedBy (shareAt ks p s J (suc l) j) ≡ 0) where
-      step : (l j : ℕ) → j ≤ p → ((i : ℕ) → i ≤ p → JetIn (sel (netOf ks p s J c l i)) (work (valAt ks) t p s C l i) (G l i) (H l i))
-          → JetIn (sel (netOf ks p s J c (suc l) j)) (work (valAt ks) t p s C (suc l) j) (G (suc l) j) (H (suc l) j)
+      step : (l j : ℕ) → j ≤ p → ((i : ℕ) → i ≤ p → JetIn (sel (netOf ks p s J c l i)) (work U t p s C l i) (G l i) (H l i))
+          → JetIn (sel (netOf ks p s J c (suc l) j)) (work U t p s C (suc l) j) (G (suc l) j) (H (suc l) j)
       unfolding netOf levelOf
       step l j h old = go (leb (suc l) j) (leb→le (suc l) j) (nleb→lt (suc l) j)
         where
-          mixed : l < j → (g : JetAnswer) → Shares g (alpha (valAt ks) t p s (suc l) j) (e *q dalpha (valAt ks) p s (suc l) j) (f *q dalpha (valAt ks) p s (suc l) j) → refusedBy g ≡ 0
-              → JetIn (sel (mixBy g (netOf ks p s J c l (j - 1)) (netOf ks p s J c l j))) (work (valAt ks) t p s C (suc l) j) (G (suc l) j) (H (suc l) j)
+          mixed : l < j → (g : JetAnswer) → Shares g (alpha U t p s (suc l) j) (e *q dalpha U p s (suc l) j) (f *q dalpha U p s (suc l) j) → refusedBy g ≡ 0
+              → JetIn (sel (mixBy g (netOf ks p s J c l (j - 1)) (netOf ks p s J c l j))) (work U t p s C (suc l) j) (G (suc l) j) (H (suc l) j)
           mixed m (F.Refused n) g z = absurd (g z)
           mixed m (F.Is α) g z =
-              subst (λ z. JetIn z (work (valAt ks) t p s C (suc l) j) (G (suc l) j) (H (suc l) j)) (sym (mixes α _ _))
-              (jet-eq (sym (work-in (valAt ks) t p s C l j m)) (sym (FG .inside l j m)) (sym (FH .inside l j m))
+              subst (λ z. JetIn z (work U t p s C (suc l) j) (G (suc l) j) (H (suc l) j)) (sym (mixes α _ _))
+              (jet-eq (sym (work-in U t p s C l j m)) (sym (FG .inside l j m)) (sym (FH .inside l j m))
               (jet-mix α _ _ g (old (j - 1) (omega arith)) (old j h)))
 
           go : (b : Bool) → (T b → suc l ≤ j) → (T (not b) → j < suc l)
-              → JetIn (sel (cond b (mixBy (shareAt ks p s J (suc l) j) (netOf ks p s J c l (j - 1)) (netOf ks p s J c l j)) (netOf ks p s J c l j))) (work (valAt ks) t p s C (suc l) j) (G (suc l) j) (H (suc l) j)
+              → JetIn (sel (cond b (mixBy (shareAt ks p s J (suc l) j) (netOf ks p s J c l (j - 1)) (netOf ks p s J c l j)) (netOf ks p s J c l j))) (work U t p s C (suc l) j) (G (suc l) j) (H (suc l) j)
           go true x g = mixed (x tt) (shareAt ks p s J (suc l) j) (share-in l j (x tt) h) (right l j (x tt) h)
           go false x g =
               let k : j < suc l = g tt in
               let m : j ≤ l = omega arith in
-              jet-eq (sym (work-out (valAt ks) t p s C l j m)) (sym (FG .outside l j m)) (sym (FH .outside l j m)) (old j h)
+              jet-eq (sym (work-out U t p s C l j m)) (sym (FG .outside l j m)) (sym (FH .outside l j m)) (old j h)
 
-      pub net-in : (l j : ℕ) → j ≤ p → JetIn (sel (netOf ks p s J c l j)) (work (valAt ks) t p s C l j) (G l j) (H l j)
+      pub net-in : (l j : ℕ) → j ≤ p → JetIn (sel (netOf ks p s J c l j)) (work U t p s C l j) (G l j) (H l j)
       unfolding netOf work
       net-in zero j h = start j h
       net-in (suc l) j h = step l j h (λ i k. net-in l i k)

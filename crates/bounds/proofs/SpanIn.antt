@@ -25,7 +25,10 @@ use Rattle.knots.specs.Curve.{countOf, isWeight, ValidControls, ValidCurve}
 use Rattle.knots.proofs.Refusals.{passed}
 use Rattle.knots.proofs.Below.{and-left, and-right}
 use Rattle.knots.proofs.Fractions.{knots-of}
-use Rattle.bounds.specs.Range.{inSpan, firstFrom, spanOver, hasSpan, takenSpan, rangeRefusal, weightAt}
+use Rattle.interval.specs.Inside.{Inside}
+use Rattle.interval.specs.Ops.{pointOf}
+use Rattle.interval.proofs.Contain.{point-inside}
+use Rattle.bounds.specs.Range.{inSpan, firstFrom, spanOver, rangeRefusal, weightAt}
 
 -- ---- the span that is taken
 pub record Taken (f : ℕ → Bool) (from upto s : ℕ) : Type 0 where
@@ -87,117 +90,33 @@ span-valid p n ks lo hi l h =
       ];
     }
 
--- the runs have the span
-pub record HasSpan (p s : ℕ) (ks ps : List Float) (r : Bool) (ws : List Float) : Type 0 where
-  pub degree : 0 < p
-  pub first : p ≤ s
-  pub last : s < countOf ps
-  pub room : s + p < length ks
-  pub weights : r ≡ true → s < length ws
-
-pub has-span : (p s : ℕ) (ks ps : List Float) (r : Bool) (ws : List Float) → hasSpan p s ks ps r ws ≡ true → HasSpan p s ks ps r ws
-unfolding hasSpan
-has-span p s ks ps r ws h =
-    let a = and-right (ltb 0 p) _ h in
-    let b = and-right (leb p s) _ a in
-    let c = and-right (ltb s (countOf ps)) _ b in
-    record {
-      degree = ltb-true 0 p (and-left (ltb 0 p) _ h);
-      first = leb-true p s (and-left (leb p s) _ a);
-      last = ltb-true s (countOf ps) (and-left (ltb s (countOf ps)) _ b);
-      room = ltb-true (s + p) (length ks) (and-left (ltb (s + p) (length ks)) _ c);
-      weights = go r (and-right (ltb (s + p) (length ks)) _ c);
-    }
-  where
-    go : (g : Bool) → (not g || ltb s (length ws)) ≡ true → g ≡ true → s < length ws
-    go true e x = ltb-true s (length ws) e
-    go false e x = absurd (true≢false (sym x))
-
--- a span that is taken is the one that was asked for
-pub record TakenSpan (p s : ℕ) (ks ps : List Float) (r : Bool) (ws : List Float) (lo hi : Float) : Type 0 where
-  pub has : HasSpan p s ks ps r ws
-  pub valid : SpanValid p (countOf ps) ks lo hi s
-
-pub taken-valid : (p s : ℕ) (ks ps : List Float) (r : Bool) (ws : List Float) (lo hi : Float) → rangeRefusal p (countOf ps) (takenSpan p s ks ps r ws lo hi) lo hi .number ≡ 0 → TakenSpan p s ks ps r ws lo hi
-unfolding takenSpan
-taken-valid p s ks ps r ws lo hi h = go (hasSpan p s ks ps r ws && inSpan ks lo hi s) refl (range-valid p (countOf ps) _ lo hi h)
-  where
-    go : (b : Bool) → hasSpan p s ks ps r ws && inSpan ks lo hi s ≡ b → RangeValid p (countOf ps) (cond b s (countOf ps)) lo hi → TakenSpan p s ks ps r ws lo hi
-    go true e v = let H = has-span p s ks ps r ws (and-left (hasSpan p s ks ps r ws) _ e) in
-        record {
-          has = H;
-          valid = record {
-            small = v .small;
-            lo-finite = v .lo-finite;
-            hi-finite = v .hi-finite;
-            span = record { first = H .first; last = H .last; taken = and-right (hasSpan p s ks ps r ws) _ e };
-          };
-        }
-    go false e v = absurd (v .found refl)
-
--- the other way
-pub span-had : (p s : ℕ) (ks ps : List Float) (r : Bool) (ws : List Float) → HasSpan p s ks ps r ws → hasSpan p s ks ps r ws ≡ true
-unfolding hasSpan
-span-had p s ks ps r ws h =
-    rw (lt-ltb 0 p (h .degree), le-leb p s (h .first), lt-ltb s (countOf ps) (h .last), lt-ltb (s + p) (length ks) (h .room)) (go r (h .weights))
-  where
-    go : (g : Bool) → (g ≡ true → s < length ws) → (not g || ltb s (length ws)) ≡ true
-    go true h = lt-ltb s (length ws) (h refl)
-    go false h = refl
-
-pub taken-had : (p s : ℕ) (ks ps : List Float) (r : Bool) (ws : List Float) (lo hi : Float) → HasSpan p s ks ps r ws → inSpan ks lo hi s ≡ true → takenSpan p s ks ps r ws lo hi ≡ s
-unfolding takenSpan
-taken-had p s ks ps r ws lo hi h e = rw (span-had p s ks ps r ws h, e)
-
-pub taken-none : (p : ℕ) (ks ps : List Float) (r : Bool) (ws : List Float) (lo hi : Float) → takenSpan p (countOf ps) ks ps r ws lo hi ≡ countOf ps
-unfolding takenSpan
-taken-none p ks ps r ws lo hi = go (hasSpan p (countOf ps) ks ps r ws && inSpan ks lo hi (countOf ps))
-  where
-    go : (b : Bool) → cond b (countOf ps) (countOf ps) ≡ countOf ps
-    go true = refl
-    go false = refl
-
--- the span that bound_curve takes, asked for by its index
-pub taken-first : (p : ℕ) (ks ps : List Float) (r : Bool) (ws : List Float) (lo hi : Float) → ValidCurve p ks ps r ws → takenSpan p (spanOver p (countOf ps) ks lo hi) ks ps r ws lo hi ≡ spanOver p (countOf ps) ks lo hi
-unfolding spanOver
-taken-first p ks ps r ws lo hi Va = go (firstFrom (inSpan ks lo hi) (countOf ps - p) p) (first-is (inSpan ks lo hi) (countOf ps - p) p)
-  where
-    f : p + (countOf ps - p) ≡ countOf ps
-    f = let l = Va .knots .count in omega arith
-
-    go : (s : ℕ) → (s ≡ p + (countOf ps - p)) ⊎ Taken (inSpan ks lo hi) p (p + (countOf ps - p)) s → takenSpan p s ks ps r ws lo hi ≡ s
-    go s (inl x) = subst (λ i. takenSpan p i ks ps r ws lo hi ≡ i) (sym (x ∙ f)) (taken-none p ks ps r ws lo hi)
-    go s (inr y) =
-        let l = y .last in
-        taken-had p s ks ps r ws lo hi
-        (record {
-          degree = Va .knots .degree;
-          first = y .first;
-          last = omega (arith, f, l);
-          room = omega (arith, f, l, Va .knots .long);
-          weights = λ e. omega (arith, f, l, Va .controls .weights e);
-        })
-        (y .taken)
-
 -- ---- a fraction of the range inside it
 pub record InSpan (p n : ℕ) (ks : List Float) (s : ℕ) (t : ℚ) : Type 0 where
   pub low : p ≤ s
   pub base : s - p + p ≡ s
   pub fits : s < n
   pub room : s + p < length ks
-  pub finites : (i : ℕ) → i < length ks → T (finite (at ks i))
+  pub held : (i : ℕ) → s < i + p → i ≤ s + p → Inside (pointOf (at ks i)) (valAt ks i)
   pub knots : Knots (valAt ks) (length ks) s
   pub above : valAt ks s ≤q t
   pub below : t ≤q valAt ks (suc s)
 
-module _ (p n : ℕ) (ks : List Float) (lo hi : Float) (s : ℕ) (Kn : ValidKnots p n ks) (Sp : SpanValid p n ks lo hi s) (t : ℚ) (from : val lo ≤q t) (upto : t ≤q val hi) where
-  parts : (lt (at ks s) (at ks (s + 1)) ≡ true) × (le (at ks s) lo ≡ true) × (le hi (at ks (s + 1)) ≡ true)
-  unfolding inSpan
-  parts =
-      let a = and-left (lt (at ks s) (at ks (s + 1))) (le (at ks s) lo && le hi (at ks (s + 1))) (Sp .span .taken) in
-      let b = and-right (lt (at ks s) (at ks (s + 1))) (le (at ks s) lo && le hi (at ks (s + 1))) (Sp .span .taken) in
-      (a, and-left (le (at ks s) lo) (le hi (at ks (s + 1))) b, and-right (le (at ks s) lo) (le hi (at ks (s + 1))) b)
+pub in-parts : (ks : List Float) (lo hi : Float) (s : ℕ) → inSpan ks lo hi s ≡ true → (lt (at ks s) (at ks (s + 1)) ≡ true) × (le (at ks s) lo ≡ true) × (le hi (at ks (s + 1)) ≡ true)
+unfolding inSpan
+in-parts ks lo hi s h =
+    let a = and-left (lt (at ks s) (at ks (s + 1))) (le (at ks s) lo && le hi (at ks (s + 1))) h in
+    let b = and-right (lt (at ks s) (at ks (s + 1))) (le (at ks s) lo && le hi (at ks (s + 1))) h in
+    (a, and-left (le (at ks s) lo) (le hi (at ks (s + 1))) b, and-right (le (at ks s) lo) (le hi (at ks (s + 1))) b)
 
+-- t between the knots of its span
+module _ (ks : List Float) (lo hi : Float) (s : ℕ) (h : inSpan ks lo hi s ≡ true) (lf : T (finite lo)) (hf : T (finite hi)) (f : T (finite (at ks s))) (g : T (finite (at ks (s + 1)))) (t : ℚ) (from : val lo ≤q t) (upto : t ≤q val hi) where
+  pub t-above : valAt ks s ≤q t
+  t-above = ≤-trans (val-leq (at ks s) lo f lf (T-of (le (at ks s) lo) (in-parts ks lo hi s h .1))) from
+
+  pub t-below : t ≤q valAt ks (suc s)
+  t-below = ≤-trans upto (subst (λ j. val hi ≤q valAt ks j) (add-one s) (val-leq hi (at ks (s + 1)) hf g (T-of (le hi (at ks (s + 1))) (in-parts ks lo hi s h .2))))
+
+module _ (p n : ℕ) (ks : List Float) (lo hi : Float) (s : ℕ) (Kn : ValidKnots p n ks) (Sp : SpanValid p n ks lo hi s) (t : ℚ) (from : val lo ≤q t) (upto : t ≤q val hi) where
   pub in-span : InSpan p n ks s t
   in-span =
       let h = Sp .span .first in
@@ -205,15 +124,16 @@ module _ (p n : ℕ) (ks : List Float) (lo hi : Float) (s : ℕ) (Kn : ValidKnot
       let l = Kn .long in
       let q = Kn .degree in
       let F : (i : ℕ) → i < length ks → T (finite (at ks i)) = λ i l. T-of (finite (at ks i)) (Kn .finites i l) in
+      let T′ = Sp .span .taken in
       record {
         low = h;
         base = omega arith;
         fits = k;
         room = omega arith;
-        finites = F;
-        knots = knots-of p n ks Kn s k (parts .0);
-        above = ≤-trans (val-leq (at ks s) lo (F s (omega arith)) (Sp .lo-finite) (T-of (le (at ks s) lo) (parts .1))) from;
-        below = ≤-trans upto (subst (λ j. val hi ≤q valAt ks j) (add-one s) (val-leq hi (at ks (s + 1)) (Sp .hi-finite) (F (s + 1) (omega arith)) (T-of (le hi (at ks (s + 1))) (parts .2))));
+        held = λ i a b. point-inside (at ks i) (F i (omega arith));
+        knots = knots-of p n ks Kn s k (in-parts ks lo hi s T′ .0);
+        above = t-above ks lo hi s T′ (Sp .lo-finite) (Sp .hi-finite) (F s (omega arith)) (F (s + 1) (omega arith)) t from upto;
+        below = t-below ks lo hi s T′ (Sp .lo-finite) (Sp .hi-finite) (F s (omega arith)) (F (s + 1) (omega arith)) t from upto;
       }
 
 -- ---- the weights of valid controls
@@ -224,27 +144,18 @@ one-pos : T (lt zero+ one+)
 unfolding lt
 one-pos = tt
 
-module _ (n : ℕ) (ps : List Float) (r : Bool) (ws : List Float) (C : ValidControls n ps r ws) where
-  given : (i : ℕ) → i < n → r ≡ true → (finite (at ws i) ≡ true) × (lt zero+ (at ws i) ≡ true)
-  unfolding isWeight
-  given i l e =
-      let L = C .weights e in
-      let h = C .positive e i (omega arith) in
-      (and-left (finite (at ws i)) (lt zero+ (at ws i)) h, and-right (finite (at ws i)) (lt zero+ (at ws i)) h)
+-- a weight that is one where it is given
+pub record Heavy (r : Bool) (ws : List Float) (i : ℕ) : Type 0 where
+  pub held : T (finite (weightAt r ws i))
+  pub over : T (lt zero+ (weightAt r ws i))
 
-  pub weight-finite : (i : ℕ) → i < n → T (finite (weightAt r ws i))
-  weight-finite i l = go r (given i l)
-    where
-      go : (g : Bool) → (g ≡ true → (finite (at ws i) ≡ true) × (lt zero+ (at ws i) ≡ true)) → T (finite (weightAt g ws i))
-      go true f = unfold weightAt in T-of _ (f refl .0)
-      go false f = unfold weightAt in tt
+pub heavy-of : (r : Bool) (ws : List Float) (i : ℕ) → (r ≡ true → isWeight (at ws i) ≡ true) → Heavy r ws i
+unfolding isWeight weightAt
+heavy-of true ws i h = let e = h refl in record { held = T-of _ (and-left (finite (at ws i)) (lt zero+ (at ws i)) e); over = T-of _ (and-right (finite (at ws i)) (lt zero+ (at ws i)) e) }
+heavy-of false ws i h = record { held = tt; over = one-pos }
 
-  weight-above : (i : ℕ) → i < n → T (lt zero+ (weightAt r ws i))
-  weight-above i l = go r (given i l)
-    where
-      go : (g : Bool) → (g ≡ true → (finite (at ws i) ≡ true) × (lt zero+ (at ws i) ≡ true)) → T (lt zero+ (weightAt g ws i))
-      go true f = unfold weightAt in T-of _ (f refl .1)
-      go false f = unfold weightAt in one-pos
+pub heavy-pos : {r : Bool} {ws : List Float} {i : ℕ} → Heavy r ws i → q0 <q val (weightAt r ws i)
+heavy-pos {r} {ws} {i} h = above-0 (weightAt r ws i) (h .held) (h .over)
 
-  pub weight-positive : (i : ℕ) → i < n → q0 <q val (weightAt r ws i)
-  weight-positive i l = above-0 (weightAt r ws i) (weight-finite i l) (weight-above i l)
+pub heavy-valid : (n : ℕ) (ps : List Float) (r : Bool) (ws : List Float) → ValidControls n ps r ws → (i : ℕ) → i < n → Heavy r ws i
+heavy-valid n ps r ws C i l = heavy-of r ws i (λ e. let L = C .weights e in C .positive e i (omega arith))

@@ -39,14 +39,16 @@ use Rattle.bounds.specs.Net.{mixJet, mixOf, netOf, refusalLevels, lastBy
 use Rattle.bounds.specs.Start.{maxFrom, minFrom, rangeOf, pointAt, startAt, rowBy, rowOf}
 use Rattle.bounds.specs.Cartesian.{cartesianOf, netBy}
 use Rattle.bounds.specs.Range.{weightAt, spanOver, rangeRefusal}
-use Rattle.bounds.specs.Curve.{parameterOf, unless}
+use Rattle.bounds.specs.Curve.{unless}
+use Rattle.bounds.specs.Jet.{parameterOf}
+use Rattle.bounds.specs.Enclosed.{Three, Boxed, grid, at-uv}
 use Rattle.bounds.specs.Surface.{rangesRefusal, maxRows, minRows, secondOf, rowAt, rangesAre, weightsBy, spansBound, boundedBy, surfaceOf, SpansFit}
 use Rattle.bounds.proofs.JetIn.{JetIn, in-one, in-zero}
 use Rattle.bounds.proofs.NetIn.{none, along, across, nowhere, net-in}
 use Rattle.bounds.proofs.WeightIn.{max-from, min-from, least, Cut, Cuts, range-in, scale-in, bound-in, ControlIn, FinitePoint, point-finite, control-in, up-0}
-use Rattle.bounds.proofs.CartesianIn.{Three, Boxes, over, cartesian-in, boxes-eq, three-eq}
-use Rattle.bounds.proofs.CurveIn.{low-of, high-of, X, Y, Z, param-in, Boxed, boxed, unless-in}
-use Rattle.bounds.proofs.SpanIn.{SpanValid, span-valid, InSpan, in-span, weight-finite, weight-positive}
+use Rattle.bounds.proofs.CartesianIn.{Boxes, over, cartesian-in, boxes-eq, three-eq}
+use Rattle.bounds.proofs.CurveIn.{low-of, high-of, X, Y, Z, param-in, boxed, unless-in}
+use Rattle.bounds.proofs.SpanIn.{SpanValid, span-valid, InSpan, in-span, heavy-valid, heavy-pos}
 use Rattle.bounds.specs.Holds.{weight}
 use Rattle.bounds.specs.Answer.{boundedOf}
 use Rattle.knots.specs.Refusal as R
@@ -133,19 +135,6 @@ ranges-valid p q uk vk nu nv ulo uhi vlo vhi Ku Kv k =
     let n = Kv .count in
     (span-valid p nu uk ulo uhi (omega arith) (b .0), span-valid q nv vk vlo vhi (omega arith) (b .1))
 
--- ---- the exact point and its two derivatives
-
-abbrev pub grid : (ℕ → ℚ) → ℕ → ℕ → ℕ → ℚ
-grid P nv i j = P (i * nv + j)
-
-module _ (p q us vs : ℕ) (uk vk : List Float) (nu nv : ℕ) (ws : List Float) (r : Bool) (u v : ℚ) (P : ℕ → ℚ) where
-  abbrev pub at-uv : Three
-  at-uv = record {
-    value = exact₂ (valAt uk) u us p nu (valAt vk) v vs q nv (grid (weight r ws) nv) (grid P nv);
-    du = dexact₂u (valAt uk) u us p nu (valAt vk) v vs q nv (grid (weight r ws) nv) (grid P nv);
-    dv = dexact₂v (valAt uk) u us p nu (valAt vk) v vs q nv (grid (weight r ws) nv) (grid P nv);
-  }
-
 -- ---- on two spans
 
 module _ (p q us vs : ℕ) (uk vk : List Float) (nu nv : ℕ) (ps ws : List Float) (r : Bool) (ulo uhi vlo vhi : Float) (Va : ValidSurface p q uk vk nu nv ps r ws)
@@ -157,10 +146,10 @@ module _ (p q us vs : ℕ) (uk vk : List Float) (nu nv : ℕ) (ps ws : List Floa
   Iv = in-span q nv vk vlo vhi vs (Va .v) Sv v v-from v-upto
 
   heavy : (i : ℕ) → i < nu * nv → T (finite (weightAt r ws i))
-  heavy = weight-finite (nu * nv) ps r ws (Va .controls)
+  heavy i l = heavy-valid (nu * nv) ps r ws (Va .controls) i l .held
 
   positive : (i : ℕ) → i < nu * nv → q0 <q val (weightAt r ws i)
-  positive = weight-positive (nu * nv) ps r ws (Va .controls)
+  positive i l = heavy-pos (heavy-valid (nu * nv) ps r ws (Va .controls) i l)
 
   here : (m k : ℕ) → m ≤ p → k ≤ q → (us - p + m) * nv + (vs - q + k) < nu * nv
   here m k h l =
@@ -284,7 +273,7 @@ module _ (p q us vs : ℕ) (uk vk : List Float) (nu nv : ℕ) (ps ws : List Floa
       by-scale m h (Q.Is c) d ok =
           let x = last-0 (refusalLevels vk q vs (secondOf iv) 1 q) (netOf vk q vs (secondOf iv) (start c m) q q) ok in
           subst (λ c. JetIn (sel c) (work (valAt vk) v q vs (λ k. C (us - p + m) (vs - q + k)) q q) q0 (dwork (valAt vk) v q vs (λ k. C (us - p + m) (vs - q + k)) (λ k. q0) q q)) (sym (x .1))
-          (net-in vk q vs (secondOf iv) (Iv .finites) (Iv .knots) (Iv .low) (Iv .room) v q0 q1 (second-in vlo vhi v (Sv .lo-finite) (Sv .hi-finite) v-from v-upto) sel mixes (start c m) (λ k. C (us - p + m) (vs - q + k)) (λ l j. q0) (dwork (valAt vk) v q vs (λ k. C (us - p + m) (vs - q + k)) (λ k. q0))
+          (net-in vk q vs (secondOf iv) (Iv .knots) (Iv .low) (Iv .room) (Iv .held) v q0 q1 (second-in vlo vhi v (Sv .lo-finite) (Sv .hi-finite) v-from v-upto) sel mixes (start c m) (λ k. C (us - p + m) (vs - q + k)) (λ l j. q0) (dwork (valAt vk) v q vs (λ k. C (us - p + m) (vs - q + k)) (λ k. q0))
           (nowhere (valAt vk) v q vs (λ k. C (us - p + m) (vs - q + k))) (along (valAt vk) v q vs (λ k. C (us - p + m) (vs - q + k)) (λ k. q0)) (holds c d m h) (none vk q vs (secondOf iv) (x .0)) q q (omega arith))
       by-scale m h Q.HoldsZero d ok = absurd (omega arith)
       by-scale m h Q.Unbounded d ok = absurd (omega arith)
@@ -298,7 +287,7 @@ module _ (p q us vs : ℕ) (uk vk : List Float) (nu nv : ℕ) (ps ws : List Floa
           → JetIn (sel (netOf uk p us (parameterOf iu) (λ m. netControl (row m)) p p)) (HT C .value) (HT C .du) (HT C .dv)
       unfolding net net-du net-dv work dwork
       column-in clear ok =
-          net-in uk p us (parameterOf iu) (Iu .finites) (Iu .knots) (Iu .low) (Iu .room) u q1 q0 (param-in ulo uhi u (Su .lo-finite) (Su .hi-finite) u-from u-upto) sel mixes (λ m. netControl (row m))
+          net-in uk p us (parameterOf iu) (Iu .knots) (Iu .low) (Iu .room) (Iu .held) u q1 q0 (param-in ulo uhi u (Su .lo-finite) (Su .hi-finite) u-from u-upto) sel mixes (λ m. netControl (row m))
           (λ m. work (valAt vk) v q vs (λ k. C (us - p + m) (vs - q + k)) q q)
           (dwork (valAt uk) u p us (λ m. work (valAt vk) v q vs (λ k. C (us - p + m) (vs - q + k)) q q) (λ m. q0))
           (work (valAt uk) u p us (λ m. dwork (valAt vk) v q vs (λ k. C (us - p + m) (vs - q + k)) (λ k. q0) q q))

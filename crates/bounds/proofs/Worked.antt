@@ -16,7 +16,8 @@ use Rattle.bounds.specs.Range.{inSpan, firstFrom, spanOver, rangeRefusal
 use Rattle.bounds.specs.Start.{maxFrom, minFrom, rangeOf, weightsOf, movedOf, controlOf, pointAt, startAt, rowOf}
 use Rattle.bounds.specs.Cartesian.{coordinateOf, cartesianOf}
 use Rattle.bounds.specs.Answer.{boundsOf}
-use Rattle.bounds.specs.Curve.{parameterOf, spanBound, boundOf}
+use Rattle.bounds.specs.Curve.{spanBound, boundOf}
+use Rattle.bounds.specs.Jet.{parameterOf}
 use Rattle.bounds.specs.declared.answer.Bounded.{Bounded}
 use Rattle.bounds.specs.declared.answer.Bounded.the-variants.{Are, Refused}
 

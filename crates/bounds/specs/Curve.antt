@@ -8,26 +8,22 @@ use lib.Ieee.{Float}
 use Rattle.interval.specs.declared.Interval.{Interval}
 use Rattle.interval.specs.declared.New.{New}
 use Rattle.interval.specs.declared.New.the-variants.{Made, Nothing}
-use Rattle.doubles.specs.Value.{zero+, one+}
-use Rattle.interval.specs.Ops.{pointOf, newOf}
-use Rattle.bounds.specs.declared.jet.Jet.{Jet}
+use Rattle.interval.specs.Ops.{newOf}
+use Rattle.bounds.specs.Jet.{parameterOf}
 use Rattle.bounds.specs.declared.start.Weights.{Weights}
 use Rattle.bounds.specs.declared.start.Weights.the-variants as W
 use Rattle.bounds.specs.declared.cartesian.BoundAnswer.{BoundAnswer}
 use Rattle.bounds.specs.declared.cartesian.BoundAnswer.the-variants as B
 use Rattle.bounds.specs.Start.{weightsOf, pointAt, rowOf}
 use Rattle.bounds.specs.Cartesian.{netBy}
-use Rattle.bounds.specs.Range.{weightAt, spanOver, takenSpan, rangeRefusal}
+use Rattle.bounds.specs.Range.{weightAt, spanOver, rangeRefusal}
+use Rattle.bounds.specs.Read.{startRefusal}
 use Rattle.bounds.specs.Answer.{boundedOf}
 use Rattle.bounds.specs.declared.answer.Bounded.{Bounded}
 use Rattle.bounds.specs.declared.answer.Bounded.the-variants.{Refused}
 use Rattle.knots.specs.declared.refusal.Refusal.{Refusal}
-use Rattle.knots.specs.Refusal as R
-use Rattle.knots.specs.Curve.{countOf, anyLong, curveRefusal}
+use Rattle.knots.specs.Curve.{countOf, curveRefusal}
 use lib.Dec.{eqb}
-
-unfoldable pub parameterOf : Interval → Jet
-parameterOf range = record { v = range; du = pointOf one+; dv = pointOf zero+ }
 
 module _ (p s : ℕ) (ks ps ws : List Float) (r : Bool) (lo hi : Float) where
   abbrev pub rangeIs : Float → Interval → New → BoundAnswer
@@ -53,9 +49,6 @@ boundOf p ks ps r ws lo hi =
     (unless (rangeRefusal p (countOf ps) (spanOver p (countOf ps) ks lo hi) lo hi)
     (boundedOf (spanBound p (spanOver p (countOf ps) ks lo hi) ks ps ws r lo hi)))
 
--- the bounds on span s of a curve that was validated before, or the first refusal: 30, 31, 24, 25 where s is no span of the runs that contains the range, then those of the steps
+-- the bounds on span s, or the first refusal: the runs' lengths, the numbers that are read, 31, 24, 25 where s is no span that contains the range, then those of the steps
 unfoldable pub boundAt : ℕ → ℕ → List Float → List Float → Bool → List Float → Float → Float → Bounded
-boundAt p s ks ps r ws lo hi =
-    cond (anyLong ks ps r ws) (Refused (R.refuse R.too-long))
-    (unless (rangeRefusal p (countOf ps) (takenSpan p s ks ps r ws lo hi) lo hi)
-    (boundedOf (spanBound p s ks ps ws r lo hi)))
+boundAt p s ks ps r ws lo hi = unless (startRefusal p s ks ps r ws lo hi) (boundedOf (spanBound p s ks ps ws r lo hi))

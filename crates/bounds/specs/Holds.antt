@@ -9,7 +9,7 @@ use Rattle.exact.specs.Spline.{exact}
 use Rattle.doubles.specs.Value.{val}
 use Rattle.doubles.specs.Run.{at, valAt}
 use Rattle.interval.specs.Inside.{Inside}
-use Rattle.knots.specs.Curve.{countOf, curveRefusal}
+use Rattle.knots.specs.Curve.{countOf}
 use Rattle.bounds.specs.Range.{spanOver, weightAt}
 use Rattle.bounds.specs.declared.answer.Triple.{Triple}
 use Rattle.bounds.specs.declared.answer.NurbsBounds.{NurbsBounds}
@@ -47,7 +47,3 @@ HoldsOn p s ks ps r ws lo hi A =
 -- on the span that bound_curve takes
 abbrev pub Holds : ℕ → List Float → List Float → Bool → List Float → Float → Float → Bounded → Type 0
 Holds p ks ps r ws lo hi = HoldsOn p (spanOver p (countOf ps) ks lo hi) ks ps r ws lo hi
-
--- on span s of a valid curve
-abbrev pub HoldsValid : ℕ → ℕ → List Float → List Float → Bool → List Float → Float → Float → Bounded → Type 0
-HoldsValid p s ks ps r ws lo hi A = curveRefusal p ks ps r ws .number ≡ 0 → HoldsOn p s ks ps r ws lo hi A

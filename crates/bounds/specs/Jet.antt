@@ -1,11 +1,15 @@
 -- Jets over intervals of doubles: what the source's Jet computes, operation by operation. Definitions only.
 use Rattle.interval.specs.declared.Interval.{Interval}
-use Rattle.doubles.specs.Value.{zero+}
+use Rattle.doubles.specs.Value.{zero+, one+}
 use Rattle.interval.specs.Ops.{pointOf, addOf, subOf, mulOf}
 use Rattle.bounds.specs.declared.jet.Jet.{Jet}
 
 unfoldable pub constantOf : Interval → Jet
 constantOf v = record { v = v; du = pointOf zero+; dv = pointOf zero+ }
+
+-- the parameter, and for a surface its first one
+unfoldable pub parameterOf : Interval → Jet
+parameterOf range = record { v = range; du = pointOf one+; dv = pointOf zero+ }
 
 unfoldable pub jetSub : Jet → Jet → Jet
 jetSub a b = record { v = subOf (a .v) (b .v); du = subOf (a .du) (b .du); dv = subOf (a .dv) (b .dv) }

@@ -1,10 +1,12 @@
 pub mod Jet
 pub mod Net
 pub mod Range
+pub mod Read
 pub mod Start
 pub mod Cartesian
 pub mod Answer
 pub mod Numbers
 pub mod Curve
 pub mod Holds
+pub mod Enclosed
 pub mod Surface

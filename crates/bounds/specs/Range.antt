@@ -1,14 +1,12 @@
 -- The span of a closed range, the refusals of a range (document 01, module 6), and the weight of a point.
 use Prim.Native.Nat.{ℕ, zero, suc, _+_, _-_}
-use mathlib.Core.Bool.{Bool, true, false, not, _&&_, _||_, cond}
+use mathlib.Core.Bool.{Bool, true, false, not, _&&_, cond}
 use mathlib.Core.List.{List}
-use lib.ListN.{length}
-use lib.Dec.{ltb, leb, eqb}
+use lib.Dec.{ltb, eqb}
 use lib.Ieee.{Float, lt, le}
 use lib.Ieee.Scale.{finite}
 use Rattle.doubles.specs.Value.{one+}
 use Rattle.doubles.specs.Run.{at}
-use Rattle.knots.specs.Curve.{countOf}
 use Rattle.knots.specs.declared.refusal.Refusal.{Refusal}
 use Rattle.knots.specs.Refusal.{refuse, accepted, degree-high, range-bad, range-in-no-span}
 
@@ -25,13 +23,9 @@ firstFrom f (suc k) i = cond (f i) i (firstFrom f k (i + 1))
 unfoldable pub spanOver : ℕ → ℕ → List Float → Float → Float → ℕ
 spanOver p n ks lo hi = firstFrom (inSpan ks lo hi) (n - p) p
 
--- the runs of a curve have span s: its points, its knots and, where they are given, its weights
-unfoldable pub hasSpan : ℕ → ℕ → List Float → List Float → Bool → List Float → Bool
-hasSpan p s ks ps r ws = ltb 0 p && (leb p s && (ltb s (countOf ps) && (ltb (s + p) (length ks) && (not r || ltb s (length ws)))))
-
--- span s where the runs have it and it contains the closed range, or the count
-unfoldable pub takenSpan : ℕ → ℕ → List Float → List Float → Bool → List Float → Float → Float → ℕ
-takenSpan p s ks ps r ws lo hi = cond (hasSpan p s ks ps r ws && inSpan ks lo hi s) s (countOf ps)
+-- span s where it contains the closed range, or the count n
+unfoldable pub takenSpan : ℕ → ℕ → List Float → Float → Float → ℕ
+takenSpan s n ks lo hi = cond (inSpan ks lo hi s) s n
 
 -- refusals of a range whose span is s: 31, 24, 25, in this order
 unfoldable pub rangeRefusal : ℕ → ℕ → ℕ → Float → Float → Refusal

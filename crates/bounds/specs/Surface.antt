@@ -27,7 +27,8 @@ use Rattle.knots.specs.declared.refusal.Refusal.{Refusal}
 use Rattle.knots.specs.Refusal as R
 use Rattle.knots.specs.Refusal.{degree-high}
 use Rattle.knots.specs.Surface.{surfaceRefusal}
-use Rattle.bounds.specs.Curve.{parameterOf, unless}
+use Rattle.bounds.specs.Curve.{unless}
+use Rattle.bounds.specs.Jet.{parameterOf}
 
 -- refusals of two ranges: 31, then 24, 25 for u and for v
 unfoldable pub rangesRefusal : ℕ → ℕ → ℕ → ℕ → ℕ → ℕ → Float → Float → Float → Float → Refusal

@@ -3,36 +3,23 @@ use crate::answer::Bounded;
 use crate::answer::answer_of;
 use crate::cartesian::BoundAnswer;
 use crate::cartesian::cartesian_of;
-use crate::jet::Jet;
+use crate::jet::parameter;
 use crate::range::range_refusal;
 use crate::range::span_over;
-use crate::range::taken_span;
+use crate::read::start_refusal;
 use crate::start::Weights;
 use crate::start::point_at;
 use crate::start::row_of;
 use crate::start::weights_of;
 use interval::Interval;
 use interval::New;
-use knots::curve::any_long;
 use knots::curve::curve_refusal;
-use knots::refusal::refuse;
 ghost use mathlib.Core.Path.{_≡_};
 ghost use mathlib.Core.Bool.{true};
 ghost use Prim.Native.Nat.{_+_, _*_, _≤_, _<_};
 ghost use lib.ListN.{length};
-ghost use Rattle.bounds.specs.Curve.{parameterOf, boundOf, boundAt, spanBound};
-ghost use Rattle.bounds.specs.Holds.{Holds, HoldsValid};
-
-// The parameter as a jet.
-pub fn parameter(range: Interval) -> Jet
-    ensures { λ r. ⌜ r ≡ parameterOf range ⌝ }
-{
-    Jet {
-        v: range,
-        du: Interval::point(1.0),
-        dv: Interval::point(0.0),
-    }
-}
+ghost use Rattle.bounds.specs.Curve.{boundOf, boundAt, spanBound};
+ghost use Rattle.bounds.specs.Holds.{Holds, HoldsOn};
 
 // The bounds on span s.
 fn on_span(
@@ -107,7 +94,7 @@ pub fn bound_curve(
     answer_of(on_span(degree, s, knots, points, weights, rational, lo, hi))
 }
 
-// The bounds on a span of a curve that was validated before: no number but the span's own is read, so that a walk over all spans validates once.
+// The bounds on a span that is asked for by its index: no number but the span's own is read, so that a walk over all spans of a valid curve validates once. Of any curve it answers for, it holds the exact point.
 pub fn bound_span(
     degree: usize,
     span: usize,
@@ -119,16 +106,11 @@ pub fn bound_span(
     hi: f64,
 ) -> Bounded
     ensures { λ r. ⌜ r ≡ boundAt degree span (now (knots .entry)) (now (points .entry)) rational (now (weights .entry)) lo hi ⌝ }
-    ensures { λ r. ⌜ HoldsValid degree span (now (knots .entry)) (now (points .entry)) rational (now (weights .entry)) lo hi r ⌝ }
+    ensures { λ r. ⌜ HoldsOn degree span (now (knots .entry)) (now (points .entry)) rational (now (weights .entry)) lo hi r ⌝ }
 {
-    if any_long(knots, points, rational, weights) {
-        return Bounded::Refused(refuse(30));
-    }
-    let count = points.len() / 3;
-    let s = taken_span(degree, span, knots, points, rational, weights, lo, hi);
-    let outside = range_refusal(degree, count, s, lo, hi);
-    if outside.number != 0 {
-        return Bounded::Refused(outside);
+    let refusal = start_refusal(degree, span, knots, points, rational, weights, lo, hi);
+    if refusal.number != 0 {
+        return Bounded::Refused(refusal);
     }
     answer_of(on_span(degree, span, knots, points, weights, rational, lo, hi))
 }

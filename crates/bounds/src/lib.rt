@@ -5,6 +5,7 @@ pub mod curve;
 mod jet;
 mod net;
 mod range;
+mod read;
 mod rows;
 mod start;
 pub mod surface;

@@ -1,8 +1,8 @@
 // Bounds of a surface on one rectangle of nonempty spans.
 use crate::cartesian::BoundAnswer;
 use crate::cartesian::cartesian_of;
-use crate::curve::parameter;
 use crate::jet::Jet;
+use crate::jet::parameter;
 use crate::net::NetAnswer;
 use crate::net::step;
 use crate::net::zero_control;

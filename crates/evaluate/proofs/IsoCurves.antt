@@ -36,7 +36,7 @@ use Rattle.evaluate.specs.Iso.{placeOf, rawWeight, isoTerm, isoPart, iso
 use Rattle.evaluate.specs.IsoCurve.{Side, hullOf, isoPoints, isoWeights, outside, alongStart, alongRefusal, AlongDone, isoSide, isoHull, isoStart, isoRefusal, IsoMeets}
 use Rattle.evaluate.specs.declared.controls.Sums.{Sums}
 use Rattle.evaluate.proofs.Sums.{sums-cong}
-use Rattle.evaluate.proofs.Steps.{room-open}
+use Rattle.knots.proofs.Shapes.{room-open}
 use Rattle.evaluate.proofs.Nets.{net-place}
 use Rattle.evaluate.proofs.Surfaces.{degrees-open, size-is}
 use Rattle.evaluate.proofs.Overlays.{stored, take-padded, left-refused, left-answered}

@@ -18,7 +18,7 @@ use Rattle.basis.proofs.Whole.{length-tabulate}
 use Rattle.knots.specs.Shape.{roomRefusal}
 use Rattle.evaluate.specs.Lent.{padded, leftIn}
 use Rattle.evaluate.specs.Reverse.{givenLength, backKnot, backPoint, backWeight, backKnots, backPoints, backWeights, reverseFormed, reverseStart, reverseRefusal, ReverseFormed, ReverseMeets}
-use Rattle.evaluate.proofs.Steps.{room-open}
+use Rattle.knots.proofs.Shapes.{room-open}
 use Rattle.evaluate.proofs.Overlays.{stored, take-padded, left-refused, left-answered}
 
 pub given-in : (g : Bool) (ws : List Float) → givenLength g ws ≤ length ws

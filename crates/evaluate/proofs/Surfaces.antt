@@ -31,7 +31,8 @@ use Rattle.evaluate.specs.declared.controls.Sums.{Sums}
 use Rattle.evaluate.specs.declared.surface.SurfaceDerivs.{SurfaceDerivs}
 use Rattle.evaluate.specs.declared.surface.SurfaceAnswer.the-variants.{At, Refused}
 use Rattle.evaluate.proofs.Searches.{searched-is}
-use Rattle.evaluate.proofs.Steps.{degree-open, degree-none, finite-open, finite-none, weights-open, weights-none, Fitting, knots-open, knots-none, Found}
+use Rattle.knots.proofs.Shapes.{degree-open, degree-none, finite-open, finite-none, weights-open, weights-none, Fitting, knots-open, knots-none}
+use Rattle.evaluate.proofs.Steps.{Found}
 use Rattle.evaluate.proofs.Nets.{net-place, net-cong}
 
 -- ---- sums over rows of the tables are sums over the derivatives

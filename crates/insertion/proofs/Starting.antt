@@ -15,7 +15,7 @@ use Rattle.knots.specs.declared.refusal.Refusal.{Refusal}
 use Rattle.knots.proofs.Refusals.{passed, orElse-none, stop, skip}
 use Rattle.knots.proofs.Curves.{within, valid-curve}
 use Rattle.knots.specs.Shape.{roomRefusal}
-use Rattle.evaluate.proofs.Steps.{room-open}
+use Rattle.knots.proofs.Shapes.{room-open}
 use Rattle.insertion.specs.Counts.{allEqual}
 use Rattle.insertion.specs.Rows.{given}
 use Rattle.insertion.specs.Start.{clampedEnds, editStart, outRoom, scratchRoom, insertStart}

@@ -26,7 +26,7 @@ use Rattle.basis.proofs.Whole.{length-tabulate, at-tabulate}
 use Rattle.basis.proofs.Cases.{lt-or-ge}
 use Rattle.knots.specs.Shape.{roomRefusal}
 use Rattle.evaluate.specs.declared.vector.Vector.{Vector}
-use Rattle.evaluate.proofs.Steps.{room-open}
+use Rattle.knots.proofs.Shapes.{room-open}
 use Rattle.insertion.specs.Control.{vectorOf, isLifted}
 use Rattle.insertion.specs.Rows.{liftAll, axis, given}
 use Rattle.insertion.specs.Start.{outRoom}

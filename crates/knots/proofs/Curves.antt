@@ -53,11 +53,11 @@ thirds-of n h = ap (λ (m : ℕ). m % 3) h ∙ mul-mod-right 3 (n / 3)
 
 -- ---- points and weights
 -- a test that is made only where g holds
-given : (g t : Bool) → (g && not t) ≡ false → g ≡ true → t ≡ true
+pub given : (g t : Bool) → (g && not t) ≡ false → g ≡ true → t ≡ true
 given true t h e = not-false t h
 given false t h e = cc
 
-not-given : (g t : Bool) → (g ≡ true → t ≡ true) → (g && not t) ≡ false
+pub not-given : (g t : Bool) → (g ≡ true → t ≡ true) → (g && not t) ≡ false
 not-given true t h = ap not (h refl)
 not-given false t h = refl
 

@@ -5,6 +5,7 @@ pub mod Classes
 pub mod Refusals
 pub mod Valid
 pub mod Curves
+pub mod Shapes
 pub mod Surfaces
 pub mod Fractions
 pub mod Last

@@ -25,7 +25,8 @@ use Rattle.evaluate.specs.Curve.{curveOf, looked, parameterRefusal, stepRefusal
 use Rattle.evaluate.specs.Curve2.{curve2Of, finite2, answer2, eval2AtOf, eval2Of}
 use Rattle.evaluate.specs.declared.vector.Vector.{Vector}
 use Rattle.evaluate.specs.declared.curve.CurveAnswer.the-variants.{At, Refused}
-use Rattle.evaluate.proofs.Steps.{shape-none, parameter-open}
+use Rattle.knots.proofs.Shapes.{shape-none}
+use Rattle.evaluate.proofs.Steps.{parameter-open}
 use Rattle.evaluate.proofs.Searches.{searched-is}
 use Rattle.evaluate.specs.declared.curve2.CurveAnswer2.{CurveAnswer2}
 use Rattle.evaluate.specs.declared.curve2.CurveAnswer2.the-variants as two

@@ -17,7 +17,7 @@ use Rattle.knots.specs.Clear.{zeros}
 use Rattle.knots.specs.Curve.{curveRefusal, ValidCurve}
 use Rattle.knots.proofs.Curves.{valid-curve}
 use Rattle.knots.specs.Shape.{degreeRefusal, roomRefusal}
-use Rattle.evaluate.proofs.Steps.{room-open}
+use Rattle.knots.proofs.Shapes.{room-open}
 use Rattle.many.specs.Rows.{rowsBy, left, RowsMeet, tableRefusal, roomsRefusal}
 use Rattle.many.specs.declared.answer.ManyAnswer.the-variants.{Rows, Refused}
 

@@ -9,7 +9,7 @@ use Rattle.bounds.proofs.curve.on_span.Tie as tie
 use Rattle.bounds.proofs.curve.on_span.Reads as reads
 use Rattle.bounds.proofs.curve.on_span.Lts as lts
 use Rattle.bounds.proofs.cartesian.cartesian_of.Reads as cartesian-of-reads
-use Rattle.bounds.proofs.curve.parameter.Reads as parameter-reads
+use Rattle.bounds.proofs.jet.parameter.Reads as parameter-reads
 use Rattle.bounds.proofs.start.point_at.Reads as point-at-reads
 use Rattle.bounds.proofs.start.row_of.Reads as row-of-reads
 use Rattle.bounds.proofs.start.weights_of.Reads as weights-of-reads

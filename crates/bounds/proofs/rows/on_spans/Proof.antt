@@ -10,7 +10,7 @@ use Rattle.bounds.proofs.rows.on_spans.Tie as tie
 use Rattle.bounds.proofs.rows.on_spans.Reads as reads
 use Rattle.bounds.proofs.rows.on_spans.Lts as lts
 use Rattle.bounds.proofs.cartesian.cartesian_of.Reads as cartesian-of-reads
-use Rattle.bounds.proofs.curve.parameter.Reads as parameter-reads
+use Rattle.bounds.proofs.jet.parameter.Reads as parameter-reads
 use Rattle.bounds.proofs.rows.rows_of.Reads as rows-of-reads
 use Rattle.bounds.proofs.rows.second.Reads as second-reads
 use Rattle.bounds.proofs.rows.weights_in.Reads as weights-in-reads

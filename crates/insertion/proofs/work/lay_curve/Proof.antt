@@ -6,7 +6,7 @@ use Rattle.doubles.specs.Value.{zero+}
 use Rattle.knots.specs.Clear.{zeros}
 use Rattle.knots.specs.declared.refusal.Refusal.{Refusal}
 use Rattle.knots.specs.Shape.{roomRefusal}
-use Rattle.evaluate.proofs.Steps.{room-open}
+use Rattle.knots.proofs.Shapes.{room-open}
 use Rattle.insertion.specs.Work.{workRoom, layOutcome}
 use Rattle.insertion.proofs.Forming.{given-room}
 use Rattle.insertion.proofs.Working.{work-open, ends-refused, ends-formed, lay-short, lay-room, lay-fits, cleared-curve}

@@ -1,10 +1,10 @@
 use lib.Ieee.{ofBits}
-use Rattle.bounds.specs.Curve.{parameterOf}
+use Rattle.bounds.specs.Jet.{parameterOf}
 use borrow.Author.Needs.{needs}
-use Rattle.bounds.proofs.curve.parameter.Statement.{statement}
-use Rattle.bounds.proofs.curve.parameter.Tie as tie
-use Rattle.bounds.proofs.curve.parameter.Reads as reads
-use Rattle.bounds.proofs.curve.parameter.Lts as lts
+use Rattle.bounds.proofs.jet.parameter.Statement.{statement}
+use Rattle.bounds.proofs.jet.parameter.Tie as tie
+use Rattle.bounds.proofs.jet.parameter.Reads as reads
+use Rattle.bounds.proofs.jet.parameter.Lts as lts
 use Rattle.interval.proofs.Interval.point.Reads as point-reads
 
 point-requires : tie.Need-point-requires
