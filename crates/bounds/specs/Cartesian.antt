@@ -8,6 +8,8 @@ use Rattle.interval.specs.declared.New.{New}
 use Rattle.interval.specs.declared.New.the-variants.{Made, Nothing}
 use Rattle.interval.specs.declared.Quotient.{Quotient}
 use Rattle.interval.specs.declared.Quotient.the-variants as Q
+use Rattle.knots.specs.Refusal.{refuse, weights-apart}
+use Rattle.knots.specs.Numbers.{quotientRefusal}
 use Rattle.bounds.specs.declared.jet.Jet.{Jet}
 use Rattle.bounds.specs.declared.net.Control.{Control}
 use Rattle.bounds.specs.declared.net.NetAnswer.{NetAnswer}
@@ -25,12 +27,12 @@ coordinateOf h weight r o =
 
 abbrev pub boxBy : Control → Point → Quotient → BoundAnswer
 boxBy h o (Q.Is r) = B.Are (record { x = coordinateOf (h .x) (h .w) r (o .x); y = coordinateOf (h .y) (h .w) r (o .y); z = coordinateOf (h .z) (h .w) r (o .z) })
-boxBy h o Q.HoldsZero = B.Refused 26
-boxBy h o Q.Unbounded = B.Refused 28
+boxBy h o Q.HoldsZero = B.Refused (quotientRefusal Q.HoldsZero .number)
+boxBy h o Q.Unbounded = B.Refused (quotientRefusal Q.Unbounded .number)
 
 abbrev pub cutBy : Control → Point → New → BoundAnswer
 cutBy h o (Made w) = boxBy h o (reciprocalOf w)
-cutBy h o Nothing = B.Refused 29
+cutBy h o Nothing = B.Refused (refuse weights-apart .number)
 
 -- the weight is cut with its other enclosure before it divides
 unfoldable pub cartesianOf : Control → Point → Interval → BoundAnswer

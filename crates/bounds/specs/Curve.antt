@@ -9,6 +9,7 @@ use Rattle.interval.specs.declared.Interval.{Interval}
 use Rattle.interval.specs.declared.New.{New}
 use Rattle.interval.specs.declared.New.the-variants.{Made, Nothing}
 use Rattle.interval.specs.Ops.{newOf}
+use Rattle.knots.specs.Refusal.{refuse, range-bad}
 use Rattle.bounds.specs.Jet.{parameterOf}
 use Rattle.bounds.specs.declared.start.Weights.{Weights}
 use Rattle.bounds.specs.declared.start.Weights.the-variants as W
@@ -28,7 +29,7 @@ use lib.Dec.{eqb}
 module _ (p s : ℕ) (ks ps ws : List Float) (r : Bool) (lo hi : Float) where
   abbrev pub rangeIs : Float → Interval → New → BoundAnswer
   rangeIs scale bound (Made i) = let o = pointAt ps (s - p) in netBy o bound (rowOf ps ws r (s - p) o scale ks p s (parameterOf i))
-  rangeIs scale bound Nothing = B.Refused 24
+  rangeIs scale bound Nothing = B.Refused (refuse range-bad .number)
 
   abbrev pub weightsAre : Weights → BoundAnswer
   weightsAre (W.Are scale bound) = rangeIs scale bound (newOf lo hi)

@@ -25,7 +25,7 @@ use Rattle.bounds.specs.Answer.{boundedOf}
 use Rattle.bounds.specs.declared.answer.Bounded.{Bounded}
 use Rattle.knots.specs.declared.refusal.Refusal.{Refusal}
 use Rattle.knots.specs.Refusal as R
-use Rattle.knots.specs.Refusal.{degree-high}
+use Rattle.knots.specs.Refusal.{degree-high, range-bad}
 use Rattle.knots.specs.Surface.{surfaceRefusal}
 use Rattle.bounds.specs.Curve.{unless}
 use Rattle.bounds.specs.Jet.{parameterOf}
@@ -61,8 +61,8 @@ module _ (p q us vs : ℕ) (uk vk : List Float) (nv : ℕ) (ps ws : List Float) 
 
   abbrev pub rangesAre : Float → Interval → New → New → BoundAnswer
   rangesAre scale bound (Made iv) (Made iu) = netBy corner bound (filledOf uk p us (parameterOf iu) (λ m. rowAt scale iv m))
-  rangesAre scale bound (Made iv) Nothing = B.Refused 24
-  rangesAre scale bound Nothing b = B.Refused 24
+  rangesAre scale bound (Made iv) Nothing = B.Refused (R.refuse range-bad .number)
+  rangesAre scale bound Nothing b = B.Refused (R.refuse range-bad .number)
 
   abbrev pub weightsBy : Weights → BoundAnswer
   weightsBy (W.Are scale bound) = rangesAre scale bound (newOf vlo vhi) (newOf ulo uhi)

@@ -26,17 +26,17 @@ use Rattle.knots.specs.Curve.{countOf, ValidCurve}
 use Rattle.knots.specs.declared.refusal.Refusal.{Refusal}
 use Rattle.knots.proofs.Refusals.{stop, skip}
 use Rattle.knots.proofs.Below.{and-right}
-use Rattle.knots.proofs.Curves.{curve-not-refused, none-long}
+use Rattle.knots.proofs.Curves.{curve-not-refused}
 use Rattle.knots.proofs.Fractions.{knots-of}
-use Rattle.bounds.specs.Range.{inSpan, firstFrom, spanOver, takenSpan}
+use Rattle.bounds.specs.Range.{inSpan, firstFrom, spanOver}
 use Rattle.bounds.specs.Curve.{boundOf, boundAt}
 use Rattle.interval.specs.declared.Interval.{Interval}
 use Rattle.bounds.specs.declared.answer.Triple.{Triple}
 use Rattle.bounds.specs.declared.answer.NurbsBounds.{NurbsBounds}
 use Rattle.bounds.specs.declared.answer.Bounded.{Bounded}
 use Rattle.bounds.specs.Holds.{HoldsOn}
-use Rattle.bounds.proofs.SpanIn.{taken-had}
-use Rattle.bounds.proofs.CurveIn.{both-hold}
+use Rattle.bounds.proofs.CurveIn.{both-hold, step-is-bound}
+use Rattle.many.proofs.Said.{box-says}
 use Rattle.many.specs.Rows.{tableRefusal, roomsRefusal}
 use Rattle.many.specs.Spans.{spansFrom, spansOf, boxRow, marksOf, boxOf, markAt, boxAt, spansStart}
 use Rattle.many.specs.declared.boxes.BoxRow.{BoxRow}
@@ -171,11 +171,9 @@ module _ (p : ℕ) (ks ps : List Float) (g : Bool) (ws : List Float) where
 module _ (p : ℕ) (ks ps : List Float) (g : Bool) (ws : List Float) (v : ValidCurve p ks ps g ws) where
   -- the step on a span answers what bound_curve answers on its closed range
   pub bound-same : (s : ℕ) → p ≤ s → s < countOf ps → nonempty ks s ≡ true → boundAt p s ks ps g ws (at ks s) (at ks (s + 1)) ≡ boundOf p ks ps g ws (at ks s) (at ks (s + 1))
-  unfolding boundAt boundOf
   bound-same s f b h =
-      let l = v .knots .long in
-      let t : takenSpan p s ks ps g ws (at ks s) (at ks (s + 1)) ≡ s = taken-had p s ks ps g ws (at ks s) (at ks (s + 1)) (record { degree = v .knots .degree; first = f; last = b; room = omega arith; weights = λ e. omega (arith, v .controls .weights e) }) (own-span p (countOf ps) ks (v .knots) s f b h) in
-      rw (none-long ks ps g ws (v .short), curve-not-refused p ks ps g ws v, t, own-first p (countOf ps) ks (v .knots) s f b h) refl
+      subst (λ (i : ℕ). boundAt p i ks ps g ws (at ks s) (at ks (s + 1)) ≡ boundOf p ks ps g ws (at ks s) (at ks (s + 1))) (own-first p (countOf ps) ks (v .knots) s f b h)
+      (step-is-bound p ks ps ws g (at ks s) (at ks (s + 1)) (ap (λ (r : Refusal). r .number) (curve-not-refused p ks ps g ws v)))
 
   module _ (m₀ : List ℕ) (b₀ : List Float) where
     pub spans-start : InSpans p ks ps g ws m₀ b₀ m₀ b₀ 0 p
@@ -189,7 +187,7 @@ module _ (p : ℕ) (ks ps : List Float) (g : Bool) (ws : List Float) (v : ValidC
           upto = omega arith;
           count = ap length z;
           marks = subst (λ (l : List ℕ). InRows (markAt p ks ps g ws) 2 m₀ l 0 m₀) z (in-start (markAt p ks ps g ws) 2 (λ s. refl) m₀);
-          boxes = subst (λ (l : List ℕ). InRows (boxAt p ks ps g ws) 18 b₀ l 0 b₀) z (in-start (boxAt p ks ps g ws) 18 (λ s. refl) b₀);
+          boxes = subst (λ (l : List ℕ). InRows (boxAt p ks ps g ws) 18 b₀ l 0 b₀) z (in-start (boxAt p ks ps g ws) 18 (λ s. box-says _ .count) b₀);
         }
 
     module _ (m₁ : List ℕ) (b₁ : List Float) (i s : ℕ) (I : InSpans p ks ps g ws m₀ b₀ m₁ b₁ i s) (l : s < countOf ps) where
@@ -238,8 +236,8 @@ module _ (p : ℕ) (ks ps : List Float) (g : Bool) (ws : List Float) (v : ValidC
             from = omega arith;
             upto = omega arith;
             count = count-here ks p s f i (I .count) h;
-            marks = subst (λ (y : List ℕ). InRows (markAt p ks ps g ws) 2 m₀ (spansFrom (s + 1 - p) ks p) ((i + 1) * 2) y) (sym em) (in-more (markAt p ks ps g ws) 2 (λ s. refl) m₀ (spansFrom (s - p) ks p) (spansFrom (s + 1 - p) ks p) s (i * 2) ((i + 1) * 2) m₁ (marksOf s w) (I .marks) (ap (marksOf s) row) (omega arith) (omega arith) z);
-            boxes = subst (λ (y : List Float). InRows (boxAt p ks ps g ws) 18 b₀ (spansFrom (s + 1 - p) ks p) ((i + 1) * 18) y) (sym eb) (in-more (boxAt p ks ps g ws) 18 (λ s. refl) b₀ (spansFrom (s - p) ks p) (spansFrom (s + 1 - p) ks p) s (i * 18) ((i + 1) * 18) b₁ (boxOf w) (I .boxes) (ap boxOf row) (omega arith) (omega arith) z);
+            marks = subst (λ (y : List ℕ). InRows (markAt p ks ps g ws) 2 m₀ (spansFrom (s + 1 - p) ks p) ((i + 1) * 2) y) (sym em) (in-more (markAt p ks ps g ws) 2 (λ s. refl) m₀ (spansFrom (s - p) ks p) (spansFrom (s + 1 - p) ks p) s (i * 2) ((i + 1) * 2) m₁ (marksOf s w) (I .marks) (ap (marksOf s) row ∙ ap (λ (n : ℕ). s ∷ n ∷ []) (box-says _ .number)) (omega arith) (omega arith) z);
+            boxes = subst (λ (y : List Float). InRows (boxAt p ks ps g ws) 18 b₀ (spansFrom (s + 1 - p) ks p) ((i + 1) * 18) y) (sym eb) (in-more (boxAt p ks ps g ws) 18 (λ s. box-says _ .count) b₀ (spansFrom (s - p) ks p) (spansFrom (s + 1 - p) ks p) s (i * 18) ((i + 1) * 18) b₁ (boxOf w) (I .boxes) (ap boxOf row ∙ box-says _ .numbers) (omega arith) (omega arith) z);
           }
 
     -- all are done

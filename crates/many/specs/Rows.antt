@@ -10,10 +10,14 @@ use lib.Ieee.{Float}
 use Rattle.doubles.specs.Value.{zero+}
 use Rattle.knots.specs.Refusal.{orElse}
 use Rattle.knots.specs.Curve.{curveRefusal}
+use Rattle.knots.specs.Clear.{zeros}
 use Rattle.knots.specs.declared.refusal.Refusal.{Refusal}
 use Rattle.knots.specs.Shape.{degreeRefusal, roomRefusal}
 use Rattle.evaluate.specs.declared.vector.Vector.{Vector}
+use Rattle.evaluate.specs.Numbers.{onto}
 use Rattle.interval.specs.declared.Interval.{Interval}
+use Rattle.interval.specs.Numbers.{endsOnto}
+use Rattle.bounds.specs.Numbers.{sixOnto}
 use Rattle.bounds.specs.declared.answer.Triple.{Triple}
 use Rattle.many.specs.declared.answer.ManyAnswer.{ManyAnswer}
 use Rattle.many.specs.declared.answer.ManyAnswer.the-variants.{Rows, Refused}
@@ -22,6 +26,11 @@ use Rattle.many.specs.declared.answer.ManyAnswer.the-variants.{Rows, Ref
 unfoldable pub rowsBy : {X Y : Type 0} → (X → List Y) → List X → List Y
 rowsBy f [] = []
 rowsBy f (x ∷ xs) = f x ++ rowsBy f xs
+
+-- the w numbers of an answer's row: its values, and +0.0 where it has none
+abbrev pub rowOf : ℕ → List Float → List Float
+rowOf w [] = zeros w
+rowOf w (x ∷ xs) = x ∷ xs
 
 -- n numbers: the rows, and z behind them; after a refusal z alone
 unfoldable pub left : {Y : Type 0} → Y → Refusal → ℕ → List Y → List Y
@@ -48,10 +57,10 @@ roomsRefusal a m b n = orElse (roomRefusal a m) (roomRefusal b n)
 
 -- ---- the numbers of a point, and of three intervals
 abbrev pub threeOf : Vector → List Float
-threeOf v = v .x ∷ v .y ∷ v .z ∷ []
+threeOf v = onto v []
 
 abbrev pub twoOf : Interval → List Float
-twoOf i = i .lo ∷ i .hi ∷ []
+twoOf i = endsOnto i []
 
 abbrev pub sixOf : Triple → List Float
-sixOf t = twoOf (t .x) ++ (twoOf (t .y) ++ twoOf (t .z))
+sixOf t = sixOnto t []

@@ -13,11 +13,12 @@ use Rattle.knots.specs.Curve.{countOf}
 use Rattle.knots.specs.Span.{nonempty}
 use Rattle.knots.specs.declared.refusal.Refusal.{Refusal}
 use Rattle.bounds.specs.Curve.{boundOf}
+use Rattle.bounds.specs.Numbers.{boundedRefusal, boundedValues}
 use Rattle.bounds.specs.declared.answer.Triple.{Triple}
 use Rattle.bounds.specs.declared.answer.NurbsBounds.{NurbsBounds}
 use Rattle.bounds.specs.declared.answer.Bounded.{Bounded}
 use Rattle.bounds.specs.declared.answer.Bounded.the-variants.{Are, Refused}
-use Rattle.many.specs.Rows.{RowsMeet, tableRefusal, roomsRefusal, sixOf}
+use Rattle.many.specs.Rows.{RowsMeet, rowOf, tableRefusal, roomsRefusal, sixOf}
 use Rattle.many.specs.declared.answer.ManyAnswer.{ManyAnswer}
 use Rattle.many.specs.declared.boxes.BoxRow.{BoxRow}
 
@@ -29,6 +30,27 @@ spansFrom (suc k) ks s = cond (nonempty ks s) (s ∷ []) [] ++ spansFrom k ks (s
 abbrev pub spansOf : ℕ → List Float → List Float → List ℕ
 spansOf p ks ps = spansFrom (countOf ps - p) ks p
 
+module _ (p : ℕ) (ks ps : List Float) (g : Bool) (ws : List Float) where
+  -- span s over its own closed range
+  abbrev pub boundIn : ℕ → Bounded
+  boundIn s = boundOf p ks ps g ws (at ks s) (at ks (s + 1))
+
+  -- the span with the number of its refusal or 0, and the box
+  abbrev pub markAt : ℕ → List ℕ
+  markAt s = s ∷ boundedRefusal (boundIn s) .number ∷ []
+
+  abbrev pub boxAt : ℕ → List Float
+  boxAt s = rowOf 18 (boundedValues (boundIn s))
+
+  -- the curve's, 31, 30 for lent runs of a and b numbers
+  unfoldable pub spansStart : ℕ → ℕ → Refusal
+  spansStart a b = let n = length (spansOf p ks ps) in orElse (tableRefusal p ks ps g ws) (roomsRefusal a (n * 2) b (n * 18))
+
+  -- the promise
+  abbrev pub SpansMeet : ℕ → ℕ → List ℕ → List Float → ManyAnswer → Type 0
+  SpansMeet a b = RowsMeet (spansStart a b) (spansOf p ks ps) markAt boxAt a b
+
+-- ---- what the parts of the code leave
 abbrev pub noInterval : Interval
 noInterval = record { lo = zero+; hi = zero+ }
 
@@ -43,28 +65,8 @@ abbrev pub boxRow : Bounded → BoxRow
 boxRow (Are b) = record { number = 0; bounds = b }
 boxRow (Refused r) = record { number = r .number; bounds = noBounds }
 
--- the span with the number of its refusal or 0, and the box
 abbrev pub marksOf : ℕ → BoxRow → List ℕ
 marksOf s r = s ∷ r .number ∷ []
 
 abbrev pub boxOf : BoxRow → List Float
 boxOf r = sixOf (r .bounds .point) ++ (sixOf (r .bounds .du) ++ sixOf (r .bounds .dv))
-
-module _ (p : ℕ) (ks ps : List Float) (g : Bool) (ws : List Float) where
-  -- span s over its own closed range
-  abbrev pub rowAt : ℕ → BoxRow
-  rowAt s = boxRow (boundOf p ks ps g ws (at ks s) (at ks (s + 1)))
-
-  abbrev pub markAt : ℕ → List ℕ
-  markAt s = marksOf s (rowAt s)
-
-  abbrev pub boxAt : ℕ → List Float
-  boxAt s = boxOf (rowAt s)
-
-  -- the curve's, 31, 30 for lent runs of a and b numbers
-  unfoldable pub spansStart : ℕ → ℕ → Refusal
-  spansStart a b = let n = length (spansOf p ks ps) in orElse (tableRefusal p ks ps g ws) (roomsRefusal a (n * 2) b (n * 18))
-
-  -- the promise
-  abbrev pub SpansMeet : ℕ → ℕ → List ℕ → List Float → ManyAnswer → Type 0
-  SpansMeet a b = RowsMeet (spansStart a b) (spansOf p ks ps) markAt boxAt a b
