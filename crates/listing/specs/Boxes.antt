@@ -7,6 +7,7 @@ use lib.Ieee.{Float}
 use Rattle.doubles.specs.Run.{at}
 use Rattle.interval.specs.declared.Interval.{Interval}
 use Rattle.bounds.specs.Curve.{boundAt}
+use Rattle.bounds.specs.Numbers.{boundedRefusal}
 use Rattle.bounds.specs.declared.answer.Triple.{Triple}
 use Rattle.bounds.specs.declared.answer.Bounded.{Bounded}
 use Rattle.bounds.specs.declared.answer.Bounded.the-variants.{Are, Refused}
@@ -28,7 +29,7 @@ each text t = text (t .x) ++ (text (t .y) ++ text (t .z))
 -- the point's coordinates by their bits, then as decimals; or ` refused ` and the number
 unfoldable pub outcome : Bounded → List ℕ
 outcome (Are b) = each spacedEnds (b .point) ++ each spacedDecimals (b .point)
-outcome (Refused r) = 32 ∷ (refusedWord ++ decimal (r .number))
+outcome (Refused r) = 32 ∷ (refusedWord ++ decimal (boundedRefusal (Refused r) .number))
 
 -- the line of the span s between two knots
 unfoldable pub boxLine : ℕ → Float → Float → Bounded → List ℕ

@@ -15,6 +15,7 @@ use Rattle.interval.specs.declared.Interval.{Interval}
 use Rattle.knots.specs.Curve.{countOf}
 use Rattle.bounds.specs.Start.{minFrom, maxFrom}
 use Rattle.bounds.specs.Curve.{boundAt}
+use Rattle.bounds.specs.Numbers.{boundedRefusal}
 use Rattle.bounds.specs.declared.answer.Bounded.{Bounded}
 use Rattle.bounds.specs.declared.answer.Bounded.the-variants.{Are, Refused}
 use Rattle.listing.specs.Ascii.{ascii}
@@ -105,7 +106,7 @@ unboundedText s j = partText "<!-- span " s j ++ ascii " unbounded -->\n"
 -- a path, or, where there is none to draw, why
 abbrev pub boxText : ℕ → ℕ → Bounded → List ℕ
 boxText s j (Are b) = cond (bothFinite (b .point .x) (b .point .y)) (pathText s j (b .point .x) (b .point .y)) (unboundedText s j)
-boxText s j (Refused r) = refusedText s j (r .number)
+boxText s j (Refused r) = refusedText s j (boundedRefusal (Refused r) .number)
 
 -- ---- the parts of a span: bounds over a whole span are wide
 

@@ -1,13 +1,15 @@
 -- A record read and validated: what the numbers in the runs say of the table, and the promise of `read_table` at each of its answers.
 -- Assumes nothing.
 use Prim.Native.Nat.{ℕ}
-use mathlib.Core.Bool.{Bool, true, false}
+use mathlib.Core.Bool.{Bool, true, false, cond}
 use mathlib.Core.Path.{_≡_, refl, sym, _∙_, ap, subst}
 use mathlib.Core.List.{List}
 use mathlib.Core.Option.{Option, none, some}
 use native.Mathlib.Omega.{arith}
 use lib.ListN.{length, take, length-map}
 use lib.Seq.{take-at}
+use lib.Dec.{eqb}
+use borrow.Author.Tests.{eqb-true}
 use lib.Ieee.{Float, binary64, ofBits}
 use Rattle.knots.specs.declared.refusal.Refusal.{Refusal}
 use Rattle.knots.specs.Refusal.{refuse, too-long}
@@ -16,7 +18,9 @@ use Rattle.knots.proofs.Curves.{valid-curve}
 use Rattle.knots.proofs.Refusals.{stop, skip}
 use Rattle.record.specs.Format.{Table, given, rationalBy}
 use Rattle.record.specs.Reading.{tableOf, layout, rational, roomFor, numbersOf, numbers, handed, cleared, padded, Lent, ReadsNumbers}
-use Rattle.record.specs.Validated.{refusalIn, answerOf, ReadsTable}
+use Rattle.record.specs.Validated.{refusalIn, curveIn, answerOf, numberOf, ReadsTable}
+use Rattle.record.specs.Numbers.{tableAnswerRefusal}
+use Rattle.record.specs.declared.table.TableAnswer.{TableAnswer}
 use Rattle.record.specs.declared.read.Layout.{Layout}
 use Rattle.record.specs.declared.read.Record.the-variants as R
 use Rattle.record.specs.declared.table.TableAnswer.the-variants.{Curve, Refused}
@@ -56,9 +60,24 @@ refusal-same : (t : Table) {d : ℕ} {ks ps ws : List Float} {g : Bool} → d �
 unfolding refusalIn
 refusal-same t a b c d e = rw (a, b, c, d, e)
 
+-- the number of an answer
+said : (o : Option Table) (k p w : ℕ) (r : TableAnswer) → r ≡ answerOf o k p w → tableAnswerRefusal r .number ≡ numberOf o k p w
+said none k p w r e = ap (λ (a : TableAnswer). tableAnswerRefusal a .number) e
+said (some t) k p w r e = ap (λ (a : TableAnswer). tableAnswerRefusal a .number) e ∙ by-room (roomFor (layout t) k p w)
+  where
+    by-curve : (b : Bool) → (b ≡ true → refusalIn t .number ≡ 0) → tableAnswerRefusal (cond b (Curve (layout t) (rationalBy (t .weights))) (Refused (refusalIn t))) .number ≡ refusalIn t .number
+    by-curve true h = sym (h refl)
+    by-curve false h = refl
+
+    by-room : (b : Bool) → tableAnswerRefusal (cond b (curveIn t) (Refused (refuse too-long))) .number ≡ cond b (refusalIn t .number) (refuse too-long .number)
+    by-room true = by-curve (eqb (refusalIn t .number) 0) (eqb-true (refusalIn t .number) 0)
+    by-room false = refl
+
 module _ (s : List ℕ) (k p w k′ p′ w′ : List Float) where
   pub refused-first : (x : Refusal) → ReadsNumbers s k p w k′ p′ w′ (R.Refused x) → ReadsTable s k p w k′ p′ w′ (Refused x)
-  refused-first x r = record { means = r .means; answer = numbers-none (length k) (length p) (length w) (tableOf s) x (r .answer); runs = r .runs; front = tt }
+  refused-first x r =
+      let a = numbers-none (length k) (length p) (length w) (tableOf s) x (r .answer) in
+      record { means = r .means; answer = a; number = said (tableOf s) (length k) (length p) (length w) (Refused x) a; runs = r .runs; front = tt }
 
   module _ (l : Layout) (r : ReadsNumbers s k p w k′ p′ w′ (R.Fields l)) where
     found : (t : Table) × (tableOf s ≡ some t) × (layout t ≡ l) × (roomFor (layout t) (length k) (length p) (length w) ≡ true)
@@ -84,9 +103,11 @@ module _ (s : List ℕ) (k p w k′ p′ w′ : List Float) where
     module _ (x : Refusal) (tested : x ≡ curveRefusal (l .degree) (take (l .knots) k′) (take (l .points) p′) (rational l) (take (l .weights) w′)) where
       pub refused-curve : (x .number ≡ 0 → ⊥) → ReadsTable s k p w (cleared (length k)) (cleared (length p)) (cleared (length w)) (Refused x)
       refused-curve h =
+          let a : Refused x ≡ answerOf (tableOf s) (length k) (length p) (length w) = rw (found .1, found .3, stop (tested ∙ refusal-is) h) (ap Refused (tested ∙ refusal-is)) in
           record {
             means = r .means;
-            answer = rw (found .1, found .3, stop (tested ∙ refusal-is) h) (ap Refused (tested ∙ refusal-is));
+            answer = a;
+            number = said (tableOf s) (length k) (length p) (length w) (Refused x) a;
             runs = blank-runs k p w;
             front = tt;
           }
@@ -95,9 +116,11 @@ module _ (s : List ℕ) (k p w k′ p′ w′ : List Float) where
       curve-read lk lp lw h =
           let fits = fits-runs l (length k) (length p) (length w) room in
           let g : rational l ≡ rationalBy (found .0 .weights) = ap rational (sym (found .2)) ∙ rational-layout (found .0) in
+          let a : Curve l (rational l) ≡ answerOf (tableOf s) (length k) (length p) (length w) = rw (found .1, found .3, skip (tested ∙ refusal-is) h, g) (ap (λ (y : Layout). Curve y (rationalBy (found .0 .weights))) (sym (found .2))) in
           record {
             means = r .means;
-            answer = rw (found .1, found .3, skip (tested ∙ refusal-is) h, g) (ap (λ (y : Layout). Curve y (rationalBy (found .0 .weights))) (sym (found .2)));
+            answer = a;
+            number = said (tableOf s) (length k) (length p) (length w) (Curve l (rational l)) a;
             runs = r .runs;
             front = record {
               knots = rw lk (fits .0);

@@ -1,6 +1,6 @@
 pub mod Format
 pub mod Reading
-pub mod Validated
 pub mod Numbers
+pub mod Validated
 pub mod Writing
 pub mod Worked

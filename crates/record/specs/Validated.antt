@@ -13,6 +13,7 @@ use Rattle.knots.specs.Refusal.{refuse, too-long, record-malformed}
 use Rattle.knots.specs.Curve.{curveRefusal, ValidCurve}
 use Rattle.record.specs.Format.{Table, Means, given, rationalBy}
 use Rattle.record.specs.Reading.{tableOf, layout, roomFor, handed, numbers, Lent}
+use Rattle.record.specs.Numbers.{tableAnswerRefusal}
 use Rattle.record.specs.declared.read.Layout.{Layout}
 use Rattle.record.specs.declared.read.Record.{Record}
 use Rattle.record.specs.declared.read.Record.the-variants as R
@@ -32,6 +33,11 @@ abbrev pub answerOf : Option Table → ℕ → ℕ → ℕ → TableAnswer
 answerOf none k p w = Refused (refuse record-malformed)
 answerOf (some t) k p w = cond (roomFor (layout t) k p w) (curveIn t) (Refused (refuse too-long))
 
+-- its number: 33, then 30 for a run with too little room, then the curve's own; 0 where there is none
+abbrev pub numberOf : Option Table → ℕ → ℕ → ℕ → ℕ
+numberOf none k p w = refuse record-malformed .number
+numberOf (some t) k p w = cond (roomFor (layout t) k p w) (refusalIn t .number) (refuse too-long .number)
+
 -- the same answer without the validation
 abbrev pub unvalidated : TableAnswer → Record
 unvalidated (Curve l g) = R.Fields l
@@ -48,9 +54,10 @@ abbrev pub FrontOf : TableAnswer → List Float → List Float → List Float �
 FrontOf (Curve l g) k p w = Front l g k p w
 FrontOf (Refused x) k p w = Unit {0}
 
--- the promise of `read_table`: k, p, w are the lent runs before, k′, p′, w′ after. `front` follows from the others, and is what a caller goes on with
+-- the promise of `read_table`: k, p, w are the lent runs before, k′, p′, w′ after. `number` and `front` follow from the others: the first is the paper's number, the second what a caller goes on with
 pub record ReadsTable (s : List ℕ) (k p w k′ p′ w′ : List Float) (r : TableAnswer) : Type 0 where
   pub means : Means s (tableOf s)
   pub answer : r ≡ answerOf (tableOf s) (length k) (length p) (length w)
+  pub number : tableAnswerRefusal r .number ≡ numberOf (tableOf s) (length k) (length p) (length w)
   pub runs : Lent (handed (unvalidated r) (tableOf s)) k p w k′ p′ w′
   pub front : FrontOf r k′ p′ w′
