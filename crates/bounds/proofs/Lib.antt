@@ -7,4 +7,3 @@ pub mod CartesianIn
 pub mod SpanIn
 pub mod CurveIn
 pub mod SurfaceIn
-pub mod Worked

@@ -12,4 +12,3 @@ pub mod Halving
 pub mod Spans
 pub mod Answers
 pub mod Walks
-pub mod Worked
