@@ -9,4 +9,3 @@ pub mod Derivs
 pub mod AllDers
 pub mod Factors
 pub mod Whole
-pub mod Worked

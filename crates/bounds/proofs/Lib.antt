@@ -8,4 +8,3 @@ pub mod SpanIn
 pub mod Active
 pub mod CurveIn
 pub mod SurfaceIn
-pub mod Worked

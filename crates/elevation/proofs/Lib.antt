@@ -16,4 +16,3 @@ pub mod RaisedCurve
 pub mod RaisedInto
 pub mod Outcomes
 pub mod Textbook
-pub mod Worked

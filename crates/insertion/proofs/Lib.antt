@@ -17,4 +17,3 @@ pub mod Starting
 pub mod Working
 pub mod Outcomes
 pub mod Textbook
-pub mod Worked

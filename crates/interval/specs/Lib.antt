@@ -1,4 +1,3 @@
 pub mod Ops
 pub mod Numbers
 pub mod Inside
-pub mod Worked

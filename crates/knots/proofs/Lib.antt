@@ -13,4 +13,3 @@ pub mod Halving
 pub mod Spans
 pub mod Answers
 pub mod Walks
-pub mod Worked

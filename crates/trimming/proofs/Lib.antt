@@ -3,4 +3,3 @@ pub mod Ranges
 pub mod Ends
 pub mod Cutting
 pub mod Source
-pub mod Worked
