@@ -7,7 +7,7 @@ use interval::reach_sum;
 ghost use mathlib.Core.Path.{_≡_};
 ghost use Rattle.bounds.specs.Jet.{jetAdd, jetMul};
 ghost use mathlib.Core.Bool.{_&&_};
-ghost use Rattle.interval.specs.Ops.{addOf, mulOf, symmetricOf, isSymmetric};
+ghost use Rattle.interval.specs.Ops.{addOf, mulOf, oppositesOf, isSymmetric};
 ghost use Rattle.bounds.specs.Net.{slopeOf, shareOf, mixOf, neighbours, zeroControl};
 
 // A point of the net: three weighted coordinates and the weight.
@@ -84,7 +84,7 @@ fn about_zero(
     d: Interval,
     t: f64,
 ) -> Interval
-    ensures { λ r. ⌜ r ≡ addOf (addOf (mulOf (symmetricOf bs) a) (mulOf (symmetricOf s) b)) (addOf (mulOf (symmetricOf cs) d) (mulOf (symmetricOf t) c)) ⌝ }
+    ensures { λ r. ⌜ r ≡ addOf (addOf (mulOf (oppositesOf bs) a) (mulOf (oppositesOf s) b)) (addOf (mulOf (oppositesOf cs) d) (mulOf (oppositesOf t) c)) ⌝ }
 {
     let x = reach_sum(a.reach(bs), b.reach(s));
     let y = reach_sum(d.reach(cs), c.reach(t));

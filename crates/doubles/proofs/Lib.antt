@@ -9,6 +9,7 @@ pub mod Stepping
 pub mod Own
 pub mod Enclose
 pub mod Sums
+pub mod Scaled
 pub mod Extremes
 pub mod Products
 pub mod Opposite

@@ -104,7 +104,7 @@ peak-swapped p q r s m z = record { number = z .number; each = swapped (Over m) 
 turn-under : (x y : Float) → x ⊑ neg y → y ⊑ neg x
 turn-under x y h = subst (λ (b : Bool). T (not b)) (sym (ap (lt (neg x)) (sym (neg-neg y)) ∙ neg-lt x (neg y))) h
 
-turn-over : (x y : Float) → neg y ⊑ x → neg x ⊑ y
+pub turn-over : (x y : Float) → neg y ⊑ x → neg x ⊑ y
 turn-over x y h = subst (λ (b : Bool). T (not b)) (sym (ap (λ (z : Float). lt z (neg x)) (sym (neg-neg y)) ∙ neg-lt (neg y) x)) h
 
 -- the larger of two sizes

@@ -48,7 +48,7 @@ signed-mul false a true b = rw (minus-is b, minus-is (a * b)) (mul-neg (pos a) (
 signed-mul true a false b = rw (minus-is a, minus-is (a * b)) (neg-mul (pos a) (pos b) ∙ ap ⊟_ (pos-mul a b))
 signed-mul true a true b = rw (minus-is a, minus-is b) (neg-neg-mul (pos a) (pos b) ∙ pos-mul a b)
 
-signed-times : (s : Bool) (a b : ℕ) → signed s a ⊠ pos b ≡ signed s (a * b)
+pub signed-times : (s : Bool) (a b : ℕ) → signed s a ⊠ pos b ≡ signed s (a * b)
 signed-times true a b = signed-mul true a false b
 signed-times false a b = signed-mul false a false b
 
@@ -105,7 +105,7 @@ nonneg-pos : (a : ℕ) → T (nonneg (pos a))
 unfolding nonneg
 nonneg-pos a = tt
 
-below-yes : (s : Bool) (a : ℕ) (t : Bool) (b : ℕ) → T (below s a t b) → T (not (nonneg (signed s a ⊞ ⊟ signed t b)))
+pub below-yes : (s : Bool) (a : ℕ) (t : Bool) (b : ℕ) → T (below s a t b) → T (not (nonneg (signed s a ⊞ ⊟ signed t b)))
 below-yes false a false b h = diff-neg a b (ltb→lt a b h)
 below-yes false a true b h = absurd h
 below-yes true a false b h = rw (two-neg a b) (diff-neg 0 (a + b) (ltb→lt 0 (a + b) h))

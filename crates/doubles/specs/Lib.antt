@@ -1,4 +1,5 @@
 pub mod Value
 pub mod Neighbour
+pub mod Scaled
 pub mod Place
 pub mod Run

@@ -1,4 +1,4 @@
--- The doubles next to a double (IEEE 754-2019, 5.3.1), and the smaller and larger of two (Rust's f64::min and max), over the values of `lib.Ieee`.
+-- The doubles next to a double (IEEE 754-2019, 5.3.1), and Rust's f64::min, max and abs, over the values of `lib.Ieee`.
 use Prim.Native.Nat.{ℕ, zero, suc, _+_, _-_}
 use mathlib.Core.Bool.{Bool, true, false, _||_, cond}
 use lib.Ieee.{Float, nan, inf, fin, Format, binary64, neg, lt, isNan, ofBits, toBits}
@@ -34,3 +34,9 @@ least4 p q r s = fmin (fmin (fmin (fmin (inf false) p) q) r) s
 
 abbrev pub greatest4 : Float → Float → Float → Float → Float
 greatest4 p q r s = fmax (fmax (fmax (fmax (inf true) p) q) r) s
+
+-- the sign cleared
+abbrev pub fabs : Float → Float
+fabs nan = nan
+fabs (inf s) = inf false
+fabs (fin s m e) = fin false m e

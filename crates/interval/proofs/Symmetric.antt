@@ -6,17 +6,19 @@ use lib.Ieee.{Float, inf, binary64, neg, lt, eq, isNan, fits, add, mul}
 use lib.Ieee.Fits.{neg-fits, add-fits, mul-fits}
 use Rattle.doubles.specs.Neighbour.{nextUp, nextDown, fmax, least4, greatest4}
 use Rattle.doubles.specs.Value.{Number}
+use Rattle.doubles.specs.Place.{sign-bit}
 use Rattle.doubles.proofs.Tests.{T-of, Tn-of, neg-neg}
 use Rattle.doubles.proofs.Neighbour.{neg-nan, neg-lt}
 use Rattle.doubles.proofs.Extremes.{Four}
 use Rattle.doubles.proofs.Products.{mul-neg, number-neg}
 use Rattle.doubles.proofs.Opposite.{Opposed, opposed-neg, add-opposed, mul-opposed, mul-swap}
 use Rattle.doubles.proofs.Symmetric.{up-same, farthest, farthest-up, ends, ends-swapped}
+use Rattle.doubles.proofs.Sizes.{clear-abs, up-sign, add-sign, farthest-sign}
 use Rattle.doubles.proofs.Stepping.{up-nan}
 use Rattle.doubles.specs.Neighbour.{downFrom}
 use Rattle.interval.specs.declared.Interval.{Interval}
-use Rattle.interval.specs.Ops.{entire, checkedOf, someNan, addOf, mulOf, symmetricOf, isSymmetric}
-use Rattle.interval.proofs.Facts.{none-nan}
+use Rattle.interval.specs.Ops.{entire, checkedOf, someNan, addOf, mulOf, oppositesOf, symmetricOf, isSymmetric}
+use Rattle.interval.proofs.Facts.{none-nan, or-none}
 
 abbrev Held : Float → Type 0
 Held x = T (fits binary64 x)
@@ -87,31 +89,31 @@ module _ (a o : Interval) (k : Mirrored a) where
       rw (mul-swap binary64 (o .lo) (a .lo), mul-swap binary64 (o .lo) (a .hi), mul-swap binary64 (o .hi) (a .lo), mul-swap binary64 (o .hi) (a .hi))
       (box-swapped _ _ _ _ four-held (k (o .lo)) (k (o .hi)))
 
-pub about-zero : (s : Float) (o : Interval) → mulOf (symmetricOf s) o ≡ aroundOf (mul binary64 s (o .lo)) (mul binary64 s (o .hi))
-about-zero s o = mirrored-left (symmetricOf s) o (λ c. opposed-neg _ _ (mul-neg binary64 s c))
+pub about-zero : (s : Float) (o : Interval) → mulOf (oppositesOf s) o ≡ aroundOf (mul binary64 s (o .lo)) (mul binary64 s (o .hi))
+about-zero s o = mirrored-left (oppositesOf s) o (λ c. opposed-neg _ _ (mul-neg binary64 s c))
 
 module _ (a o : Interval) (e : isSymmetric a ≡ true) where
   mirrored : Mirrored a
   mirrored c = mul-opposed binary64 (a .lo) (a .hi) c (T-of _ e)
 
-  pub symmetric-left : mulOf (symmetricOf (a .hi)) o ≡ mulOf a o
+  pub symmetric-left : mulOf (oppositesOf (a .hi)) o ≡ mulOf a o
   symmetric-left = about-zero (a .hi) o ∙ sym (mirrored-left a o mirrored)
 
-  pub symmetric-right : mulOf (symmetricOf (a .hi)) o ≡ mulOf o a
+  pub symmetric-right : mulOf (oppositesOf (a .hi)) o ≡ mulOf o a
   symmetric-right = about-zero (a .hi) o ∙ sym (mirrored-right a o mirrored)
 
 -- ---- what a product and a sum with their high ends are
 
-around-is : (b : Bool) (m : Float) → cond b entire (symmetricOf m) ≡ symmetricOf (cond b entire (symmetricOf m) .hi)
+around-is : (b : Bool) (m : Float) → cond b entire (oppositesOf m) ≡ oppositesOf (cond b entire (oppositesOf m) .hi)
 unfolding neg
 around-is true m = refl
 around-is false m = refl
 
-pub product-is : (s : Float) (o : Interval) → mulOf (symmetricOf s) o ≡ symmetricOf (mulOf (symmetricOf s) o .hi)
+pub product-is : (s : Float) (o : Interval) → mulOf (oppositesOf s) o ≡ oppositesOf (mulOf (oppositesOf s) o .hi)
 product-is s o =
     let p = mul binary64 s (o .lo) in
     let q = mul binary64 s (o .hi) in
-    subst (λ (i : Interval). i ≡ symmetricOf (i .hi)) (sym (about-zero s o)) (around-is (isNan p || isNan q) (nextUp (farthest p q)))
+    subst (λ (i : Interval). i ≡ oppositesOf (i .hi)) (sym (about-zero s o)) (around-is (isNan p || isNan q) (nextUp (farthest p q)))
 
 opposite-down : (x y : Float) → Opposed x y → Number y → nextDown x ≡ neg (nextUp y)
 unfolding downFrom
@@ -121,7 +123,7 @@ opposite-down x y o n =
     (subst (λ (b : Bool). T (not b)) (ap (λ (z : Float). lt z (neg y)) (sym (neg-neg x)) ∙ neg-lt (neg x) y) (o .over))
     (subst (λ (b : Bool). T (not b)) (ap (λ (z : Float). lt (neg y) z) (sym (neg-neg x)) ∙ neg-lt y (neg x)) (o .under)))
 
-pub sum-box : (a b : Float) → addOf (symmetricOf a) (symmetricOf b) ≡ cond (isNan (add binary64 a b)) entire (symmetricOf (nextUp (add binary64 a b)))
+pub sum-box : (a b : Float) → addOf (oppositesOf a) (oppositesOf b) ≡ cond (isNan (add binary64 a b)) entire (oppositesOf (nextUp (add binary64 a b)))
 unfolding addOf checkedOf downFrom
 sum-box a b = rw (low, up-nan binary64 r (add-fits binary64 a b)) (go (isNan r) refl)
   where
@@ -137,9 +139,49 @@ sum-box a b = rw (low, up-nan binary64 r (add-fits binary64 a b)) (go (isNan r) 
     low : isNan (nextDown p) ≡ isNan r
     low = neg-nan (nextUp (neg p)) ∙ up-nan binary64 (neg p) (neg-fits binary64 p (add-fits binary64 (neg a) (neg b))) ∙ neg-nan p ∙ o .nans
 
-    go : (c : Bool) → isNan r ≡ c → cond (c || c) entire (record { lo = nextDown p; hi = nextUp r }) ≡ cond c entire (symmetricOf (nextUp r))
+    go : (c : Bool) → isNan r ≡ c → cond (c || c) entire (record { lo = nextDown p; hi = nextUp r }) ≡ cond c entire (oppositesOf (nextUp r))
     go true e = refl
     go false e = ap (λ (z : Float). record { lo = z; hi = nextUp r }) (opposite-down p r o (Tn-of _ e))
 
-pub sum-is : (a b : Float) → addOf (symmetricOf a) (symmetricOf b) ≡ symmetricOf (addOf (symmetricOf a) (symmetricOf b) .hi)
-sum-is a b = subst (λ (i : Interval). i ≡ symmetricOf (i .hi)) (sym (sum-box a b)) (around-is (isNan (add binary64 a b)) (nextUp (add binary64 a b)))
+pub sum-is : (a b : Float) → addOf (oppositesOf a) (oppositesOf b) ≡ oppositesOf (addOf (oppositesOf a) (oppositesOf b) .hi)
+sum-is a b = subst (λ (i : Interval). i ≡ oppositesOf (i .hi)) (sym (sum-box a b)) (around-is (isNan (add binary64 a b)) (nextUp (add binary64 a b)))
+
+-- ---- a high end that is a number with a clear sign is its own size
+
+abbrev pub Clear : Float → Type 0
+Clear x = (isNan x ≡ false) × (sign-bit x ≡ false)
+
+pub clear-is : (s : Float) → Clear s → symmetricOf s ≡ oppositesOf s
+unfolding symmetricOf
+clear-is s c = rw (c .0, clear-abs s (c .1))
+
+top-clear : Clear (inf false)
+unfolding isNan
+top-clear = (refl, refl)
+
+else-clear : (b : Bool) (m : Float) → (b ≡ false → Clear m) → Clear (cond b entire (oppositesOf m) .hi)
+else-clear true m h = top-clear
+else-clear false m h = h refl
+
+pub product-clear : (s : Float) (o : Interval) → Clear (mulOf (oppositesOf s) o .hi)
+product-clear s o = subst (λ (i : Interval). Clear (i .hi)) (sym (about-zero s o)) (else-clear (isNan p || isNan q) (nextUp (farthest p q)) stepped-clear)
+  where
+    p : Float
+    p = mul binary64 s (o .lo)
+
+    q : Float
+    q = mul binary64 s (o .hi)
+
+    stepped-clear : (isNan p || isNan q) ≡ false → Clear (nextUp (farthest p q))
+    stepped-clear e =
+        let h = mul-fits binary64 s (o .lo) in
+        let k = mul-fits binary64 s (o .hi) in
+        let n = or-none (isNan p) (isNan q) e in
+        (farthest-up binary64 p q h k (n .0), farthest-sign binary64 p q h k (Tn-of _ (n .0)) (Tn-of _ (n .1)))
+
+pub sum-clear : (a b : Float) → Clear a → Clear b → Clear (addOf (oppositesOf a) (oppositesOf b) .hi)
+sum-clear a b c d =
+    let r = add binary64 a b in
+    let h = add-fits binary64 a b in
+    subst (λ (i : Interval). Clear (i .hi)) (sym (sum-box a b))
+    (else-clear (isNan r) (nextUp r) (λ e. (up-nan binary64 r h ∙ e, up-sign binary64 r h (add-sign binary64 a b (c .1) (d .1)))))

@@ -3,7 +3,7 @@ use Prim.Native.Nat.{ℕ, zero, suc, _+_, _-_}
 use mathlib.Core.Bool.{Bool, true, false, _||_, _&&_, cond}
 use lib.IntN.{ℤ, pos, negsuc}
 use lib.Ieee.{Float, nan, inf, fin, binary64, neg, lt, le, eq, isNan, add, sub, mul, div}
-use Rattle.doubles.specs.Neighbour.{nextUp, nextDown, fmin, fmax, least4, greatest4}
+use Rattle.doubles.specs.Neighbour.{nextUp, nextDown, fmin, fmax, fabs, least4, greatest4}
 use Rattle.doubles.specs.Value.{zero+, one+}
 use Rattle.interval.specs.declared.Interval.{Interval}
 use Rattle.interval.specs.declared.New.{New}
@@ -61,9 +61,13 @@ mulOf a b =
     let s = mul binary64 (a .hi) (b .hi) in
     cond (someNan p q r s) entire (checkedOf (nextDown (least4 p q r s)) (nextUp (greatest4 p q r s)))
 
--- [-s, s]
-abbrev pub symmetricOf : Float → Interval
-symmetricOf s = record { lo = neg s; hi = s }
+-- the ends -s and s, whatever s is
+abbrev pub oppositesOf : Float → Interval
+oppositesOf s = record { lo = neg s; hi = s }
+
+-- [-|s|, |s|]
+unfoldable pub symmetricOf : Float → Interval
+symmetricOf s = cond (isNan s) entire (oppositesOf (fabs s))
 
 abbrev pub isSymmetric : Interval → Bool
 isSymmetric a = eq (a .lo) (neg (a .hi))

@@ -8,13 +8,14 @@ use crate::float::next_down;
 use crate::float::next_up;
 use crate::step::above;
 use crate::step::above_sizes;
+use crate::step::absolute;
 use crate::step::below;
 use crate::step::least;
 use crate::step::most;
 ghost use mathlib.Core.Path.{_≡_};
 ghost use lib.Ieee.{neg};
 ghost use Rattle.doubles.specs.Neighbour.{nextUp, nextDown};
-ghost use Rattle.interval.specs.Ops.{entire, newOf, pointOf, widthOf, containsOf, hullOf, signOf, checkedOf, sqrOf, addOf, subOf, mulOf, negOf, someNan, symmetricOf, isSymmetric, reciprocalOf, divideOf};
+ghost use Rattle.interval.specs.Ops.{entire, newOf, pointOf, widthOf, containsOf, hullOf, signOf, checkedOf, sqrOf, addOf, subOf, mulOf, negOf, someNan, oppositesOf, symmetricOf, isSymmetric, reciprocalOf, divideOf};
 
 pub mod bits;
 pub mod float;
@@ -213,10 +214,15 @@ impl Interval {
 
 // Intervals [-s, s], of which the high end alone is worked out.
 impl Interval {
+    // [-|s|, |s|]. NaN gives the whole line.
     pub fn symmetric(s: f64) -> Interval
         ensures { λ r. ⌜ r ≡ symmetricOf s ⌝ }
     {
-        Interval { lo: -s, hi: s }
+        if is_nan(s) {
+            return Interval::entire();
+        }
+        let m = absolute(s);
+        Interval { lo: -m, hi: m }
     }
 
     // Its ends are opposite numbers.
@@ -228,7 +234,7 @@ impl Interval {
 
     // The high end of [-s, s] times it: the four products are two and their opposites.
     pub fn reach(self, s: f64) -> f64
-        ensures { λ r. ⌜ r ≡ mulOf (symmetricOf s) self .hi ⌝ }
+        ensures { λ r. ⌜ r ≡ mulOf (oppositesOf s) self .hi ⌝ }
     {
         let p = s * self.lo;
         let q = s * self.hi;
@@ -244,7 +250,7 @@ impl Interval {
 
 // The high end of [-a, a] + [-b, b].
 pub fn reach_sum(a: f64, b: f64) -> f64
-    ensures { λ r. ⌜ r ≡ addOf (symmetricOf a) (symmetricOf b) .hi ⌝ }
+    ensures { λ r. ⌜ r ≡ addOf (oppositesOf a) (oppositesOf b) .hi ⌝ }
 {
     let c = a + b;
     if is_nan(c) {

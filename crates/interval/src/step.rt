@@ -3,7 +3,7 @@ ghost use mathlib.Core.Path.{_≡_};
 ghost use mathlib.Core.Bool.{false, cond};
 ghost use lib.Dec.{ltb};
 ghost use lib.Ieee.{binary64, isNan, nanBits, neg, ofBits};
-ghost use Rattle.doubles.specs.Neighbour.{nextUp, nextDown, fmin, fmax};
+ghost use Rattle.doubles.specs.Neighbour.{nextUp, nextDown, fmin, fmax, fabs};
 ghost use Rattle.doubles.specs.Place.{mag};
 
 // The pattern of the double above: one more where the sign is clear, one less where it is set; infinity stays.
@@ -55,6 +55,14 @@ fn size(x: f64) -> u64
     ensures { λ r. ⌜ r ≡ mag binary64 x ⌝ }
 {
     f64::to_bits(x) % 0x8000_0000_0000_0000
+}
+
+// |x|: -0.0 gives 0.0.
+pub fn absolute(x: f64) -> f64
+    requires { ⌜ isNan x ≡ false ⌝ }
+    ensures { λ r. ⌜ r ≡ fabs x ⌝ }
+{
+    f64::from_bits(size(x))
 }
 
 fn larger(m: u64, n: u64) -> u64
