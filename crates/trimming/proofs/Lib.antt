@@ -3,4 +3,5 @@ pub mod Ranges
 pub mod Ends
 pub mod Cutting
 pub mod Source
+pub mod Same
 pub mod Worked
