@@ -1,7 +1,7 @@
 -- A list of knots that is inserted over doubles is a list of exact insertions: each fits, lies between its neighbours, and the knots that come out are not rounded.
 -- So the exact curve after it is the exact curve there was.
 -- Assumes nothing.
-use Prim.Native.Nat.{ℕ, zero, suc, _+_, _-_, _≤_, _<_}
+use Prim.Native.Nat.{ℕ, suc, _+_, _-_, _≤_, _<_}
 use mathlib.Core.Bool.{Bool, true, false, cond}
 use mathlib.Core.Path.{_≡_, refl, sym, _∙_, ap, subst, fun-ext}
 use mathlib.Core.Logic.{⊎-elim}
@@ -9,7 +9,6 @@ use mathlib.Core.List.{List, [], _∷_}
 use native.Mathlib.Omega.{arith}
 use native.Mathlib.Numerals.{add-one}
 use lib.ListN.{length, List·getD-eq-default}
-use lib.Dec.{T}
 use lib.Ieee.{Float, nan, lt}
 use lib.Ieee.Scale.{finite}
 use Rattle.exact.specs.Rational.{ℚ, q0, _≤q_, _<q_}
@@ -25,21 +24,19 @@ use Rattle.doubles.proofs.Tested.{le-gives}
 use Rattle.doubles.proofs.Value.{val-lt, val-le, val-zero}
 use Rattle.knots.specs.Knots.{ValidKnots}
 use Rattle.knots.specs.Curve.{countOf, isWeight, ValidControls, ValidCurve}
-use Rattle.knots.specs.Span.{SpanAt, spanOf}
+use Rattle.knots.specs.Span.{spanOf}
 use Rattle.knots.proofs.Below.{and-left, and-right}
-use Rattle.knots.proofs.Refusals.{orElse-none}
-use Rattle.knots.proofs.Spans.{search-meets, span-is}
+use Rattle.knots.proofs.Fractions.{table-span, table-end}
 use Rattle.basis.proofs.Whole.{at-tabulate, length-tabulate}
 use Rattle.basis.proofs.Cases.{lt-or-ge}
-use Rattle.insertion.specs.Counts.{multiplicityOf}
-use Rattle.insertion.specs.Insert.{knotAt, moreKnots, spotRefusal, formRefusal, insertedKnots, insertedPoints, insertedWeights, insertRefusal}
+use Rattle.insertion.specs.Insert.{knotAt, moreKnots, insertedKnots, insertedPoints, insertedWeights, insertRefusal}
 use Rattle.insertion.specs.Fold.{gives, refuses, insertAll}
 use Rattle.insertion.specs.Whole.{givenOf, insertOutcome}
 use Rattle.insertion.specs.Start.{insertStart}
 use Rattle.insertion.specs.Placed.{placed, weightValue, coordinateValue}
-use Rattle.insertion.proofs.Forming.{spot-open}
+use Rattle.insertion.proofs.Domain.{Spot, spot}
 use Rattle.insertion.proofs.Folds.{inserted-valid}
-use Rattle.insertion.proofs.Made.{by-number, others, made}
+use Rattle.insertion.proofs.Made.{by-number, others, Made, made, made-low, made-high}
 use Rattle.insertion.proofs.Starting.{start-open}
 use Rattle.insertion.proofs.Textbook.{knot-refined}
 
@@ -57,25 +54,12 @@ more-values k t ks l = fun-ext (λ j. ⊎-elim
     (lt-or-ge j (length ks + 1)))
 
 module _ (p n : ℕ) (ks ps : List Float) (g : Bool) (ws : List Float) (t : Float) (v : ValidKnots p n ks) (z : insertRefusal p n ks ps g ws t .number ≡ 0) where
-  -- where it goes
-  pub record Spot : Type 0 where
-    pub number : finite t ≡ true
-    pub high : lt t (at ks n) ≡ true
-    pub span : SpanAt p n ks t (spanOf p n ks t)
-
-  pub spot : Spot
-  unfolding insertRefusal
-  spot =
-      let a = orElse-none (spotRefusal (at ks p) (at ks n) t p (multiplicityOf ks t)) (formRefusal p n (spanOf p n ks t) (multiplicityOf ks t) t ks ps g ws) z in
-      let o = spot-open p n ks ps g ws t (multiplicityOf ks t) v (a .0) in
-      let s = search-meets p n ks v t (o .within .parameter) (o .within .low) in
-      let e = span-is p n ks v t _ (o .within .parameter) s in
-      record { number = o .within .parameter; high = o .high; span = subst (λ (k : ℕ). SpanAt p n ks t k) e s }
+  S : Spot p n ks t
+  S = spot p n ks ps g ws t v z
 
   spot-low : valAt ks (spanOf p n ks t) ≤q val t
   spot-low =
       let k = spanOf p n ks t in
-      let S = spot in
       let b = S .span .below in
       let L = v .long in
       let K = v .finites k (omega arith) in
@@ -84,14 +68,13 @@ module _ (p n : ℕ) (ks ps : List Float) (g : Bool) (ws : List Float) (t : Floa
   spot-high : val t ≤q valAt ks (suc (spanOf p n ks t))
   spot-high =
       let k = spanOf p n ks t in
-      let S = spot in
       let b = S .span .below in
       let L = v .long in
       let h = subst (λ (i : ℕ). lt t (at ks i) ≡ true) (add-one k) (S .span .inside (S .high) .1) in
       lt→le (val-lt t (at ks (suc k)) (T-of _ (S .number)) (T-of _ (v .finites (suc k) (omega arith))) (T-of _ h))
 
   pub spot-values : valAt (moreKnots (spanOf p n ks t) t ks) ≡ refined (valAt ks) (val t) (spanOf p n ks t)
-  spot-values = let b = spot .span .below in let L = v .long in more-values (spanOf p n ks t) t ks (omega arith)
+  spot-values = let b = S .span .below in let L = v .long in more-values (spanOf p n ks t) t ks (omega arith)
 
 -- ---- a list
 pub placed-long : (p n : ℕ) (ks ts : List Float) → length (placed p n ks ts) ≡ length ts
@@ -111,10 +94,10 @@ unfolding placed refinedAll
 placed-more p n ks ps g ws t v z ts ks' M =
     let k = spanOf p n ks t in
     let l = placed p (n + 1) (moreKnots k t ks) ts in
-    let S = spot p n ks ps g ws t v z .span in
+    let s = S p n ks ps g ws t v z .span in
     let e = spot-values p n ks ps g ws t v z in
     record {
-      fits = (S .from, S .below, subst (λ (m : ℕ). Fits p m l) (add-one n) (M .fits));
+      fits = (s .from, s .below, subst (λ (m : ℕ). Fits p m l) (add-one n) (M .fits));
       between = (spot-low p n ks ps g ws t v z, spot-high p n ks ps g ws t v z, subst (λ (W : ℕ → ℚ). Between W l) e (M .between));
       knots = M .knots ∙ ap (λ (W : ℕ → ℚ). refinedAll W l) e;
     }
@@ -168,23 +151,32 @@ weight-above n ps false ws C i l = subst (λ (y : ℚ). y <q val one+) val-zero 
 
 -- ---- `insert_knots`, where it forms a curve
 module _ (p : ℕ) (ks ps : List Float) (g : Bool) (ws ts : List Float) (a b c d : ℕ) (ks' ps' ws' : List Float) (e : insertOutcome p ks ps g ws ts a b c d ≡ gives ks' ps' ws') where
-  pub record Open : Type 0 where
+  pub record Formed : Type 0 where
     pub curve : ValidCurve p ks ps g ws
     pub fold : insertAll p g (countOf ps) ks ps (givenOf g ws) ts ≡ gives ks' ps' ws'
 
-  pub insert-open : Open
+  pub insert-formed : Formed
   unfolding insertOutcome
-  insert-open =
+  insert-formed =
       let R = insertStart p ks ps g ws ts a b c d in
-      by-number (R .number) (λ y. cond y (insertAll p g (countOf ps) ks ps (givenOf g ws) ts) (refuses R) ≡ gives ks' ps' ws' → Open)
+      by-number (R .number) (λ y. cond y (insertAll p g (countOf ps) ks ps (givenOf g ws) ts) (refuses R) ≡ gives ks' ps' ws' → Formed)
       (λ z h. record { curve = start-open p ks ps g ws ts a b c d z .curve; fold = h })
       (λ z h. let q : _≡_ {A = ℕ} 0 1 = cc in absurd (omega arith)) e
 
   pub list-placed : Placed p (countOf ps) ks ts ks'
-  list-placed = placed-all p g (countOf ps) ks ps (givenOf g ws) ts ks' ps' ws' (insert-open .curve .knots) (insert-open .fold)
+  list-placed = placed-all p g (countOf ps) ks ps (givenOf g ws) ts ks' ps' ws' (insert-formed .curve .knots) (insert-formed .fold)
+
+  list-made : Made p g (countOf ps) ks ps (givenOf g ws) ts ks' ps' ws'
+  list-made = made p g (countOf ps) ks ps (givenOf g ws) ts ks' ps' ws' (insert-formed .curve .knots) (insert-formed .fold)
 
   pub list-valid : ValidKnots p (countOf ps + length ts) ks'
-  list-valid = made p g (countOf ps) ks ps (givenOf g ws) ts ks' ps' ws' (insert-open .curve .knots) (insert-open .fold) .valid
+  list-valid = list-made .valid
+
+  low-kept : at ks' p ≡ at ks p
+  low-kept = made-low p g (countOf ps) ks ps (givenOf g ws) ts ks' ps' ws' (insert-formed .curve .knots) list-made
+
+  high-kept : at ks' (countOf ps + length ts) ≡ at ks (countOf ps)
+  high-kept = made-high p g (countOf ps) ks ps (givenOf g ws) ts ks' ps' ws' (insert-formed .curve .knots) list-made
 
   -- coordinate k of the exact point at t, with the insertions that the list stands for
   module _ (k : ℕ) where
@@ -199,10 +191,26 @@ module _ (p : ℕ) (ks ps : List Float) (g : Bool) (ws ts : List Float) (a b c d
 
     module _ {s s₀ : ℕ} (S : SpanOf (valAt ks') p (countOf ps + length ts) s) (S₀ : SpanOf (valAt ks) p (countOf ps) s₀) where
       pub list-same : {t : ℚ} → InSpan (valAt ks) s₀ t → InSpan (valAt ks') s t → exact (valAt ks') t s p (countOf ps + length ts) w₁ c₁ ≡ exact (valAt ks) t s₀ p (countOf ps) (weightValue g ws) c₀
-      list-same = fold-same p g (countOf ps) ks ps (givenOf g ws) ts ks' ps' ws' (insert-open .curve .knots) (insert-open .fold) (weightValue g ws) c₀
-          (weight-above (countOf ps) ps g ws (insert-open .curve .controls)) S S₀
+      list-same = fold-same p g (countOf ps) ks ps (givenOf g ws) ts ks' ps' ws' (insert-formed .curve .knots) (insert-formed .fold) (weightValue g ws) c₀
+          (weight-above (countOf ps) ps g ws (insert-formed .curve .controls)) S S₀
 
       -- at the right end both are on the span that ends there: the limit from inside
       pub list-same-end : {t : ℚ} → InEnd (valAt ks) s₀ t → InEnd (valAt ks') s t → exact (valAt ks') t s p (countOf ps + length ts) w₁ c₁ ≡ exact (valAt ks) t s₀ p (countOf ps) (weightValue g ws) c₀
-      list-same-end = fold-same-end p g (countOf ps) ks ps (givenOf g ws) ts ks' ps' ws' (insert-open .curve .knots) (insert-open .fold) (weightValue g ws) c₀
-          (weight-above (countOf ps) ps g ws (insert-open .curve .controls)) S S₀
+      list-same-end = fold-same-end p g (countOf ps) ks ps (givenOf g ws) ts ks' ps' ws' (insert-formed .curve .knots) (insert-formed .fold) (weightValue g ws) c₀
+          (weight-above (countOf ps) ps g ws (insert-formed .curve .controls)) S S₀
+
+  -- each parameter of the domain has its span in both: the domain is what it was
+  module _ (t : ℚ) where
+    pub list-span : valAt ks p ≤q t → t <q valAt ks (countOf ps)
+        → ((s : ℕ) × SpanOf (valAt ks') p (countOf ps + length ts) s × InSpan (valAt ks') s t) × ((s₀ : ℕ) × SpanOf (valAt ks) p (countOf ps) s₀ × InSpan (valAt ks) s₀ t)
+    list-span x y = (
+      table-span p (countOf ps + length ts) ks' list-valid t (subst (λ (q : Float). val q ≤q t) (sym low-kept) x) (subst (λ (q : Float). t <q val q) (sym high-kept) y),
+      table-span p (countOf ps) ks (insert-formed .curve .knots) t x y,
+    )
+
+    pub list-end : valAt ks p <q t → t ≤q valAt ks (countOf ps)
+        → ((s : ℕ) × SpanOf (valAt ks') p (countOf ps + length ts) s × InEnd (valAt ks') s t) × ((s₀ : ℕ) × SpanOf (valAt ks) p (countOf ps) s₀ × InEnd (valAt ks) s₀ t)
+    list-end x y = (
+      table-end p (countOf ps + length ts) ks' list-valid t (subst (λ (q : Float). val q <q t) (sym low-kept) x) (subst (λ (q : Float). t ≤q val q) (sym high-kept) y),
+      table-end p (countOf ps) ks (insert-formed .curve .knots) t x y,
+    )
