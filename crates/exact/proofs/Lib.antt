@@ -6,6 +6,7 @@ pub mod Source
 pub mod Curve
 pub mod Refined
 pub mod Local
+pub mod Spans
 pub mod Inserted
 pub mod Boehm
 pub mod Insertion

@@ -6,6 +6,7 @@ pub mod Laying
 pub mod Laid
 pub mod Grown
 pub mod Counted
+pub mod Places
 pub mod Forming
 pub mod Folds
 pub mod Domain
@@ -17,3 +18,4 @@ pub mod Starting
 pub mod Working
 pub mod Outcomes
 pub mod Textbook
+pub mod Placed

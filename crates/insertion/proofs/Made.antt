@@ -14,17 +14,15 @@ use lib.Ieee.{Float, nan, lt, eq}
 use Rattle.doubles.specs.Run.{at}
 use Rattle.knots.specs.Knots.{ValidKnots}
 use Rattle.knots.specs.Curve.{ValidControls}
-use Rattle.knots.specs.Span.{spanOf}
-use Rattle.knots.proofs.Refusals.{orElse-none}
-use Rattle.knots.proofs.Spans.{search-meets, span-is}
+use Rattle.knots.specs.Span.{SpanAt, spanOf}
 use Rattle.basis.proofs.Whole.{at-tabulate, length-tabulate}
 use Rattle.insertion.specs.Counts.{bit, countBelow, multiplicityOf, belowOf, allEqual}
 use Rattle.insertion.specs.Rows.{given}
-use Rattle.insertion.specs.Insert.{knotAt, moreKnots, inside, spotRefusal, morePoints, moreWeights, formRefusal, insertedKnots, insertedPoints, insertedWeights, insertRefusal}
+use Rattle.insertion.specs.Insert.{knotAt, moreKnots, inside, morePoints, moreWeights, insertedKnots, insertedPoints, insertedWeights, insertRefusal}
 use Rattle.insertion.specs.Fold.{Outcome, gives, refuses, insertAll}
 use Rattle.insertion.specs.Start.{clampedEnds}
 use Rattle.insertion.proofs.Storing.{knot-low, knot-high}
-use Rattle.insertion.proofs.Forming.{spot-open}
+use Rattle.insertion.proofs.Domain.{spot}
 use Rattle.insertion.proofs.Folds.{inserted-formed, inserted-valid}
 use Rattle.insertion.proofs.Counted.{count-grown}
 
@@ -106,16 +104,8 @@ pub record Made (p : ℕ) (g : Bool) (n : ℕ) (ks ps ws ts ks' ps' ws' : List F
 
 -- one knot
 module _ (p n : ℕ) (ks ps : List Float) (g : Bool) (ws : List Float) (t : Float) (v : ValidKnots p n ks) (z : insertRefusal p n ks ps g ws t .number ≡ 0) where
-  spot : (p ≤ spanOf p n ks t) × (spanOf p n ks t < n)
-  unfolding insertRefusal
-  spot =
-      let a = orElse-none (spotRefusal (at ks p) (at ks n) t p (multiplicityOf ks t)) (formRefusal p n (spanOf p n ks t) (multiplicityOf ks t) t ks ps g ws) z in
-      let w = spot-open p n ks ps g ws t (multiplicityOf ks t) v (a .0) .within in
-      let s = search-meets p n ks v t (w .parameter) (w .low) in
-      let e = span-is p n ks v t _ (w .parameter) s in
-      let x = s .from in
-      let y = s .below in
-      (omega arith, omega arith)
+  goes : SpanAt p n ks t (spanOf p n ks t)
+  goes = spot p n ks ps g ws t v z .span
 
   one-points : length (insertedPoints p n ks ps g ws t) ≡ (n + 1) * 3
   unfolding insertedPoints morePoints
@@ -127,18 +117,19 @@ module _ (p n : ℕ) (ks ps : List Float) (g : Bool) (ws : List Float) (t : Floa
 
   pub one-counts : (f : Float → Bool) → countBelow (λ j. f (at (insertedKnots p n ks ps g ws t) j)) (length (insertedKnots p n ks ps g ws t)) ≡ countBelow (λ j. f (at ks j)) (length ks) + bit (f t)
   unfolding insertedKnots
-  one-counts f = let s = spot in let l = v .long in count-grown f (spanOf p n ks t) t ks (omega arith)
+  one-counts f = let s = goes .below in let l = v .long in count-grown f (spanOf p n ks t) t ks (omega arith)
 
   pub one-front : (j : ℕ) → j ≤ p → at (insertedKnots p n ks ps g ws t) j ≡ at ks j
   unfolding insertedKnots moreKnots
   one-front j b =
-      let s = spot in
+      let s = goes .from in
+      let q = goes .below in
       let l = v .long in
       at-tabulate (length ks + 1) (knotAt (spanOf p n ks t) t ks) j (omega arith) ∙ sym (knot-low (spanOf p n ks t) t ks j (omega arith))
 
   pub one-back : (j : ℕ) → n ≤ j → j < length ks → at (insertedKnots p n ks ps g ws t) (j + 1) ≡ at ks j
   unfolding insertedKnots moreKnots
-  one-back j b c = let s = spot in at-tabulate (length ks + 1) (knotAt (spanOf p n ks t) t ks) (j + 1) (omega arith) ∙ sym (knot-high (spanOf p n ks t) t ks j (omega arith))
+  one-back j b c = let s = goes .below in at-tabulate (length ks + 1) (knotAt (spanOf p n ks t) t ks) (j + 1) (omega arith) ∙ sym (knot-high (spanOf p n ks t) t ks j (omega arith))
 
   -- then the others
   made-more : (ts ks' ps' ws' : List Float) → Made p g (n + 1) (insertedKnots p n ks ps g ws t) (insertedPoints p n ks ps g ws t) (insertedWeights p n ks ps g ws t) ts ks' ps' ws' → Made p g n ks ps ws (t ∷ ts) ks' ps' ws'

@@ -3,6 +3,7 @@ pub mod Counts
 pub mod Rows
 pub mod Insert
 pub mod Fold
+pub mod Placed
 pub mod Start
 pub mod Whole
 pub mod Numbers

@@ -3,3 +3,4 @@ pub mod Ranges
 pub mod Ends
 pub mod Cutting
 pub mod Source
+pub mod Same

@@ -51,7 +51,7 @@ window n f m ps g ws b v = record {
 }
 
 module _ (p : ℕ) (ks ps : List Float) (g : Bool) (ws : List Float) (lo hi : Float) (a b c d : ℕ) (o : Open p ks ps g ws lo hi a b c d) where
-  range : Range (at ks p) (at ks (countOf ps)) lo hi
+  pub range : Range (at ks p) (at ks (countOf ps)) lo hi
   range = range-is (at ks p) (at ks (countOf ps)) lo hi (o .range)
 
   -- ---- a knot is refused by 8, 19 or 20 alone
@@ -83,7 +83,7 @@ module _ (p : ℕ) (ks ps : List Float) (g : Bool) (ws : List Float) (lo hi : Fl
     unfolding keptOf
     kept-is = omega (arith, ends-full .below-low, ends-full .below-high)
 
-    ends-valid : ValidKnots p (countOf ps + length (endsOf p ks lo hi)) ks'
+    pub ends-valid : ValidKnots p (countOf ps + length (endsOf p ks lo hi)) ks'
     ends-valid = made p g (countOf ps) ks ps (givenOf g ws) (endsOf p ks lo hi) ks' ps' ws' (o .curve .knots) e .valid
 
     -- belowOf is the partition point: every knot before it is below, and none from it on
@@ -103,7 +103,7 @@ module _ (p : ℕ) (ks ps : List Float) (g : Bool) (ws : List Float) (lo hi : Fl
     abbrev cut : List Float
     cut = take (M + p + 1) (drop F ks')
 
-    kept-most : (p < M) × (F + M ≡ belowOf ks' hi) × (F + M + p + 1 ≤ length ks')
+    pub kept-most : (p < M) × (F + M ≡ belowOf ks' hi) × (F + M + p + 1 ≤ length ks')
     kept-most =
         let E = ends-full in
         let x = below-past p (countOf ps + length (endsOf p ks lo hi)) ks' ends-valid lo hi (range .low) (range .less) in
@@ -117,7 +117,7 @@ module _ (p : ℕ) (ks ps : List Float) (g : Bool) (ws : List Float) (lo hi : Fl
     cut-long : length cut ≡ M + p + 1
     cut-long = let k = kept-most in length-take (M + p + 1) (drop F ks') ∙ omega (arith, length-drop F ks', k .2)
 
-    cut-at : (j : ℕ) → j < M + p + 1 → at cut j ≡ at ks' (F + j)
+    pub cut-at : (j : ℕ) → j < M + p + 1 → at cut j ≡ at ks' (F + j)
     cut-at j b = getD-take (M + p + 1) (drop F ks') j nan b ∙ getD-drop F ks' j nan
 
     cut-domain : lt (at ks' (F + p)) (at ks' (F + M)) ≡ true
