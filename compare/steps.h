@@ -1,6 +1,6 @@
 /* Steps of the calls, for the comparison and its times alone: no part of what the library promises. They take tables that
  * were validated before, and on others their answers mean nothing; a user takes tasulogi.h, whose calls check what they
- * are given. Link target/staticlib/libstep_exports.a, which has the functions of tasulogi.h as well.
+ * are given. Link target/staticlib/libstep_exports.a, which has these steps and nothing else.
  *
  * Runs are as in tasulogi.h. Each step is total: on any input it ends, and leaves its runs as is said here.
  */
