@@ -1,14 +1,20 @@
 /* The exported functions of the proved crates. Link target/staticlib/libexports.a.
  *
  * Conventions:
- * - Only numbers and runs of numbers cross. A run is a pointer and a length; a run of length 0 may have any pointer
- *   that is not null and is aligned to 8 bytes.
+ * - Only numbers and runs of numbers cross. A run is a pointer and a length: so many numbers stand from the pointer on,
+ *   which is aligned to one of them. Of a run of length 0 the pointer is never looked at: it may be NULL.
+ * - A lent run is one that is written: those whose pointer has no const. It overlaps no other run of the same call,
+ *   neither one that is read nor another that is lent: it may be cleared before the others are read. Runs that are only
+ *   read may overlap.
  * - A function with a lent run `out` returns 0 and writes its answer to the front of the run; every number behind the
  *   answer is then +0.0. Otherwise it returns a refusal number, and every number of the run is +0.0.
- * - Refusal numbers are those of document 01; tasulogi_refusals.h has the class and the text of each. 30 says that
- *   the lent run is shorter than the answer, and then comes after every other refusal; or, before every other, that an
- *   input run has more than 1,048,576 numbers. 99 is no refusal number: two doubles that were passed as the ends of an
- *   interval are none, since the low end is above the high one or an end is NaN.
+ * - Refusal numbers are those of document 01; tasulogi_refusals.h has the class and the text of each. 99 is no refusal
+ *   number: two doubles that were passed as the ends of an interval are none, since the low end is above the high one or
+ *   an end is NaN.
+ * - 30 is said of two things. An input run has more than 1,048,576 numbers: this comes before every other refusal. Or a
+ *   lent run is too short: this comes after every other refusal, but where a curve is made from a curve or a surface. There
+ *   it comes before what is refused while the curve is formed (13, 14, 19, 20, 23) and before 1 to 10 of the curve that
+ *   was. Each function says its order.
  * - Refusals 1 to 7 of a surface say their direction: 101 to 107 along u, 201 to 207 along v.
  * - A function with no lent run returns its answer.
  * - An interval is passed by its ends, low before high, and answered as two doubles, low before high. Infinite ends
@@ -44,6 +50,10 @@ enum {
 
 /* The refusal of tasulogi_find_span and tasulogi_bound_spans; where it is 0, what was returned is the span or the count. */
 #define TASULOGI_SPAN_REFUSAL(r) ((uint32_t)((r) >> 32))
+
+/* The refusal of an edit, and where it is 0 how many points the curve has that was formed. */
+#define TASULOGI_EDIT_REFUSAL(r) ((uint32_t)(r))
+#define TASULOGI_EDIT_COUNT(r) ((size_t)((r) >> 32))
 
 /* How many numbers a box has: point, du, dv, each x, y, z, each low before high. */
 #define TASULOGI_BOX 18
@@ -147,9 +157,6 @@ uint64_t tasulogi_find_span(size_t degree, size_t count, const double *knots, si
 /* The first nonempty span from `from` on, in degree..=count-1, or `count` where there is none. Any knots are taken. */
 size_t tasulogi_next_span(size_t degree, size_t count, const double *knots, size_t knots_n, size_t from);
 
-/* The search alone, on knots that were validated before; on others some place, or the degree. */
-size_t tasulogi_span_of(size_t degree, size_t count, double u, const double *knots, size_t knots_n);
-
 /* u, or the nearer end of the domain where u lies outside; a NaN stays one, a zero keeps its sign. */
 double tasulogi_clamp(size_t degree, size_t count, double u, const double *knots, size_t knots_n);
 
@@ -169,20 +176,9 @@ uint32_t tasulogi_bound_surface(size_t u_degree, size_t v_degree, const double *
 
 /* Points and derivatives: x, y, z of each. */
 
-/* The basis functions of a span and their derivatives up to order n, at most 2, into a run of 195 numbers: three rows
- * of 65. A run of any other length, and any input outside degrees 1 to 64 and the knots, leaves +0.0. */
-void tasulogi_basis_derivatives(size_t span, double u, size_t degree, size_t n, const double *knots, size_t knots_n,
-                                double *out, size_t out_n);
-
 /* The point and the first derivative: 6 numbers. A parameter outside the domain becomes the nearer end. Refusals in
  * this order: those of the curve, 31, 12, then 30 for the lent run. */
 uint32_t tasulogi_eval(
-    size_t degree, const double *knots, size_t knots_n, const double *points, size_t points_n, bool rational,
-    const double *weights, size_t weights_n,
-    double t, double *out, size_t n);
-
-/* The same of a curve that was validated before: only lengths, the degree and the parameter are looked at. */
-uint32_t tasulogi_eval_at(
     size_t degree, const double *knots, size_t knots_n, const double *points, size_t points_n, bool rational,
     const double *weights, size_t weights_n,
     double t, double *out, size_t n);
@@ -243,12 +239,15 @@ uint32_t tasulogi_iso_curve(
     bool constant_u, double t, double *out_points, size_t out_points_n, double *out_weights, size_t out_weights_n);
 
 /* Edits: the curve that is formed goes to the front of the three output runs, +0.0 behind it, and scratch is left
- * +0.0. After a refusal all four are +0.0. */
+ * +0.0. After a refusal all four are +0.0. What is returned has the refusal in its low half and, where that is 0, the
+ * count of points of the curve in its high half: TASULOGI_EDIT_REFUSAL, TASULOGI_EDIT_COUNT. So runs may be lent that are
+ * longer than needed; a count has count + degree + 1 knots, 3 count coordinates and, where the curve is rational, count
+ * weights. */
 
 /* Knots inserted one after the other, into runs for count + inserted_n points, with scratch of
  * 10 (count + inserted_n) + 2 (degree + 1) numbers. Refusals: 30 for a run that is too long, those of the curve, 17,
  * 30 for a lent run, then per knot 13, 14, 19, 20, and 8 of the curve that is formed. */
-uint32_t tasulogi_insert_knots(
+uint64_t tasulogi_insert_knots(
     size_t degree, const double *knots, size_t knots_n, const double *points, size_t points_n, bool rational,
     const double *weights, size_t weights_n, const double *inserted, size_t inserted_n,
     double *out_knots, size_t out_knots_n, double *out_points, size_t out_points_n, double *out_weights,
@@ -258,7 +257,7 @@ uint32_t tasulogi_insert_knots(
  * degree + 1 of them among the knots, and c(x) for the knots below x: into runs for c(hi) + a - c(lo) points, with
  * scratch of 10 (count + a + b) + 2 (degree + 1) numbers. Refusals: 30 for a run that is too long, those of the curve,
  * 17, 15, 30 for a lent run, then 19, 20, and 8 of a curve that is formed. */
-uint32_t tasulogi_trim(
+uint64_t tasulogi_trim(
     size_t degree, const double *knots, size_t knots_n, const double *points, size_t points_n, bool rational,
     const double *weights, size_t weights_n, double lo, double hi,
     double *out_knots, size_t out_knots_n, double *out_points, size_t out_points_n, double *out_weights,
@@ -268,7 +267,7 @@ uint32_t tasulogi_trim(
  * of them degree + 1 times: into runs for (e + 1) (b + 1) - b + f points, count for a copy, with scratch of
  * 10 (degree + 1) (b + 1) + 2 (degree + 1) numbers. Refusals: 30 for a run that is too long, those of the curve, 17, 16,
  * 18, 30 for a lent run, then 19, 20, and 8 of a curve that is formed. */
-uint32_t tasulogi_elevate_degree(
+uint64_t tasulogi_elevate_degree(
     size_t degree, const double *knots, size_t knots_n, const double *points, size_t points_n, bool rational,
     const double *weights, size_t weights_n, size_t raised,
     double *out_knots, size_t out_knots_n, double *out_points, size_t out_points_n, double *out_weights,

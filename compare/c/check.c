@@ -129,7 +129,6 @@ static void spans(void)
     for (int i = 0; i < 6; i++) {
         expect(tasulogi_find_span(2, 4, knots, 7, u[i]) == at[i], "spans of A, and outside its domain");
     }
-    expect(tasulogi_span_of(2, 4, 0.5, knots, 7) == 2 && tasulogi_span_of(2, 4, 2.0, knots, 7) == 3, "the search alone");
     expect(TASULOGI_SPAN_REFUSAL(tasulogi_find_span(2, 4, knots, 7, NAN)) == 12, "a NaN parameter");
     expect(tasulogi_next_span(2, 4, knots, 7, 0) == 2 && tasulogi_next_span(2, 4, knots, 7, 3) == 3, "next_span");
     expect(tasulogi_next_span(2, 4, knots, 7, 4) == 4, "no next span");
@@ -156,16 +155,12 @@ static void evaluations(void)
     out[6] = 7.0;
     expect(tasulogi_eval(2, knots, 7, points, 12, false, none, 0, 0.5, out, 7) == TASULOGI_DONE, "a point of A");
     expect(same(out[0], 1.75) && same(out[3], 3.0) && same(out[6], 0.0), "A at 0.5, its derivative, and the tail");
-    expect(tasulogi_eval_at(2, knots, 7, points, 12, false, none, 0, 0.5, out, 6) == TASULOGI_DONE && same(out[0], 1.75), "without validation");
     expect(tasulogi_eval(2, knots, 7, points, 12, false, none, 0, NAN, out, 6) == 12 && same(out[0], 0.0), "at a NaN");
     expect(tasulogi_eval(2, knots, 7, points, 12, false, none, 0, 0.5, out, 5) == TASULOGI_TOO_LITTLE_ROOM, "a point one short");
     expect(tasulogi_eval2(2, knots, 7, points, 12, false, none, 0, 0.5, out, 9) == TASULOGI_DONE && same(out[6], -2.0), "second derivative");
     static const double ends[] = { 0, 0, 1, 1 };
     expect(tasulogi_eval_surface(1, 1, ends, 4, ends, 4, 2, 2, points, 12, false, none, 0, 0.5, 0.5, out, 9) == TASULOGI_DONE, "a surface");
     expect(same(out[0], 3.0) && same(out[3], 4.0) && same(out[6], 2.0), "its point and derivatives");
-    double ders[195];
-    tasulogi_basis_derivatives(2, 0.5, 2, 1, knots, 7, ders, 195);
-    expect(same(ders[0], 0.25) && same(ders[65], -1.0) && same(ders[3], 0.0), "the basis of A at 0.5");
 }
 
 static void many(void)
@@ -202,6 +197,16 @@ static void made(void)
     expect(tasulogi_iso_curve(1, 1, ends, 4, ends, 4, 2, 2, points, 12, false, none, 0, true, 1.5, p, 6, w, 2) == 22, "outside");
 }
 
+static bool formed(uint64_t returned, size_t count)
+{
+    return TASULOGI_EDIT_REFUSAL(returned) == TASULOGI_DONE && TASULOGI_EDIT_COUNT(returned) == count;
+}
+
+static bool refused(uint64_t returned, uint32_t number)
+{
+    return TASULOGI_EDIT_REFUSAL(returned) == number && TASULOGI_EDIT_COUNT(returned) == 0;
+}
+
 /* Document 01: inserting 1 into A gives x = 0 2 3 4 6, knots 0 0 0 1 1 2 2 2; trimming A to [0, 1] gives x = 0 2 3,
  * knots 0 0 0 1 1 1; a line from 0 to 2 raised to 2 gives x = 0 1 2; A raised to 3 has 7 points. */
 static void edits(void)
@@ -209,30 +214,98 @@ static void edits(void)
     static const double knots[] = { 0, 0, 0, 1, 2, 2, 2 }, points[] = { 0, 0, 0, 2, 0, 0, 4, 0, 0, 6, 0, 0 };
     static const double one[] = { 1 }, two[] = { 2 }, none[1];
     double k[8], p[15], w[1], scratch[56];
-    expect(tasulogi_insert_knots(2, knots, 7, points, 12, false, none, 0, one, 1, k, 8, p, 15, w, 0, scratch, 56) == TASULOGI_DONE, "1 into A");
+    expect(formed(tasulogi_insert_knots(2, knots, 7, points, 12, false, none, 0, one, 1, k, 8, p, 15, w, 0, scratch, 56), 5), "1 into A");
     expect(same(k[3], 1.0) && same(k[4], 1.0) && same(k[5], 2.0), "its knots");
     expect(same(p[0], 0.0) && same(p[3], 2.0) && same(p[6], 3.0) && same(p[9], 4.0) && same(p[12], 6.0), "its points");
     expect(same(scratch[0], 0.0) && same(scratch[55], 0.0), "scratch");
-    expect(tasulogi_insert_knots(2, knots, 7, points, 12, false, none, 0, two, 1, k, 8, p, 15, w, 0, scratch, 56) == 13 && same(k[7], 0.0), "an end");
-    expect(tasulogi_insert_knots(2, knots, 7, points, 12, false, none, 0, one, 1, k, 8, p, 15, w, 0, scratch, 55) == 30, "no scratch");
+    expect(refused(tasulogi_insert_knots(2, knots, 7, points, 12, false, none, 0, two, 1, k, 8, p, 15, w, 0, scratch, 56), 13) && same(k[7], 0.0), "an end");
+    expect(refused(tasulogi_insert_knots(2, knots, 7, points, 12, false, none, 0, one, 1, k, 8, p, 15, w, 0, scratch, 55), 30), "no scratch");
 
     double trimmed[66];
-    expect(tasulogi_trim(2, knots, 7, points, 12, false, none, 0, 0.0, 1.0, k, 7, p, 10, w, 0, trimmed, 66) == TASULOGI_DONE, "A trimmed");
+    expect(formed(tasulogi_trim(2, knots, 7, points, 12, false, none, 0, 0.0, 1.0, k, 7, p, 10, w, 0, trimmed, 66), 3), "A trimmed");
     expect(same(k[2], 0.0) && same(k[3], 1.0) && same(k[5], 1.0) && same(k[6], 0.0), "its knots, and the tail");
     expect(same(p[0], 0.0) && same(p[3], 2.0) && same(p[6], 3.0) && same(p[9], 0.0) && same(trimmed[65], 0.0), "its points, the tail, scratch");
-    expect(tasulogi_trim(2, knots, 7, points, 12, false, none, 0, 1.0, 1.0, k, 6, p, 9, w, 0, trimmed, 66) == 15 && same(k[3], 0.0), "empty");
-    expect(tasulogi_trim(2, knots, 7, points, 12, false, none, 0, 0.0, 1.0, k, 6, p, 9, w, 0, trimmed, 65) == 30, "no scratch");
+    expect(refused(tasulogi_trim(2, knots, 7, points, 12, false, none, 0, 1.0, 1.0, k, 6, p, 9, w, 0, trimmed, 66), 15) && same(k[3], 0.0), "empty");
+    expect(refused(tasulogi_trim(2, knots, 7, points, 12, false, none, 0, 0.0, 1.0, k, 6, p, 9, w, 0, trimmed, 65), 30), "no scratch");
 
     static const double ends[] = { 0, 0, 1, 1 }, line[] = { 0, 0, 0, 2, 0, 0 };
     double high[11], raised[21], spare[66];
-    expect(tasulogi_elevate_degree(1, ends, 4, line, 6, false, none, 0, 2, high, 6, raised, 9, w, 0, spare, 24) == TASULOGI_DONE, "a line raised");
+    expect(formed(tasulogi_elevate_degree(1, ends, 4, line, 6, false, none, 0, 2, high, 6, raised, 9, w, 0, spare, 24), 3), "a line raised");
     expect(same(high[2], 0.0) && same(high[3], 1.0) && same(high[5], 1.0), "its knots");
     expect(same(raised[0], 0.0) && same(raised[3], 1.0) && same(raised[6], 2.0) && same(spare[0], 0.0), "its points, scratch");
-    expect(tasulogi_elevate_degree(2, knots, 7, points, 12, false, none, 0, 3, high, 11, raised, 21, w, 0, spare, 66) == TASULOGI_DONE, "A raised");
+    expect(formed(tasulogi_elevate_degree(2, knots, 7, points, 12, false, none, 0, 3, high, 11, raised, 21, w, 0, spare, 66), 7), "A raised");
     expect(same(high[3], 0.0) && same(high[4], 1.0) && same(high[6], 1.0) && same(high[10], 2.0) && same(raised[18], 6.0), "its 7 points");
-    expect(tasulogi_elevate_degree(2, knots, 7, points, 12, false, none, 0, 3, high, 11, raised, 20, w, 0, spare, 66) == 30, "no room for 7");
-    expect(tasulogi_elevate_degree(2, knots, 7, points, 12, false, none, 0, 1, high, 11, raised, 21, w, 0, spare, 66) == 16 && same(high[10], 0.0), "a lower degree");
-    expect(tasulogi_elevate_degree(2, knots, 7, points, 12, false, none, 0, 65, high, 11, raised, 21, w, 0, spare, 66) == 18, "degree 65");
+    expect(refused(tasulogi_elevate_degree(2, knots, 7, points, 12, false, none, 0, 3, high, 11, raised, 20, w, 0, spare, 66), 30), "no room for 7");
+    expect(refused(tasulogi_elevate_degree(2, knots, 7, points, 12, false, none, 0, 1, high, 11, raised, 21, w, 0, spare, 66), 16) && same(high[10], 0.0), "a lower degree");
+    expect(refused(tasulogi_elevate_degree(2, knots, 7, points, 12, false, none, 0, 65, high, 11, raised, 21, w, 0, spare, 66), 18), "degree 65");
+}
+
+/* A run of no numbers has any pointer. Lent, it is too short. */
+static void nulls_of_intervals(void)
+{
+    expect(tasulogi_interval_entire(NULL, 0) == 30 && tasulogi_interval_new(1, 2, NULL, 0) == 30, "entire, new into NULL");
+    expect(tasulogi_interval_point(1, NULL, 0) == 30 && tasulogi_interval_width(1, 2, NULL, 0) == 30, "point, width into NULL");
+    expect(tasulogi_interval_sqr(1, 2, NULL, 0) == 30 && tasulogi_interval_neg(1, 2, NULL, 0) == 30, "sqr, neg into NULL");
+    expect(tasulogi_interval_hull(1, 2, 1, 2, NULL, 0) == 30 && tasulogi_interval_add(1, 2, 1, 2, NULL, 0) == 30, "hull, add into NULL");
+    expect(tasulogi_interval_sub(1, 2, 1, 2, NULL, 0) == 30 && tasulogi_interval_mul(1, 2, 1, 2, NULL, 0) == 30, "sub, mul into NULL");
+    expect(tasulogi_interval_divide(1, 2, 1, 2, NULL, 0) == 30, "divide into NULL");
+    expect(tasulogi_interval_divide(1, 2, 0, 2, NULL, 0) == 26 && tasulogi_interval_new(2, 1, NULL, 0) == 99, "other refusals with NULL");
+}
+
+#define A 2, knots, 7, points, 12, false, NULL, 0
+#define PLANE 1, 1, ends, 4, ends, 4, 2, 2, points, 12, false, NULL, 0
+
+static void nulls_of_tables(void)
+{
+    static const double ends[] = { 0, 0, 1, 1 };
+    double out[TASULOGI_BOX];
+    expect(tasulogi_curve_refusal(A) == 0 && tasulogi_surface_refusal(PLANE) == 0, "tables without weights");
+    expect(tasulogi_curve_refusal(2, NULL, 0, points, 12, false, NULL, 0) == 3, "no knots");
+    expect(tasulogi_curve_refusal(2, knots, 7, NULL, 0, false, NULL, 0) == 2, "no points");
+    expect(tasulogi_curve_refusal(2, knots, 7, points, 12, true, NULL, 0) == 9, "weights that are missing");
+    expect(TASULOGI_SPAN_REFUSAL(tasulogi_find_span(2, 4, NULL, 0, 0.5)) == 3, "find_span without knots");
+    expect(tasulogi_next_span(2, 4, NULL, 0, 0) == 4 && same(tasulogi_clamp(2, 4, 0.5, NULL, 0), 0.5), "next_span, clamp without knots");
+    expect(tasulogi_bound_curve(A, 0.5, 0.5, out, TASULOGI_BOX) == 0 && out[0] < 1.75, "bound_curve without weights");
+    expect(tasulogi_bound_surface(PLANE, 0.5, 0.5, 0.5, 0.5, out, TASULOGI_BOX) == 0 && out[0] < 3.0, "bound_surface without weights");
+    expect(tasulogi_bound_curve(A, 0.5, 0.5, NULL, 0) == 30 && tasulogi_bound_surface(PLANE, 0.5, 0.5, 0.5, 0.5, NULL, 0) == 30, "bounds into NULL");
+    expect(tasulogi_eval(A, 0.5, out, 6) == 0 && same(out[0], 1.75), "eval without weights");
+    expect(tasulogi_eval2(A, 0.5, out, 9) == 0 && same(out[6], -2.0), "eval2 without weights");
+    expect(tasulogi_eval_surface(PLANE, 0.5, 0.5, out, 9) == 0 && same(out[0], 3.0), "eval_surface without weights");
+    expect(tasulogi_eval(A, 0.5, NULL, 0) == 30 && tasulogi_eval2(A, 0.5, NULL, 0) == 30 && tasulogi_eval_surface(PLANE, 0.5, 0.5, NULL, 0) == 30, "points into NULL");
+    expect(tasulogi_eval(A, NAN, NULL, 0) == 12, "another refusal with NULL");
+}
+
+static void nulls_of_many(void)
+{
+    static const double ts[] = { 0.5 };
+    uint32_t numbers[4];
+    double rows[2 * TASULOGI_BOX];
+    expect(tasulogi_eval_many(A, ts, 1, numbers, 1, rows, 6) == 0 && same(rows[0], 1.75), "eval_many without weights");
+    expect(tasulogi_eval2_many(A, ts, 1, numbers, 1, rows, 9) == 0 && same(rows[6], -2.0), "eval2_many without weights");
+    expect(tasulogi_eval_many(A, NULL, 0, NULL, 0, NULL, 0) == 0 && tasulogi_eval2_many(A, NULL, 0, NULL, 0, NULL, 0) == 0, "no parameters");
+    expect(tasulogi_eval_many(A, ts, 1, NULL, 0, rows, 6) == 30 && tasulogi_eval_many(A, ts, 1, numbers, 1, NULL, 0) == 30, "eval_many into NULL");
+    expect(tasulogi_eval2_many(A, ts, 1, NULL, 0, rows, 9) == 30 && tasulogi_eval2_many(A, ts, 1, numbers, 1, NULL, 0) == 30, "eval2_many into NULL");
+    expect(tasulogi_bound_spans(A, numbers, 4, rows, 2 * TASULOGI_BOX) == 2, "bound_spans without weights");
+    expect(TASULOGI_SPAN_REFUSAL(tasulogi_bound_spans(A, NULL, 0, rows, 36)) == 30 && TASULOGI_SPAN_REFUSAL(tasulogi_bound_spans(A, numbers, 4, NULL, 0)) == 30, "bound_spans into NULL");
+}
+
+static void nulls_of_curves(void)
+{
+    static const double ends[] = { 0, 0, 1, 1 }, one[] = { 1 };
+    double k[11], p[21], w[2], scratch[66];
+    expect(tasulogi_reversed(A, k, 7, p, 12, NULL, 0) == 0 && same(p[0], 6.0), "reversed without weights");
+    expect(tasulogi_reversed(A, NULL, 0, p, 12, NULL, 0) == 30 && tasulogi_reversed(A, k, 7, NULL, 0, NULL, 0) == 30, "reversed into NULL");
+    expect(tasulogi_iso_curve(PLANE, true, 0.5, p, 6, w, 2) == 0 && same(p[0], 2.0), "iso_curve without weights");
+    expect(tasulogi_iso_curve(PLANE, true, 0.5, NULL, 0, w, 2) == 30 && tasulogi_iso_curve(PLANE, true, 0.5, p, 6, NULL, 0) == 30, "iso_curve into NULL");
+    expect(formed(tasulogi_insert_knots(A, one, 1, k, 8, p, 15, NULL, 0, scratch, 56), 5) && same(p[6], 3.0), "insert_knots without weights");
+    expect(formed(tasulogi_insert_knots(A, NULL, 0, k, 11, p, 21, NULL, 0, scratch, 66), 4) && same(p[9], 6.0) && same(p[12], 0.0), "no knots inserted");
+    expect(refused(tasulogi_insert_knots(A, one, 1, NULL, 0, NULL, 0, NULL, 0, NULL, 0), 30), "insert_knots into NULL");
+    expect(formed(tasulogi_trim(A, 0.0, 1.0, k, 11, p, 21, NULL, 0, scratch, 66), 3) && same(p[6], 3.0), "trim without weights");
+    expect(refused(tasulogi_trim(A, 0.0, 1.0, NULL, 0, NULL, 0, NULL, 0, NULL, 0), 30), "trim into NULL");
+    expect(formed(tasulogi_elevate_degree(A, 3, k, 11, p, 21, NULL, 0, scratch, 66), 7) && same(p[18], 6.0), "elevate_degree without weights");
+    expect(refused(tasulogi_elevate_degree(A, 3, NULL, 0, NULL, 0, NULL, 0, NULL, 0), 30), "elevate_degree into NULL");
+    expect(refused(tasulogi_trim(A, 1.0, 1.0, NULL, 0, NULL, 0, NULL, 0, NULL, 0), 15), "15 before 30 of a lent run");
+    expect(refused(tasulogi_insert_knots(A, points + 9, 1, NULL, 0, NULL, 0, NULL, 0, NULL, 0), 30), "30 of a lent run before 13");
 }
 
 int main(void)
@@ -248,6 +321,10 @@ int main(void)
     many();
     made();
     edits();
+    nulls_of_intervals();
+    nulls_of_tables();
+    nulls_of_many();
+    nulls_of_curves();
     printf("C: %d passed, %d failed\n", passed, failed);
     return failed != 0;
 }

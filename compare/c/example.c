@@ -10,8 +10,8 @@ enum { DEGREE = 3, COUNT = 6, KNOTS = COUNT + DEGREE + 1 };
 static const double knots[KNOTS] = { 0, 0, 0, 0, 90, 210, 360, 360, 360, 360 };
 static const double points[3 * COUNT] = { 0, 0, 0, 30, 0, 0, 100, 0, 0, 220, 12, 0, 310, 12, 0, 360, 12, 0 };
 
-/* The table as each call takes it. It has no weights: that run is not looked at, and its pointer is not null. */
-#define CAM DEGREE, knots, KNOTS, points, 3 * COUNT, false, points, 0
+/* The table as each call takes it. It has no weights: a run of no numbers. */
+#define CAM DEGREE, knots, KNOTS, points, 3 * COUNT, false, NULL, 0
 
 static bool done(const char *call, uint32_t returned)
 {
@@ -36,12 +36,13 @@ static void bound(double lo, double hi)
 static void insert(double knot)
 {
     enum { N = COUNT + 1 };
-    double more[N + DEGREE + 1], moved[3 * N], weights[1], scratch[10 * N + 2 * (DEGREE + 1)];
-    if (!done("insert", tasulogi_insert_knots(CAM, &knot, 1, more, N + DEGREE + 1, moved, 3 * N, weights, 0, scratch, 10 * N + 2 * (DEGREE + 1)))) {
+    double more[N + DEGREE + 1], moved[3 * N], scratch[10 * N + 2 * (DEGREE + 1)];
+    uint64_t returned = tasulogi_insert_knots(CAM, &knot, 1, more, N + DEGREE + 1, moved, 3 * N, NULL, 0, scratch, 10 * N + 2 * (DEGREE + 1));
+    if (!done("insert", TASULOGI_EDIT_REFUSAL(returned))) {
         return;
     }
-    printf("with a knot at %.17g:\n", knot);
-    for (int i = 0; i < N; i++) {
+    printf("with a knot at %.17g there are %zu points:\n", knot, TASULOGI_EDIT_COUNT(returned));
+    for (size_t i = 0; i < TASULOGI_EDIT_COUNT(returned); i++) {
         printf("  %.17g %.17g\n", moved[3 * i], moved[3 * i + 1]);
     }
 }
@@ -49,7 +50,7 @@ static void insert(double knot)
 int main(void)
 {
     /* A point was forgotten; then the whole table. */
-    done("check", tasulogi_curve_refusal(DEGREE, knots, KNOTS, points, 3 * (COUNT - 1), false, points, 0));
+    done("check", tasulogi_curve_refusal(DEGREE, knots, KNOTS, points, 3 * (COUNT - 1), false, NULL, 0));
     if (!done("check", tasulogi_curve_refusal(CAM))) {
         return 1;
     }

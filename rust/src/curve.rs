@@ -60,10 +60,10 @@ pub struct SpanBound {
     pub point: Result<[Interval; 3], Refusal>,
 }
 
-/// What an edit forms: degree and points of the answer, and the points of the largest curve on the way.
-struct Formed {
+/// Room for what an edit forms: its degree, at least as many points as it has, and as the largest curve on the way has.
+struct Room {
     degree: usize,
-    count: usize,
+    points: usize,
     most: usize,
 }
 
@@ -251,11 +251,11 @@ impl<'a> Curve<'a> {
     /// # Ok::<(), tasulogi::Refusal>(())
     /// ```
     pub fn insert_knots(&self, inserted: &[f64]) -> Result<CurveBuf, Refusal> {
-        let formed = self.validate().ok().map(|()| {
-            let count = self.count() + inserted.len();
-            Formed { degree: self.degree, count, most: count }
+        let lent = self.validate().ok().map(|()| {
+            let points = self.count() + inserted.len();
+            Room { degree: self.degree, points, most: points }
         });
-        self.edit(formed, |k, p, w, s| face::insert_knots(self, inserted, k, p, w, s))
+        self.edit(lent, |k, p, w, s| face::insert_knots(self, inserted, k, p, w, s))
     }
 
     /// The part of the curve from `lo` to `hi`.
@@ -270,13 +270,12 @@ impl<'a> Curve<'a> {
     /// # Ok::<(), tasulogi::Refusal>(())
     /// ```
     pub fn trim(&self, lo: f64, hi: f64) -> Result<CurveBuf, Refusal> {
-        let formed = self.validate().ok().map(|()| {
-            let below = |x: f64| self.knots.iter().filter(|k| **k < x).count();
-            let [a, b] = [lo, hi].map(|x| (self.degree + 1).saturating_sub(self.times(x)));
-            let count = (below(hi) + a).saturating_sub(below(lo));
-            Formed { degree: self.degree, count, most: self.count() + a + b }
+        // Each end is inserted at most degree + 1 times, and the cut is a part of that.
+        let lent = self.validate().ok().map(|()| {
+            let points = self.count() + 2 * (self.degree + 1);
+            Room { degree: self.degree, points, most: points }
         });
-        self.edit(formed, |k, p, w, s| face::trim(self, lo, hi, k, p, w, s))
+        self.edit(lent, |k, p, w, s| face::trim(self, lo, hi, k, p, w, s))
     }
 
     /// The same curve with a higher degree, or a copy where it is the curve's own.
@@ -294,37 +293,32 @@ impl<'a> Curve<'a> {
     pub fn elevate_degree(&self, raised: usize) -> Result<CurveBuf, Refusal> {
         let p = self.degree;
         // For other degrees nothing is formed.
-        let formed = (self.validate().is_ok() && (raised == p || p < raised && raised <= 64)).then(|| {
-            let mut inner: Vec<f64> = self.knots[p..=self.count()].to_vec();
-            inner.retain(|k| *k > self.knots[p] && *k < self.knots[self.count()]);
-            let full = inner.windows(p + 1).filter(|run| run[0] == run[p]).count();
-            inner.dedup();
-            let (b, segments) = (inner.len(), inner.len() + 1);
-            let count = if raised == p { self.count() } else { (raised + 1) * segments - b + full };
-            Formed { degree: raised, count, most: (p + 1) * segments }
+        let lent = (self.validate().is_ok() && (raised == p || p < raised && raised <= 64)).then(|| {
+            let segments = self.knots[p..=self.count()].windows(2).filter(|k| k[0] < k[1]).count();
+            let points = if raised == p { self.count() } else { (raised + 1) * segments };
+            Room { degree: raised, points, most: (p + 1) * segments }
         });
-        self.edit(formed, |k, p, w, s| face::elevate_degree(self, raised, k, p, w, s))
+        self.edit(lent, |k, p, w, s| face::elevate_degree(self, raised, k, p, w, s))
     }
 
     fn count(&self) -> usize {
         self.points.len() / 3
     }
 
-    fn times(&self, x: f64) -> usize {
-        self.knots.iter().filter(|k| **k == x).count()
-    }
-
-    /// Lends what the edit needs; nothing where the call refuses before it looks at what was lent.
-    fn edit<F>(&self, formed: Option<Formed>, call: F) -> Result<CurveBuf, Refusal>
+    /// Lends what the edit needs, nothing where the call refuses before it looks at what was lent; and keeps as many
+    /// points as the call says.
+    fn edit<F>(&self, lent: Option<Room>, call: F) -> Result<CurveBuf, Refusal>
     where
-        F: FnOnce(&mut [f64], &mut [f64], &mut [f64], &mut [f64]) -> u32,
+        F: FnOnce(&mut [f64], &mut [f64], &mut [f64], &mut [f64]) -> u64,
     {
-        let (mut out, mut scratch) = match formed {
-            Some(f) => (CurveBuf::room(f.degree, f.count, self.weights.is_some())?, room(10 * f.most + 2 * (self.degree + 1))?),
+        let (mut out, mut scratch) = match lent {
+            Some(r) => (CurveBuf::room(r.degree, r.points, self.weights.is_some())?, room(10 * r.most + 2 * (self.degree + 1))?),
             None => (CurveBuf { degree: 0, knots: vec![], points: vec![], weights: None }, vec![]),
         };
         let weights = out.weights.as_deref_mut().unwrap_or_default();
-        done(call(&mut out.knots, &mut out.points, weights, &mut scratch))?;
+        let returned = call(&mut out.knots, &mut out.points, weights, &mut scratch);
+        done(returned as u32)?;
+        out.keep((returned >> 32) as usize);
         Ok(out)
     }
 }
@@ -361,5 +355,14 @@ impl CurveBuf {
     fn room(degree: usize, count: usize, rational: bool) -> Result<Self, Refusal> {
         let weights = if rational { Some(room(count)?) } else { None };
         Ok(Self { degree, knots: room(count + degree + 1)?, points: room(3 * count)?, weights })
+    }
+
+    /// The front that has `count` points.
+    fn keep(&mut self, count: usize) {
+        self.knots.truncate(count + self.degree + 1);
+        self.points.truncate(3 * count);
+        if let Some(weights) = &mut self.weights {
+            weights.truncate(count);
+        }
     }
 }

@@ -91,9 +91,9 @@ calls! {
     fn eval2_many = "tasulogi_eval2_many"() reads ts marks numbers lends rows;
     fn bound_spans = "tasulogi_bound_spans"() marks spans lends boxes -> u64;
     fn reversed = "tasulogi_reversed"() lends knots, points, weights;
-    fn insert_knots = "tasulogi_insert_knots"() reads inserted lends knots, points, weights, scratch;
-    fn trim = "tasulogi_trim"(lo: f64, hi: f64) lends knots, points, weights, scratch;
-    fn elevate_degree = "tasulogi_elevate_degree"(raised: usize) lends knots, points, weights, scratch;
+    fn insert_knots = "tasulogi_insert_knots"() reads inserted lends knots, points, weights, scratch -> u64;
+    fn trim = "tasulogi_trim"(lo: f64, hi: f64) lends knots, points, weights, scratch -> u64;
+    fn elevate_degree = "tasulogi_elevate_degree"(raised: usize) lends knots, points, weights, scratch -> u64;
 }
 
 calls! {

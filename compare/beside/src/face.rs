@@ -16,18 +16,7 @@ unsafe extern "C" {
 
     pub fn tasulogi_find_span(degree: usize, count: usize, knots: *const f64, knots_n: usize, u: f64) -> u64;
     pub fn tasulogi_next_span(degree: usize, count: usize, knots: *const f64, knots_n: usize, from: usize) -> usize;
-    pub fn tasulogi_span_of(degree: usize, count: usize, u: f64, knots: *const f64, knots_n: usize) -> usize;
     pub fn tasulogi_clamp(degree: usize, count: usize, u: f64, knots: *const f64, knots_n: usize) -> f64;
-    pub fn tasulogi_basis_derivatives(
-        span: usize,
-        u: f64,
-        degree: usize,
-        n: usize,
-        knots: *const f64,
-        knots_n: usize,
-        out: *mut f64,
-        out_n: usize,
-    );
 }
 
 /// What a function answers where it does not say.
@@ -94,15 +83,14 @@ exported! {
     fn tasulogi_curve_refusal();
     fn tasulogi_bound_curve(lo: f64, hi: f64) lends out;
     fn tasulogi_eval(t: f64) lends out;
-    fn tasulogi_eval_at(t: f64) lends out;
     fn tasulogi_eval2(t: f64) lends out;
     fn tasulogi_eval_many() reads ts marks numbers lends rows;
     fn tasulogi_eval2_many() reads ts marks numbers lends rows;
     fn tasulogi_bound_spans() marks spans lends boxes -> u64;
     fn tasulogi_reversed() lends knots, points, weights;
-    fn tasulogi_insert_knots() reads inserted lends knots, points, weights, scratch;
-    fn tasulogi_trim(lo: f64, hi: f64) lends knots, points, weights, scratch;
-    fn tasulogi_elevate_degree(raised: usize) lends knots, points, weights, scratch;
+    fn tasulogi_insert_knots() reads inserted lends knots, points, weights, scratch -> u64;
+    fn tasulogi_trim(lo: f64, hi: f64) lends knots, points, weights, scratch -> u64;
+    fn tasulogi_elevate_degree(raised: usize) lends knots, points, weights, scratch -> u64;
 }
 
 exported! {

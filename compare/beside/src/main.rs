@@ -5,6 +5,7 @@ mod fraction;
 mod lent;
 mod modules;
 mod rng;
+mod steps;
 mod tables;
 mod tally;
 

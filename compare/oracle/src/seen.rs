@@ -1,5 +1,5 @@
 //! What docs/DIFFERENCES.md says that the published Rust was seen to do, asked of it again.
-use crate::{BCurve, BSurface, ParamRange, Point3, bound_curve, number};
+use crate::{BCurve, BSurface, ParamRange, Point3, basis_derivatives, bound_curve, number};
 
 const T: f64 = f64::from_bits(1);
 const MAX: f64 = f64::MAX;
@@ -56,6 +56,10 @@ pub fn seen() -> Vec<(&'static str, bool)> {
             broken.eval(1.0).point.x == 5.0 && bound_curve(&broken, at(1.0, 1.0)).is_ok_and(|b| b.point[0].hi() < 1.1)
         }),
         ("usize::MAX by 0 points: u 3", number(&overflow) == 3),
+        ("the basis at a span of degree - 1", basis_derivatives(0, 0.5, 1, 0, &[0.0, 1.0]) == [[0.5, 0.5]]),
+        ("the basis and orders to 3", {
+            basis_derivatives(1, 0.5, 1, 3, &unit) == [[0.5, 0.5], [-1.0, 1.0], [0.0, 0.0], [0.0, 0.0]]
+        }),
         ("eval of NaN and of infinity", far.eval(f64::NAN).point.x.is_nan() && broken.eval(f64::INFINITY).point.x == 6.0),
     ]
 }

@@ -40,11 +40,11 @@ module _ (p n : ℕ) (ks : List Float) (l : p < n) (s : n ≤ 1048576) where
       let y : b + 1 ≤ 1048576 = omega (arith, breaks-small) in
       mul-le-mul x y
 
-  pub raised-small : (e : ℕ) → ((e ≡ p → ⊥) → e ≤ 64) → (elevatedCount p e n ks ≤ 1099511627776) × (e ≤ 1048576)
+  pub raised-small : (e : ℕ) → ((e ≡ p → ⊥) → e ≤ 64) → (elevatedCount p e n ks ≤ 68157440) × (e ≤ 1048576)
   unfolding elevatedCount raisedCount
   raised-small e h = go (eqb e p) refl
     where
-      go : (x : Bool) → eqb e p ≡ x → (elevatedCount p e n ks ≤ 1099511627776) × (e ≤ 1048576)
+      go : (x : Bool) → eqb e p ≡ x → (elevatedCount p e n ks ≤ 68157440) × (e ≤ 1048576)
       go true E = let q = eqb-true e p E in (simp E (omega arith), omega arith)
       go false E =
           let u = h (eqb-false e p E) in

@@ -14,7 +14,7 @@ use Rattle.interval.specs.Ops.{containsOf, signOf}
 use Rattle.exports.specs.declared.operands.Both.{Both}
 use Rattle.exports.specs.declared.operands.Both.the-variants.{Are, Nothing as Neither}
 use Rattle.exports.specs.Answer.{Answer, refused, Leaves}
-use Rattle.exports.specs.Intervals.{ends, onNew, onBoth, bothOf, quotientOf, insideNumber, signNumber, signCase}
+use Rattle.exports.specs.Intervals.{no-interval, ends, newAnswer, onNew, onBoth, bothOf, quotientAnswer, insideNumber, signNumber, signCase}
 use Rattle.exports.proofs.Put.{leaves-by}
 
 pub both-are : {n m : New} {a b : Interval} → n ≡ Made a → m ≡ Made b → Are a b ≡ bothOf n m
@@ -36,18 +36,21 @@ module _ {before after : List Float} {r : ℕ} where
   pub on-new : {n : New} {a : Interval} (f : Interval → Answer) → n ≡ Made a → Leaves (f a) before after r → Leaves (onNew n f) before after r
   on-new f e = leaves-by (sym (ap (λ (k : New). onNew k f) e))
 
-  pub no-new : {n : New} (f : Interval → Answer) → n ≡ Nothing → Leaves (refused 99) before after r → Leaves (onNew n f) before after r
+  pub no-new : {n : New} (f : Interval → Answer) → n ≡ Nothing → Leaves (refused no-interval) before after r → Leaves (onNew n f) before after r
   no-new f e = leaves-by (sym (ap (λ (k : New). onNew k f) e))
 
   pub on-both : {p : Both} {a b : Interval} (f : Interval → Interval → Answer) → p ≡ Are a b → Leaves (f a b) before after r → Leaves (onBoth p f) before after r
   on-both f e = leaves-by (sym (ap (λ (k : Both). onBoth k f) e))
 
-  pub no-both : {p : Both} (f : Interval → Interval → Answer) → p ≡ Neither → Leaves (refused 99) before after r → Leaves (onBoth p f) before after r
+  pub no-both : {p : Both} (f : Interval → Interval → Answer) → p ≡ Neither → Leaves (refused no-interval) before after r → Leaves (onBoth p f) before after r
   no-both f e = leaves-by (sym (ap (λ (k : Both). onBoth k f) e))
 
   -- the ends that were put are those of the operation's result
   pub ends-of : {i j : Interval} → i ≡ j → Leaves (ends i) before after r → Leaves (ends j) before after r
   ends-of e = leaves-by (ap ends e)
 
-  pub quotient-of : {q s : Quotient} → q ≡ s → Leaves (quotientOf s) before after r → Leaves (quotientOf q) before after r
-  quotient-of e = leaves-by (sym (ap quotientOf e))
+  pub new-of : {n m : New} → n ≡ m → Leaves (newAnswer m) before after r → Leaves (newAnswer n) before after r
+  new-of e = leaves-by (sym (ap newAnswer e))
+
+  pub quotient-of : {q s : Quotient} → q ≡ s → Leaves (quotientAnswer s) before after r → Leaves (quotientAnswer q) before after r
+  quotient-of e = leaves-by (sym (ap quotientAnswer e))

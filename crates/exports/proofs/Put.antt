@@ -1,6 +1,7 @@
 -- From a cleared run to what an answer leaves: too short, one store, two stores; and an answer known by another name.
 -- Assumes nothing.
 use Prim.Native.Nat.{ℕ, zero, suc, _≤_, _<_}
+use native.Mathlib.Omega.{arith}
 use native.Mathlib.Nat.{not-suc-le-zero, le-of-suc-le-suc}
 use mathlib.Core.Path.{_≡_, refl, sym, _∙_, ap, subst}
 use mathlib.Core.Bool.{Bool, cond}
@@ -9,8 +10,11 @@ use borrow.Author.Tests.{lt-ltb, le-ltb}
 use lib.ListN.{length, set, drop, replicate, length-replicate}
 use lib.Ieee.{Float, binary64, ofBits}
 use Rattle.knots.specs.Clear.{zeros}
+use Rattle.knots.specs.Refusal.{accepted}
+use Rattle.knots.specs.declared.refusal.Refusal.{Refusal}
 use Rattle.doubles.specs.Value.{zero+}
-use Rattle.exports.specs.Answer.{Answer, values, run, Leaves}
+use Rattle.exports.specs.Tables.{packedOf}
+use Rattle.exports.specs.Answer.{Answer, refused, values, answerBy, told, run, Leaves}
 
 pub leaves-by : {a b : Answer} {before after : List Float} {r : ℕ} → a ≡ b → Leaves a before after r → Leaves b before after r
 leaves-by {before = before} {after = after} {r = r} e = subst (λ (a : Answer). Leaves a before after r) e
@@ -55,3 +59,17 @@ leaves-two x y before cleared e room =
     let fits = subst (λ (n : ℕ). 2 ≤ n) (kept before cleared e) room in
     leaves-long (x ∷ y ∷ []) before (set (set cleared 0 x) 1 y) fits
     (ap (λ (l : List Float). set (set l 0 x) 1 y) e ∙ stored-two (length before) zero+ x y fits)
+
+-- ---- an answer by its refusal and its values
+module _ {before after : List Float} {n : ℕ} where
+  pub told-values : (xs : List Float) → Leaves (values xs) before after n → Leaves (told accepted xs) before after n
+  unfolding packedOf
+  told-values xs l = l
+
+  -- a refusal has no values
+  by-number : (k : ℕ) → Leaves (refused k) before after n → Leaves (answerBy k []) before after n
+  by-number zero l = subst (λ (r : ℕ). Leaves (values []) before after r) (sym (l .returned)) (leaves-long [] before after (omega arith) (l .left))
+  by-number (suc k) l = l
+
+  pub told-refused : (r : Refusal) {k : ℕ} → k ≡ packedOf r → Leaves (refused k) before after n → Leaves (told r []) before after n
+  told-refused r e l = by-number (packedOf r) (leaves-by (ap refused e) l)

@@ -1,5 +1,5 @@
 -- What an exported call answers, and from that the number it returns and the run it leaves. Definitions only.
-use Prim.Native.Nat.{ℕ}
+use Prim.Native.Nat.{ℕ, zero, suc}
 use mathlib.Core.Bool.{cond}
 use mathlib.Core.Path.{_≡_}
 use mathlib.Core.List.{List, _++_}
@@ -7,16 +7,28 @@ use lib.ListN.{length, drop}
 use lib.Dec.{ltb}
 use lib.Ieee.{Float}
 use Rattle.knots.specs.Clear.{zeros}
+use Rattle.knots.specs.Refusal.{row, too-long}
+use Rattle.knots.specs.declared.refusal.Refusal.{Refusal}
+use Rattle.exports.specs.Tables.{packedOf}
 
 -- a refusal with its number, or doubles for the front of the lent run
 pub data Answer : Type 0 where
   refused : ℕ → Answer
   values : List Float → Answer
 
+-- by a number: 0 is no refusal
+abbrev pub answerBy : ℕ → List Float → Answer
+answerBy zero xs = values xs
+answerBy (suc k) xs = refused (suc k)
+
+-- by a refusal, packed
+abbrev pub told : Refusal → List Float → Answer
+told r xs = answerBy (packedOf r) xs
+
 -- the number returned where n doubles are lent: 30 says that the answer has no room
 abbrev pub number : Answer → ℕ → ℕ
 number (refused k) n = k
-number (values xs) n = cond (ltb n (length xs)) 30 0
+number (values xs) n = cond (ltb n (length xs)) (row too-long .0) 0
 
 -- the lent run of n doubles afterwards
 abbrev pub run : Answer → ℕ → List Float

@@ -1,9 +1,14 @@
--- The number that an edit returns: 0 where a curve is formed.
-use Prim.Native.Nat.{ℕ}
+-- The number that an edit returns. Definitions only.
+use Prim.Native.Nat.{ℕ, _+_, _*_}
+use lib.ListN.{getD}
+use Rattle.insertion.specs.Numbers.{editAnswerRefusal, editAnswerValues}
 use Rattle.insertion.specs.declared.answer.EditAnswer.{EditAnswer}
-use Rattle.insertion.specs.declared.answer.EditAnswer.the-variants.{Formed, Refused}
 use Rattle.exports.specs.Tables.{packedOf}
 
+-- how many points the formed curve has: the second of its numbers, 0 after a refusal
+abbrev pub pointsOf : EditAnswer → ℕ
+pointsOf a = getD (editAnswerValues a) 1 0
+
+-- the refusal, packed, in the low half, and the count of points in the high one
 abbrev pub editNumber : EditAnswer → ℕ
-editNumber (Formed p n) = 0
-editNumber (Refused r) = packedOf r
+editNumber a = pointsOf a * 4294967296 + packedOf (editAnswerRefusal a)

@@ -1,6 +1,6 @@
+pub mod Tables
 pub mod Answer
 pub mod Intervals
-pub mod Tables
 pub mod Boxes
 pub mod Points
 pub mod Edits

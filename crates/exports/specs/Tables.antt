@@ -2,9 +2,10 @@
 use Prim.Native.Nat.{ℕ, _+_, _*_}
 use mathlib.Core.Bool.{cond}
 use lib.Dec.{ltb, eqb}
+use lib.ListN.{getD}
+use Rattle.knots.specs.Numbers.{spanAnswerRefusal, spanAnswerValues}
 use Rattle.knots.specs.declared.refusal.Refusal.{Refusal}
 use Rattle.knots.specs.declared.span.SpanAnswer.{SpanAnswer}
-use Rattle.knots.specs.declared.span.SpanAnswer.the-variants.{Span, Refused}
 use Rattle.knots.specs.declared.walk.NextSpan.{NextSpan}
 use Rattle.knots.specs.declared.walk.NextSpan.the-variants.{At, Nothing}
 
@@ -20,9 +21,9 @@ packedOf r = cond (ltb 7 (r .number)) (r .number) (r .number + along (r .directi
 abbrev pub highOf : Refusal → ℕ
 highOf r = r .number * 4294967296
 
+-- the span in the low half, the refusal in the high one
 abbrev pub spanNumber : SpanAnswer → ℕ
-spanNumber (Span s) = s
-spanNumber (Refused r) = highOf r
+spanNumber a = highOf (spanAnswerRefusal a) + getD (spanAnswerValues a) 0 0
 
 -- the next span, or the count n where there is none
 abbrev pub nextNumber : ℕ → NextSpan → ℕ

@@ -3,6 +3,7 @@ use interval::Interval;
 use knots::clear::clear;
 ghost use mathlib.Core.Path.{_≡_};
 ghost use mathlib.Core.List.{_∷_, []};
+ghost use Rattle.interval.specs.Numbers.{endsOnto};
 ghost use Rattle.exports.specs.Answer.{Leaves, refused, values};
 
 // A refusal: the number is returned, and nothing but +0.0 is left.
@@ -27,7 +28,7 @@ pub fn put_one(out: &mut [f64], x: f64) -> u32
 
 // The two ends, low before high, then +0.0; 30 where the run has no room for both.
 pub fn put(out: &mut [f64], i: Interval) -> u32
-    ensures { λ r. ⌜ Leaves (values (i .lo ∷ i .hi ∷ [])) (now (out .entry)) (now (out .exit)) r ⌝ }
+    ensures { λ r. ⌜ Leaves (values (endsOnto i [])) (now (out .entry)) (now (out .exit)) r ⌝ }
 {
     clear(out);
     if out.len() < 2 {

@@ -12,9 +12,10 @@ ghost use mathlib.Core.Path.{_≡_};
 ghost use Prim.Native.Nat.{_+_, _<_};
 ghost use lib.ListN.{length};
 ghost use Rattle.bounds.specs.Curve.{boundOf};
+ghost use Rattle.bounds.specs.Numbers.{boundedValues};
 ghost use Rattle.bounds.specs.Surface.{surfaceOf};
 ghost use Rattle.exports.specs.Answer.{Leaves, values};
-ghost use Rattle.exports.specs.Boxes.{storedTwo, storedSix, boxOf, boundedAnswer};
+ghost use Rattle.exports.specs.Boxes.{storedTwo, storedSix, boundedAnswer};
 
 fn store(out: &mut [f64], at: usize, i: Interval)
     requires { ⌜ at + 1 < length (now out) ⌝ }
@@ -35,7 +36,7 @@ fn store_triple(out: &mut [f64], at: usize, t: Triple)
 
 // The box, then +0.0; 30 where the run has no room for it.
 fn put_box(out: &mut [f64], b: NurbsBounds) -> u32
-    ensures { λ r. ⌜ Leaves (values (boxOf b)) (now (out .entry)) (now (out .exit)) r ⌝ }
+    ensures { λ r. ⌜ Leaves (values (boundedValues (Bounded.Are b))) (now (out .entry)) (now (out .exit)) r ⌝ }
 {
     clear(out);
     if out.len() < 18 {

@@ -12,7 +12,7 @@ ghost use mathlib.Core.Path.{_≡_};
 ghost use mathlib.Core.List.{_∷_, []};
 ghost use Rattle.interval.specs.Ops.{entire, newOf, pointOf, widthOf, hullOf, sqrOf, addOf, subOf, mulOf, negOf, divideOf, signOf};
 ghost use Rattle.exports.specs.Answer.{Leaves, values};
-ghost use Rattle.exports.specs.Intervals.{ends, onNew, onBoth, bothOf, quotientOf, signNumber, insideNumber};
+ghost use Rattle.exports.specs.Intervals.{ends, newAnswer, quotientAnswer, onNew, onBoth, bothOf, signNumber, insideNumber};
 
 // What is returned where two doubles are no interval: document 01 has no number for it.
 const NO_INTERVAL: u32 = 99;
@@ -27,7 +27,7 @@ pub extern "C" fn tasulogi_interval_entire(out: &mut [f64]) -> u32
 
 #[no_mangle]
 pub extern "C" fn tasulogi_interval_new(lo: f64, hi: f64, out: &mut [f64]) -> u32
-    ensures { λ r. ⌜ Leaves (onNew (newOf lo hi) ends) (now (out .entry)) (now (out .exit)) r ⌝ }
+    ensures { λ r. ⌜ Leaves (newAnswer (newOf lo hi)) (now (out .entry)) (now (out .exit)) r ⌝ }
 {
     let n = Interval::new(lo, hi);
     match n {
@@ -165,7 +165,7 @@ pub extern "C" fn tasulogi_interval_divide(
     bh: f64,
     out: &mut [f64],
 ) -> u32
-    ensures { λ r. ⌜ Leaves (onBoth (bothOf (newOf al ah) (newOf bl bh)) (λ a b. quotientOf (divideOf a b))) (now (out .entry)) (now (out .exit)) r ⌝ }
+    ensures { λ r. ⌜ Leaves (onBoth (bothOf (newOf al ah) (newOf bl bh)) (λ a b. quotientAnswer (divideOf a b))) (now (out .entry)) (now (out .exit)) r ⌝ }
 {
     let p = pair(al, ah, bl, bh);
     match p {

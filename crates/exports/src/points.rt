@@ -1,10 +1,8 @@
 // Points with their derivatives, of curves and surfaces: three numbers for each, the point first.
 use crate::answer::refuse;
 use crate::tables::packed;
-use basis::ders::basis_derivatives;
 use evaluate::curve::CurveAnswer;
 use evaluate::curve::eval;
-use evaluate::curve::eval_at;
 use evaluate::curve2::CurveAnswer2;
 use evaluate::curve2::eval2;
 use evaluate::surface::SurfaceAnswer;
@@ -12,14 +10,15 @@ use evaluate::surface::eval_surface;
 use evaluate::vector::Vector;
 use knots::clear::clear;
 ghost use mathlib.Core.Path.{_≡_};
+ghost use mathlib.Core.List.{[]};
 ghost use Prim.Native.Nat.{_+_, _<_};
 ghost use lib.ListN.{length};
-ghost use Rattle.basis.specs.Ders.{basisTable};
-ghost use Rattle.evaluate.specs.Curve.{evalOf, evalAtOf};
+ghost use Rattle.evaluate.specs.Curve.{evalOf};
 ghost use Rattle.evaluate.specs.Curve2.{eval2Of};
 ghost use Rattle.evaluate.specs.Surface.{evalSurfaceOf};
+ghost use Rattle.evaluate.specs.Numbers.{onto};
 ghost use Rattle.exports.specs.Answer.{Leaves, values};
-ghost use Rattle.exports.specs.Points.{storedThree, twoOf, threeOf, curveAnswer, curve2Answer, surfaceAnswer};
+ghost use Rattle.exports.specs.Points.{storedThree, curveAnswer, curve2Answer, surfaceAnswer};
 
 fn store_vector(out: &mut [f64], at: usize, v: Vector)
     requires { ⌜ at + 2 < length (now out) ⌝ }
@@ -32,7 +31,7 @@ fn store_vector(out: &mut [f64], at: usize, v: Vector)
 
 // Two vectors, then +0.0; 30 where the run has no room for them.
 fn put_vectors(out: &mut [f64], a: Vector, b: Vector) -> u32
-    ensures { λ r. ⌜ Leaves (values (twoOf a b)) (now (out .entry)) (now (out .exit)) r ⌝ }
+    ensures { λ r. ⌜ Leaves (values (onto a (onto b []))) (now (out .entry)) (now (out .exit)) r ⌝ }
 {
     clear(out);
     if out.len() < 6 {
@@ -45,7 +44,7 @@ fn put_vectors(out: &mut [f64], a: Vector, b: Vector) -> u32
 
 // Three vectors, then +0.0; 30 where the run has no room for them.
 fn put_three_vectors(out: &mut [f64], a: Vector, b: Vector, c: Vector) -> u32
-    ensures { λ r. ⌜ Leaves (values (threeOf a b c)) (now (out .entry)) (now (out .exit)) r ⌝ }
+    ensures { λ r. ⌜ Leaves (values (onto a (onto b (onto c [])))) (now (out .entry)) (now (out .exit)) r ⌝ }
 {
     clear(out);
     if out.len() < 9 {
@@ -57,19 +56,14 @@ fn put_three_vectors(out: &mut [f64], a: Vector, b: Vector, c: Vector) -> u32
     0
 }
 
-// The basis functions of a span and their derivatives up to order n, in three rows of 65 numbers.
-#[no_mangle]
-pub extern "C" fn tasulogi_basis_derivatives(
-    span: usize,
-    u: f64,
-    degree: usize,
-    n: usize,
-    knots: &[f64],
-    out: &mut [f64],
-)
-    ensures { λ _. ⌜ now (out .exit) ≡ basisTable (length (now (out .entry))) degree n (now (knots .entry)) span u ⌝ }
+// A curve's point and first derivative, or the refusal.
+pub fn put_curve(out: &mut [f64], a: CurveAnswer) -> u32
+    ensures { λ r. ⌜ Leaves (curveAnswer a) (now (out .entry)) (now (out .exit)) r ⌝ }
 {
-    basis_derivatives(span, u, degree, n, knots, out);
+    match a {
+        CurveAnswer::At(d) => put_vectors(out, d.point, d.d1),
+        CurveAnswer::Refused(r) => refuse(out, packed(r)),
+    }
 }
 
 // The point and the first derivative of a curve.
@@ -85,29 +79,7 @@ pub extern "C" fn tasulogi_eval(
 ) -> u32
     ensures { λ r. ⌜ Leaves (curveAnswer (evalOf degree (now (knots .entry)) (now (points .entry)) rational (now (weights .entry)) t)) (now (out .entry)) (now (out .exit)) r ⌝ }
 {
-    match eval(degree, knots, points, rational, weights, t) {
-        CurveAnswer::At(d) => put_vectors(out, d.point, d.d1),
-        CurveAnswer::Refused(r) => refuse(out, packed(r)),
-    }
-}
-
-// The same of a curve that was validated before.
-#[no_mangle]
-pub extern "C" fn tasulogi_eval_at(
-    degree: usize,
-    knots: &[f64],
-    points: &[f64],
-    rational: bool,
-    weights: &[f64],
-    t: f64,
-    out: &mut [f64],
-) -> u32
-    ensures { λ r. ⌜ Leaves (curveAnswer (evalAtOf degree (now (knots .entry)) (now (points .entry)) rational (now (weights .entry)) t)) (now (out .entry)) (now (out .exit)) r ⌝ }
-{
-    match eval_at(degree, knots, points, rational, weights, t) {
-        CurveAnswer::At(d) => put_vectors(out, d.point, d.d1),
-        CurveAnswer::Refused(r) => refuse(out, packed(r)),
-    }
+    put_curve(out, eval(degree, knots, points, rational, weights, t))
 }
 
 // The point and two derivatives of a curve.

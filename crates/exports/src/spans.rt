@@ -3,15 +3,14 @@ use crate::tables::high;
 use knots::span::SpanAnswer;
 use knots::span::clamp;
 use knots::span::find_span;
-use knots::span::span_of;
 use knots::walk::NextSpan;
 use knots::walk::next_span;
 ghost use mathlib.Core.Path.{_≡_};
-ghost use Rattle.knots.specs.Span.{clamped, spanAnswer, SpanFound};
+ghost use Rattle.knots.specs.Span.{clamped, spanAnswer};
 ghost use Rattle.knots.specs.Walk.{nextSpan};
 ghost use Rattle.exports.specs.Tables.{spanNumber, nextNumber};
 
-// The span of a parameter, or a refusal's number in the upper 32 bits.
+// The span of a parameter in the low half, or a refusal's number in the high one.
 #[no_mangle]
 pub extern "C" fn tasulogi_find_span(degree: usize, count: usize, knots: &[f64], u: f64) -> u64
     ensures { λ r. ⌜ r ≡ spanNumber (spanAnswer degree count (now (knots .entry)) u) ⌝ }
@@ -46,12 +45,4 @@ pub extern "C" fn tasulogi_clamp(degree: usize, count: usize, u: f64, knots: &[f
     ensures { λ r. ⌜ r ≡ clamped degree count (now (knots .entry)) u ⌝ }
 {
     clamp(degree, count, u, knots)
-}
-
-// The search alone: on knots validated before, the span of a parameter of the domain.
-#[no_mangle]
-pub extern "C" fn tasulogi_span_of(degree: usize, count: usize, u: f64, knots: &[f64]) -> usize
-    ensures { λ r. ⌜ SpanFound degree count (now (knots .entry)) u r ⌝ }
-{
-    span_of(degree, count, u, knots)
 }

@@ -37,33 +37,35 @@ pub enum Wanted {
     Formed(u32),
 }
 
-/// A call of a table's row: how many numbers each run needs, and how the room for so many is chosen.
+/// A call of a table's row: how many numbers each run needs, what stands in the high half of the word that is returned
+/// where the runs are answered, and how the room for so many is chosen.
 pub struct Asked<'a> {
     pub row: usize,
     pub needs: &'a [usize],
+    pub high: usize,
     pub room: fn(&mut Rng, usize) -> usize,
 }
 
 /// Our answer in lent runs beside the wanted runs; the text of the answers where they differ.
-pub fn compared(desk: &mut Desk, asked: Asked, want: &Wanted, ours: impl FnOnce(&mut [&mut [f64]]) -> u32) -> Option<String> {
+pub fn compared(desk: &mut Desk, asked: Asked, want: &Wanted, ours: impl FnOnce(&mut [&mut [f64]]) -> u64) -> Option<String> {
     let Desk { r, lent, tally } = desk;
     let rooms: Vec<usize> = asked.needs.iter().map(|n| (asked.room)(r, *n)).collect();
     let lent = &mut lent[..rooms.len()];
     let short = rooms.iter().zip(asked.needs).any(|(a, b)| a < b);
     let none = vec![Vec::new(); rooms.len()];
-    let (number, runs) = match want {
-        Wanted::Refused(n) => (*n, &none),
+    let (word, runs) = match want {
+        Wanted::Refused(n) => (u64::from(*n), &none),
         Wanted::Formed(_) | Wanted::Runs(_) if short => (30, &none),
-        Wanted::Formed(n) => (*n, &none),
-        Wanted::Runs(runs) => (0, runs),
+        Wanted::Formed(n) => (u64::from(*n), &none),
+        Wanted::Runs(runs) => ((asked.high as u64) << 32, runs),
     };
     let mut given: Vec<&mut [f64]> = lent.iter_mut().zip(&rooms).map(|(l, n)| l.lend(r, *n)).collect();
     let got = ours(&mut given);
     let same = runs.iter().zip(lent.iter()).all(|(w, l)| l.holds(w, false) == Match::Same);
-    tally.judged(asked.row, number, got == number && same && class_agrees(got), || {
+    tally.judged(asked.row, word as u32, got == word && same && class_agrees(got as u32), || {
         let told = |words: &[u64]| format!("\n                {}", hex(words.iter().copied()));
         let want: String = runs.iter().map(|w| told(w)).collect();
         let ours: String = lent.iter().map(|l| told(&l.words())).collect();
-        format!("  lent:          {rooms:?} numbers\n  the Rust:      {number}{want}\n  ours:          {got}{ours}")
+        format!("  lent:          {rooms:?} numbers\n  the Rust:      {word:#x}{want}\n  ours:          {got:#x}{ours}")
     })
 }

@@ -62,7 +62,7 @@ fn asked(
     literal: impl FnOnce() -> String,
     exact: impl FnOnce(&mut Desk, &[u64]) -> Option<String>,
 ) -> Option<String> {
-    if let Some(text) = compared(desk, Asked { row, needs: &[BOX], room }, want, |l| ours(l[0])) {
+    if let Some(text) = compared(desk, Asked { row, needs: &[BOX], high: 0, room }, want, |l| ours(l[0]).into()) {
         return Some(format!("{}\n  Rust literal:  {}\n{text}", CALLS[row].0, literal()));
     }
     match want {

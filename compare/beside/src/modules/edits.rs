@@ -69,15 +69,19 @@ fn case(place: Place, desk: &mut Desk) -> Option<String> {
     case.table.features(&mut desk.tally.features);
     desk.tally.count(case.table.doubles().take(400).chain(&case.doubles()));
     let (want, needs) = (case.rust(), case.needs());
-    if let Wanted::Runs(runs) = &want {
-        assert!(
-            runs.iter().zip(needs).take(3).all(|(run, n)| run.len() == n),
-            "the Rust forms another number of points: {}",
-            case.literal()
-        );
-    }
+    let formed = match &want {
+        Wanted::Runs(runs) => {
+            assert!(
+                runs.iter().zip(needs).take(3).all(|(run, n)| run.len() == n),
+                "the Rust forms another number of points: {}",
+                case.literal()
+            );
+            runs[1].len() / 3
+        }
+        _ => 0,
+    };
     seen(&case, row, &want, &mut desk.tally.features[COMMON..]);
-    let text = compared(desk, Asked { row, needs: &needs, room }, &want, |l| case.ours(l))?;
+    let text = compared(desk, Asked { row, needs: &needs, high: formed, room }, &want, |l| case.ours(l))?;
     Some(format!("{}\n  Rust literal:  {}\n{text}", CALLS[row].0, case.literal()))
 }
 

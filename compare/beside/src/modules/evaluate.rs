@@ -66,7 +66,7 @@ fn asked(
     ours: impl FnOnce(&mut [&mut [f64]]) -> u32,
     literal: impl FnOnce() -> String,
 ) -> Option<String> {
-    let text = compared(desk, Asked { row, needs, room }, want, ours)?;
+    let text = compared(desk, Asked { row, needs, high: 0, room }, want, |l| ours(l).into())?;
     Some(format!("{}\n  Rust literal:  {}\n{text}", CALLS[row].0, literal()))
 }
 

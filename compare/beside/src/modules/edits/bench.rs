@@ -34,7 +34,7 @@ fn edit(call: &str, sizes: &[(&str, usize)], rounds: u32, some: impl Fn(&mut Rng
     let mut done = true;
     let ours = time(rounds, &cases, |c| {
         let mut lent = black_box(&mut runs).each_mut().map(|r| r.as_mut_slice());
-        done &= c.ours(&mut lent) == 0;
+        done &= c.ours(&mut lent) as u32 == 0;
         lent[1][3]
     });
     assert!(done, "{call} was refused");

@@ -138,7 +138,8 @@ impl Case {
         breaks
     }
 
-    pub fn ours(&self, out: &mut [&mut [f64]]) -> u32 {
+    /// The refusal in the low half, the count of points in the high one.
+    pub fn ours(&self, out: &mut [&mut [f64]]) -> u64 {
         let [knots, points, weights, scratch] = out else { unreachable!("four runs are lent") };
         match &self.edit {
             Edit::Insert(ts) => tasulogi_insert_knots(&self.table, ts, knots, points, weights, scratch),

@@ -1,9 +1,9 @@
 //! Times of the basis step by degree, and of whole evaluations by the number of points. `eval_at` is beside the Rust on
 //! a table made before; the others check the table at each call, as the Rust does in full.
 use super::calls::{CurveCase, Order, SurfaceCase};
-use crate::face::tasulogi_basis_derivatives;
 use crate::modules::timed::{Times, clamped, clamped_surface, time};
 use crate::rng::Rng;
+use crate::steps::tasulogi_step_basis_derivatives;
 use oracle::{basis_derivatives, find_span};
 use std::hint::black_box;
 
@@ -20,7 +20,7 @@ fn basis(rounds: u32, degree: usize) -> Times {
         .collect();
     let (k, n) = (c.knots.as_ptr(), c.knots.len());
     let ours = time(rounds, &cases, |&(s, u)| {
-        unsafe { tasulogi_basis_derivatives(s, u, degree, 1, k, n, black_box(&mut out).as_mut_ptr(), 195) };
+        unsafe { tasulogi_step_basis_derivatives(s, u, degree, 1, k, n, black_box(&mut out).as_mut_ptr(), 195) };
         out[0]
     });
     let alone = time(rounds, &cases, |&(s, u)| basis_derivatives(s, u, degree, 1, &c.knots)[0][0]);

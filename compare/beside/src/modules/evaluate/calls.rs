@@ -3,6 +3,7 @@ use super::{CARE, SURFACE_CARE};
 use crate::face::*;
 use crate::modules::answered::{Wanted, coordinates, point, words};
 use crate::rng::Rng;
+use crate::steps::eval_at;
 use crate::tables::{Curve, Surface, make, packed};
 use oracle::{Vec3, refusal};
 
@@ -59,7 +60,7 @@ impl CurveCase {
     pub fn ours_point(&self, order: Order, out: &mut [f64]) -> u32 {
         match order {
             Order::One => tasulogi_eval(&self.table, self.t, out),
-            Order::Validated => tasulogi_eval_at(&self.table, self.t, out),
+            Order::Validated => eval_at(&self.table, self.t, out),
             Order::Two => tasulogi_eval2(&self.table, self.t, out),
         }
     }

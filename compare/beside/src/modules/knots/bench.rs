@@ -1,8 +1,9 @@
 //! Times of find_span, its search alone, and the validation of a curve, by the number of points.
 use super::calls::{Run, our_span, span};
-use crate::face::{tasulogi_curve_refusal, tasulogi_span_of};
+use crate::face::tasulogi_curve_refusal;
 use crate::modules::timed::{Times, clamped, time};
 use crate::rng::Rng;
+use crate::steps::tasulogi_step_span_of;
 use crate::tables::Curve;
 use oracle::{BCurve, Point3, find_span};
 use std::hint::black_box;
@@ -18,7 +19,7 @@ fn spans(rounds: u32, c: &Curve, us: &[f64]) -> [Times; 2] {
     let full = time(rounds, few, |&u| span(&k, u).map_or(0.0, |s| s as f64));
     let ours = time(rounds, few, |&u| our_span(&k, u) as f64);
     let (at, n) = (c.knots.as_ptr(), c.knots.len());
-    let search = time(rounds, us, |&u| unsafe { tasulogi_span_of(DEGREE, k.count, u, at, n) } as f64);
+    let search = time(rounds, us, |&u| unsafe { tasulogi_step_span_of(DEGREE, k.count, u, at, n) } as f64);
     [Times::new("find_span", &sizes, ours, alone, Some(full)), Times::new("span_of", &sizes, search, alone, None)]
 }
 

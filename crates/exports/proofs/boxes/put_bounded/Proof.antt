@@ -1,8 +1,6 @@
-use Rattle.exports.specs.Answer.{refused}
-use Rattle.exports.specs.Boxes.{boundedAnswer}
-use Rattle.exports.proofs.Put.{leaves-by}
+use Rattle.exports.proofs.Put.{told-values, told-refused}
 use Rattle.exports.proofs.Box.{bounded-by}
-use mathlib.Core.Path.{sym, ap}
+use mathlib.Core.Path.{sym}
 use borrow.Author.Needs.{needs}
 use Rattle.exports.proofs.boxes.put_bounded.Statement.{statement}
 use Rattle.exports.proofs.boxes.put_bounded.Tie as tie
@@ -26,13 +24,13 @@ same-length : tie.Need-same-length
 same-length c = search needs
 
 returns : tie.Need-returns
-returns c = bounded-by (sym (c .before .before .before .before .before .a .given .1)) (c .before .before .put-box .ensures)
+returns c = bounded-by (sym (c .before .before .before .before .before .a .given .1)) (told-values _ (c .before .before .put-box .ensures))
 
 same-length-2 : tie.Need-same-length-2
 same-length-2 c = search needs
 
 returns-2 : tie.Need-returns-2
-returns-2 c = bounded-by (sym (c .before .before .before .before .before .before .a2 .given .1)) (leaves-by (ap refused (c .before .before .before .packed .ensures)) (c .before .before .refuse .ensures))
+returns-2 c = bounded-by (sym (c .before .before .before .before .before .before .a2 .given .1)) (told-refused _ (c .before .before .before .packed .ensures) (c .before .before .refuse .ensures))
 
 pub put-bounded-spec : {M : Type 1} → statement M
 put-bounded-spec =

@@ -1,4 +1,5 @@
-use Rattle.exports.specs.Boxes.{boxOf}
+use Rattle.bounds.specs.Numbers.{boundedValues}
+use Rattle.bounds.specs.declared.answer.Bounded.the-variants.{Are}
 use Rattle.exports.proofs.Put.{leaves-short}
 use Rattle.exports.proofs.Box.{leaves-box}
 use denote.Ref.{now}
@@ -14,7 +15,7 @@ same-length : tie.Need-same-length
 same-length c = search needs
 
 returns : tie.Need-returns
-returns c = let a = c .before .before .before .before .before .before .args in leaves-short (boxOf (a .b)) (now (a .out)) _ (c .before .before .before .clear .ensures) (omega arith)
+returns c = let a = c .before .before .before .before .before .before .args in leaves-short (boundedValues (Are (a .b))) (now (a .out)) _ (c .before .before .before .clear .ensures) (omega arith)
 
 store-triple-requires : tie.Need-store-triple-requires
 store-triple-requires c κs = search needs

@@ -1,4 +1,6 @@
+use Rattle.exports.proofs.FewPoints.{few-raised}
 use Rattle.exports.proofs.Settled.{settled-edit}
+use denote.Ref.{now}
 use borrow.Author.Needs.{needs}
 use Rattle.exports.proofs.edits.tasulogi_elevate_degree.Statement.{statement}
 use Rattle.exports.proofs.edits.tasulogi_elevate_degree.Tie as tie
@@ -11,7 +13,7 @@ elevate-degree-requires : tie.Need-elevate-degree-requires
 elevate-degree-requires c κs = search needs
 
 edit-number-requires : tie.Need-edit-number-requires
-edit-number-requires c κs = search needs
+edit-number-requires c κs = let a = c .before .before .before .before .before .before .before .before .before .before .before .before .before .before .before .before .before .before .before .before .args in few-raised (a .degree) (now (a .knots)) (now (a .points)) (a .rational) (now (a .weights)) (a .raised) (c .before .before .before .before .before .before .before .before .elevate-degree .ensures)
 
 same-length : tie.Need-same-length
 same-length c = search needs

@@ -1,4 +1,6 @@
+use Rattle.exports.proofs.FewPoints.{few-inserted}
 use Rattle.exports.proofs.Settled.{settled-edit}
+use denote.Ref.{now}
 use borrow.Author.Needs.{needs}
 use Rattle.exports.proofs.edits.tasulogi_insert_knots.Statement.{statement}
 use Rattle.exports.proofs.edits.tasulogi_insert_knots.Tie as tie
@@ -11,7 +13,7 @@ insert-knots-requires : tie.Need-insert-knots-requires
 insert-knots-requires c κs = search needs
 
 edit-number-requires : tie.Need-edit-number-requires
-edit-number-requires c κs = search needs
+edit-number-requires c κs = let a = c .before .before .before .before .before .before .before .before .before .before .before .before .before .before .before .before .before .before .before .before .before .args in few-inserted (a .degree) (now (a .knots)) (now (a .points)) (a .rational) (now (a .weights)) (now (a .inserted)) (c .before .before .before .before .before .before .before .before .insert-knots .ensures)
 
 same-length : tie.Need-same-length
 same-length c = search needs

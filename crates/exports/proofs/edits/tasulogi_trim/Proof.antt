@@ -1,4 +1,6 @@
+use Rattle.exports.proofs.FewPoints.{few-kept}
 use Rattle.exports.proofs.Settled.{settled-edit}
+use denote.Ref.{now}
 use borrow.Author.Needs.{needs}
 use Rattle.exports.proofs.edits.tasulogi_trim.Statement.{statement}
 use Rattle.exports.proofs.edits.tasulogi_trim.Tie as tie
@@ -11,7 +13,7 @@ trim-requires : tie.Need-trim-requires
 trim-requires c κs = search needs
 
 edit-number-requires : tie.Need-edit-number-requires
-edit-number-requires c κs = search needs
+edit-number-requires c κs = let a = c .before .before .before .before .before .before .before .before .before .before .before .before .before .before .before .before .before .before .before .before .args in few-kept (a .degree) (now (a .knots)) (now (a .points)) (a .rational) (now (a .weights)) (a .lo) (a .hi) (c .before .before .before .before .before .before .before .before .trim .ensures)
 
 same-length : tie.Need-same-length
 same-length c = search needs

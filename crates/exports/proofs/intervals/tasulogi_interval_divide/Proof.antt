@@ -2,7 +2,8 @@ use mathlib.Core.Path.{sym, _∙_}
 use Rattle.interval.specs.declared.Interval.{Interval}
 use Rattle.exports.proofs.Branches.{on-both, no-both, quotient-of}
 use Rattle.interval.specs.Ops.{divideOf}
-use Rattle.exports.specs.Intervals.{quotientOf}
+use Rattle.exports.specs.Intervals.{quotientAnswer}
+use Rattle.exports.specs.Tables.{packedOf}
 use borrow.Author.Needs.{needs}
 use Rattle.exports.proofs.intervals.tasulogi_interval_divide.Statement.{statement}
 use Rattle.exports.proofs.intervals.tasulogi_interval_divide.Tie as tie
@@ -44,25 +45,28 @@ same-length : tie.Need-same-length
 same-length c = search needs
 
 returns : tie.Need-returns
-returns c = on-both (λ (a b : Interval). quotientOf (divideOf a b)) (sym (c .before .before .before .before .before .before .before .before .before .before .before .pair .ensures) ∙ c .before .before .before .before .before .before .before .before .before .p .given .1) (quotient-of (sym (c .before .before .before .before .before .before .before .divide .ensures) ∙ c .before .before .before .before .before .q .given .1) (c .before .before .put .ensures))
+unfolding packedOf
+returns c = on-both (λ (a b : Interval). quotientAnswer (divideOf a b)) (sym (c .before .before .before .before .before .before .before .before .before .before .before .pair .ensures) ∙ c .before .before .before .before .before .before .before .before .before .p .given .1) (quotient-of (sym (c .before .before .before .before .before .before .before .divide .ensures) ∙ c .before .before .before .before .before .q .given .1) (c .before .before .put .ensures))
 
 same-length-2 : tie.Need-same-length-2
 same-length-2 c = search needs
 
 returns-2 : tie.Need-returns-2
-returns-2 c = on-both (λ (a b : Interval). quotientOf (divideOf a b)) (sym (c .before .before .before .before .before .before .before .before .before .before .pair .ensures) ∙ c .before .before .before .before .before .before .before .before .p .given .1) (quotient-of (sym (c .before .before .before .before .before .before .divide .ensures) ∙ c .before .before .before .before .enum-told .given .1) (c .before .before .refuse .ensures))
+unfolding packedOf
+returns-2 c = on-both (λ (a b : Interval). quotientAnswer (divideOf a b)) (sym (c .before .before .before .before .before .before .before .before .before .before .pair .ensures) ∙ c .before .before .before .before .before .before .before .before .p .given .1) (quotient-of (sym (c .before .before .before .before .before .before .divide .ensures) ∙ c .before .before .before .before .enum-told .given .1) (c .before .before .refuse .ensures))
 
 same-length-3 : tie.Need-same-length-3
 same-length-3 c = search needs
 
 returns-3 : tie.Need-returns-3
-returns-3 c = on-both (λ (a b : Interval). quotientOf (divideOf a b)) (sym (c .before .before .before .before .before .before .before .before .before .before .pair .ensures) ∙ c .before .before .before .before .before .before .before .before .p .given .1) (quotient-of (sym (c .before .before .before .before .before .before .divide .ensures) ∙ c .before .before .before .before .enum-told2 .given .1) (c .before .before .refuse2 .ensures))
+unfolding packedOf
+returns-3 c = on-both (λ (a b : Interval). quotientAnswer (divideOf a b)) (sym (c .before .before .before .before .before .before .before .before .before .before .pair .ensures) ∙ c .before .before .before .before .before .before .before .before .p .given .1) (quotient-of (sym (c .before .before .before .before .before .before .divide .ensures) ∙ c .before .before .before .before .enum-told2 .given .1) (c .before .before .refuse2 .ensures))
 
 same-length-4 : tie.Need-same-length-4
 same-length-4 c = search needs
 
 returns-4 : tie.Need-returns-4
-returns-4 c = no-both (λ (a b : Interval). quotientOf (divideOf a b)) (sym (c .before .before .before .before .before .before .pair .ensures) ∙ c .before .before .before .before .enum-told3 .given .1) (c .before .before .refuse3 .ensures)
+returns-4 c = no-both (λ (a b : Interval). quotientAnswer (divideOf a b)) (sym (c .before .before .before .before .before .before .pair .ensures) ∙ c .before .before .before .before .enum-told3 .given .1) (c .before .before .refuse3 .ensures)
 
 pub tasulogi-interval-divide-spec : {M : Type 1} → statement M
 tasulogi-interval-divide-spec =

@@ -1,6 +1,5 @@
 use mathlib.Core.Path.{sym, _∙_}
-use Rattle.exports.proofs.Branches.{on-new, no-new}
-use Rattle.exports.specs.Intervals.{ends}
+use Rattle.exports.proofs.Branches.{new-of}
 use borrow.Author.Needs.{needs}
 use Rattle.exports.proofs.intervals.tasulogi_interval_new.Statement.{statement}
 use Rattle.exports.proofs.intervals.tasulogi_interval_new.Tie as tie
@@ -24,13 +23,13 @@ same-length : tie.Need-same-length
 same-length c = search needs
 
 returns : tie.Need-returns
-returns c = on-new ends (sym (c .before .before .before .before .before .before .before .new .ensures) ∙ c .before .before .before .before .before .n .given .1) (c .before .before .put .ensures)
+returns c = new-of (sym (c .before .before .before .before .before .before .before .new .ensures) ∙ c .before .before .before .before .before .n .given .1) (c .before .before .put .ensures)
 
 same-length-2 : tie.Need-same-length-2
 same-length-2 c = search needs
 
 returns-2 : tie.Need-returns-2
-returns-2 c = no-new ends (sym (c .before .before .before .before .before .before .new .ensures) ∙ c .before .before .before .before .enum-told .given .1) (c .before .before .refuse .ensures)
+returns-2 c = new-of (sym (c .before .before .before .before .before .before .new .ensures) ∙ c .before .before .before .before .enum-told .given .1) (c .before .before .refuse .ensures)
 
 pub tasulogi-interval-new-spec : {M : Type 1} → statement M
 tasulogi-interval-new-spec =

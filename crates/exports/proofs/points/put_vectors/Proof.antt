@@ -1,4 +1,5 @@
-use Rattle.exports.specs.Points.{twoOf}
+use mathlib.Core.List.{[]}
+use Rattle.evaluate.specs.Numbers.{onto}
 use Rattle.exports.proofs.Put.{leaves-short}
 use Rattle.exports.proofs.Vectors.{leaves-vectors}
 use denote.Ref.{now}
@@ -18,7 +19,7 @@ same-length : tie.Need-same-length
 same-length c = search needs
 
 returns : tie.Need-returns
-returns c = let a = c .before .before .before .before .before .before .args in leaves-short (twoOf (a .a) (a .b)) (now (a .out)) _ (c .before .before .before .clear .ensures) (omega arith)
+returns c = let a = c .before .before .before .before .before .before .args in leaves-short (onto (a .a) (onto (a .b) [])) (now (a .out)) _ (c .before .before .before .clear .ensures) (omega arith)
 
 store-vector-requires : tie.Need-store-vector-requires
 store-vector-requires c κs = search needs

@@ -1,6 +1,5 @@
-use Rattle.exports.specs.Answer.{refused}
 use Rattle.exports.specs.Points.{curve2Answer}
-use Rattle.exports.proofs.Put.{leaves-by}
+use Rattle.exports.proofs.Put.{leaves-by, told-values, told-refused}
 use mathlib.Core.Path.{sym, _∙_, ap}
 use borrow.Author.Needs.{needs}
 use Rattle.exports.proofs.points.tasulogi_eval2.Statement.{statement}
@@ -34,13 +33,13 @@ same-length : tie.Need-same-length
 same-length c = search needs
 
 returns : tie.Need-returns
-returns c = leaves-by (ap curve2Answer (sym (c .before .before .before .before .before .d .given .1) ∙ c .before .before .before .before .before .before .before .eval2 .ensures)) (c .before .before .put-three-vectors .ensures)
+returns c = leaves-by (ap curve2Answer (sym (c .before .before .before .before .before .d .given .1) ∙ c .before .before .before .before .before .before .before .eval2 .ensures)) (told-values _ (c .before .before .put-three-vectors .ensures))
 
 same-length-2 : tie.Need-same-length-2
 same-length-2 c = search needs
 
 returns-2 : tie.Need-returns-2
-returns-2 c = leaves-by (ap curve2Answer (sym (c .before .before .before .before .before .before .r .given .1) ∙ c .before .before .before .before .before .before .before .before .eval2 .ensures)) (leaves-by (ap refused (c .before .before .before .packed .ensures)) (c .before .before .refuse .ensures))
+returns-2 c = leaves-by (ap curve2Answer (sym (c .before .before .before .before .before .before .r .given .1) ∙ c .before .before .before .before .before .before .before .before .eval2 .ensures)) (told-refused _ (c .before .before .before .packed .ensures) (c .before .before .refuse .ensures))
 
 pub tasulogi-eval2-spec : {M : Type 1} → statement M
 tasulogi-eval2-spec =

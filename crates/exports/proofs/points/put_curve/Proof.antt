@@ -1,0 +1,47 @@
+use Rattle.exports.specs.Points.{curveAnswer}
+use Rattle.exports.proofs.Put.{leaves-by, told-values, told-refused}
+use mathlib.Core.Path.{sym, ap}
+use borrow.Author.Needs.{needs}
+use Rattle.exports.proofs.points.put_curve.Statement.{statement}
+use Rattle.exports.proofs.points.put_curve.Tie as tie
+
+enum-known-a : tie.Need-enum-known-a
+enum-known-a c = search needs
+
+put-vectors-requires : tie.Need-put-vectors-requires
+put-vectors-requires c κs = search needs
+
+enum-known-a-2 : tie.Need-enum-known-a-2
+enum-known-a-2 c = search needs
+
+packed-requires : tie.Need-packed-requires
+packed-requires c κs = search needs
+
+refuse-requires : tie.Need-refuse-requires
+refuse-requires c κs = search needs
+
+same-length : tie.Need-same-length
+same-length c = search needs
+
+returns : tie.Need-returns
+returns c = leaves-by (ap curveAnswer (sym (c .before .before .before .before .before .a .given .1))) (told-values _ (c .before .before .put-vectors .ensures))
+
+same-length-2 : tie.Need-same-length-2
+same-length-2 c = search needs
+
+returns-2 : tie.Need-returns-2
+returns-2 c = leaves-by (ap curveAnswer (sym (c .before .before .before .before .before .before .a2 .given .1))) (told-refused _ (c .before .before .before .packed .ensures) (c .before .before .refuse .ensures))
+
+pub put-curve-spec : {M : Type 1} → statement M
+put-curve-spec =
+    tie.close
+    (tie.spec
+    enum-known-a
+    put-vectors-requires
+    enum-known-a-2
+    packed-requires
+    refuse-requires
+    same-length
+    returns
+    same-length-2
+    returns-2)
