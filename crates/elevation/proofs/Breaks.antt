@@ -41,7 +41,7 @@ abbrev pub Rising : List Float → Type 0
 Rising [] = Unit
 Rising (t ∷ ts) = Each (λ u. lt t u ≡ true) ts × Rising ts
 
-each-zip : (P Q : Float → Type 0) (ts : List Float) → Each P ts → Each Q ts → Each (λ t. P t × Q t) ts
+pub each-zip : (P Q : Float → Type 0) (ts : List Float) → Each P ts → Each Q ts → Each (λ t. P t × Q t) ts
 each-zip P Q [] a b = tt
 each-zip P Q (t ∷ ts) a b = ((a .0, b .0), each-zip P Q ts (a .1) (b .1))
 
@@ -109,7 +109,7 @@ missing-count : (f : Float → Bool) (p : ℕ) (ks : List Float) (t : Float) (ts
 unfolding missingAll
 missing-count f p ks t ts = count-append f (replicate (p + 1 - multiplicityOf ks t) t) (missingAll p ks ts) ∙ ap (λ (m : ℕ). m + countIn f (missingAll p ks ts)) (count-replicate f (p + 1 - multiplicityOf ks t) t)
 
-count-none-in : (f : Float → Bool) (ts : List Float) → Each (λ t. f t ≡ false) ts → countIn f ts ≡ 0
+pub count-none-in : (f : Float → Bool) (ts : List Float) → Each (λ t. f t ≡ false) ts → countIn f ts ≡ 0
 unfolding countIn
 count-none-in f [] h = refl
 count-none-in f (t ∷ ts) h = let z : bit (f t) ≡ 0 = ap bit (h .0) in omega (arith, count-none-in f ts (h .1))

@@ -16,3 +16,9 @@ pub mod RaisedCurve
 pub mod RaisedInto
 pub mod Outcomes
 pub mod Textbook
+pub mod Joints
+pub mod Stands
+pub mod Full
+pub mod Spans
+pub mod RaisedKnots
+pub mod Same
