@@ -4,8 +4,10 @@ use crate::refusal::Refusal;
 use crate::refusal::refuse;
 use interval::float::is_finite;
 ghost use mathlib.Core.Path.{_≡_};
+ghost use mathlib.Core.Bool.{not};
 ghost use Prim.Native.Nat.{_+_, _≤_};
 ghost use lib.ListN.{length};
+ghost use lib.Ieee.{le};
 ghost use Rattle.knots.specs.Knots.{allFinite, inOrder, ordered, apart, orderRefusal, knotRefusal};
 
 // No number of the run is a NaN or an infinity.
@@ -46,6 +48,13 @@ pub fn is_ordered(xs: &[f64]) -> bool
     if all_finite(xs) { in_order(xs) } else { false }
 }
 
+// a is not at least b, as numbers: -0.0 and 0.0 are one knot. True where one is a NaN.
+fn is_below(a: f64, b: f64) -> bool
+    ensures { λ r. ⌜ r ≡ not (le b a) ⌝ }
+{
+    !(a >= b)
+}
+
 // What refusal 7 asks, with a gap of degree + 1: of two knots so far apart the earlier is below the later.
 fn apart_by(xs: &[f64], gap: usize) -> bool
     requires { ⌜ gap ≤ length (now xs) ⌝ }
@@ -55,7 +64,7 @@ fn apart_by(xs: &[f64], gap: usize) -> bool
     let mut fine = true;
     let mut i = 0usize;
     while i < end {
-        fine = fine & !(xs[i] >= xs[i + gap]);
+        fine = fine & is_below(xs[i], xs[i + gap]);
         i += 1;
     }
     fine

@@ -65,7 +65,7 @@ returns-2 c =
     let y = cleared-length _ (length (now (a .out-points))) (c .before .before .before .before .before .before .before .before .before .before .before .before .before .before .before .before .before .before .before .before .before .before .before .before .before .before .before .before .before .before .before .clear-three .ensures .1) in
     let z = cleared-length _ (length (now (a .out-weights))) (c .before .before .before .before .before .before .before .before .before .before .before .before .before .before .before .before .before .before .before .before .before .before .before .before .before .before .before .before .before .before .before .clear-three .ensures .2) in
     let k = c .before .before .before .before .before .before .clear-three2 .ensures in
-    reverse-unformed (a .degree) (now (a .knots)) (now (a .points)) (a .rational) (now (a .weights)) (length (now (a .out-knots))) (length (now (a .out-points))) (length (now (a .out-weights))) _ _ (c .before .before .before .before .before .before .before .before .before .before .before .before .before .before .before .before .before .before .before .before .before .before .before .before .reverse-start .ensures) (c .before .before .before .before .before .before .before .before .before .before .before .before .before .before .before .before .before .before .before .before .before .before .if1 .left) _ _ _ (resized (a .degree) (now (a .knots)) (now (a .points)) (a .rational) (now (a .weights)) (length (now (a .out-knots))) (length (now (a .out-points))) (length (now (a .out-weights))) _ _ _ _ _ _ _ x y z (c .before .before .before .before .before .before .before .before .before .before .before .before .before .before .before .before .before .before .reverse-into .ensures)) (c .before .before .before .before .before .before .before .before .before .before .if2 .taken) _ _ _
+    reverse-unformed (a .degree) (now (a .knots)) (now (a .points)) (a .rational) (now (a .weights)) (length (now (a .out-knots))) (length (now (a .out-points))) (length (now (a .out-weights))) _ _ (c .before .before .before .before .before .before .before .before .before .before .before .before .before .before .before .before .before .before .before .before .before .before .before .before .reverse-start .ensures) (c .before .before .before .before .before .before .before .before .before .before .before .before .before .before .before .before .before .before .before .before .before .before .if1 .left) _ _ _ (resized (a .degree) (now (a .knots)) (now (a .points)) (a .rational) (now (a .weights)) (length (now (a .out-knots))) (length (now (a .out-points))) (length (now (a .out-weights))) _ _ _ _ _ _ _ x y z (c .before .before .before .before .before .before .before .before .before .before .before .before .before .before .before .before .before .before .reverse-into .ensures)) (λ e. let t = c .before .before .before .before .before .before .before .before .before .before .if2 .taken in omega arith) _ _ _
     (k .0 ∙ ap zeros (c .before .before .before .before .before .before .before .before .before .before .before .before .before .before .before .before .before .out-knots2 .given ∙ x)) (k .1 ∙ ap zeros (c .before .before .before .before .before .before .before .before .before .before .before .before .before .before .before .out-points2 .given ∙ y)) (k .2 ∙ ap zeros (c .before .before .before .before .before .before .before .before .before .before .before .before .before .out-weights2 .given ∙ z))
 
 same-length-7 : tie.Need-same-length-7
@@ -83,7 +83,7 @@ returns-3 c =
     let x = cleared-length _ (length (now (a .out-knots))) (c .before .before .before .before .before .before .before .before .before .before .before .before .before .before .before .before .before .before .before .before .before .clear-three .ensures .0) in
     let y = cleared-length _ (length (now (a .out-points))) (c .before .before .before .before .before .before .before .before .before .before .before .before .before .before .before .before .before .before .before .before .before .clear-three .ensures .1) in
     let z = cleared-length _ (length (now (a .out-weights))) (c .before .before .before .before .before .before .before .before .before .before .before .before .before .before .before .before .before .before .before .before .before .clear-three .ensures .2) in
-    reverse-answered (a .degree) (now (a .knots)) (now (a .points)) (a .rational) (now (a .weights)) (length (now (a .out-knots))) (length (now (a .out-points))) (length (now (a .out-weights))) _ _ (c .before .before .before .before .before .before .before .before .before .before .before .before .before .before .reverse-start .ensures) (c .before .before .before .before .before .before .before .before .before .before .before .before .if1 .left) _ _ _ (resized (a .degree) (now (a .knots)) (now (a .points)) (a .rational) (now (a .weights)) (length (now (a .out-knots))) (length (now (a .out-points))) (length (now (a .out-weights))) _ _ _ _ _ _ _ x y z (c .before .before .before .before .before .before .before .before .reverse-into .ensures)) (c .if2 .left)
+    reverse-answered (a .degree) (now (a .knots)) (now (a .points)) (a .rational) (now (a .weights)) (length (now (a .out-knots))) (length (now (a .out-points))) (length (now (a .out-weights))) _ _ (c .before .before .before .before .before .before .before .before .before .before .before .before .before .before .reverse-start .ensures) (c .before .before .before .before .before .before .before .before .before .before .before .before .if1 .left) _ _ _ (resized (a .degree) (now (a .knots)) (now (a .points)) (a .rational) (now (a .weights)) (length (now (a .out-knots))) (length (now (a .out-points))) (length (now (a .out-weights))) _ _ _ _ _ _ _ x y z (c .before .before .before .before .before .before .before .before .reverse-into .ensures)) (let t = c .if2 .left in omega arith)
 
 pub reversed-spec : {M : Type 1} → statement M
 reversed-spec =

@@ -26,20 +26,23 @@ loop-holds : tie.Need-loop-holds Inv-loop μ-loop
 unfolding allBelow
 loop-holds c = search needs
 
-mul-fine : tie.Need-mul-fine Inv-loop μ-loop
-mul-fine c = search needs
+mul-is-below : tie.Need-mul-is-below Inv-loop μ-loop
+mul-is-below c = search needs
 
-shared-slice-read-fine : tie.Need-shared-slice-read-fine Inv-loop μ-loop
-shared-slice-read-fine c = search needs
+shared-slice-read-is-below : tie.Need-shared-slice-read-is-below Inv-loop μ-loop
+shared-slice-read-is-below c = search needs
 
-add-fine : tie.Need-add-fine Inv-loop μ-loop
-add-fine c = search needs
+add-is-below : tie.Need-add-is-below Inv-loop μ-loop
+add-is-below c = search needs
 
-mul-fine-2 : tie.Need-mul-fine-2 Inv-loop μ-loop
-mul-fine-2 c = search needs
+mul-is-below-2 : tie.Need-mul-is-below-2 Inv-loop μ-loop
+mul-is-below-2 c = search needs
 
-shared-slice-read-fine-2 : tie.Need-shared-slice-read-fine-2 Inv-loop μ-loop
-shared-slice-read-fine-2 c = search needs
+shared-slice-read-is-below-2 : tie.Need-shared-slice-read-is-below-2 Inv-loop μ-loop
+shared-slice-read-is-below-2 c = search needs
+
+is-below-requires : tie.Need-is-below-requires Inv-loop μ-loop
+is-below-requires c κs = search needs
 
 add-i : tie.Need-add-i Inv-loop μ-loop
 add-i c = search needs
@@ -48,11 +51,24 @@ loop-less : tie.Need-loop-less Inv-loop μ-loop
 loop-less c = search needs
 
 loop-again : tie.Need-loop-again Inv-loop μ-loop
-loop-again c = let t = c .before .before .loop-test .taken in (omega arith, c .before .before .before .loop .inv .1, all-step (λ k. not (le (at (now (c .before .before .before .before .args .xs)) (k + (c .before .before .before .before .args .gap))) (at (now (c .before .before .before .before .args .xs)) k))) (c .before .before .before .loop .i) _ _ (c .before .before .before .loop .inv .2) refl)
+loop-again c =
+    let at-loop = c .before .before .before .before in
+    let xs = now (at-loop .before .before .args .xs) in
+    let gap = at-loop .before .before .args .gap in
+    let t = c .before .before .before .loop-test .taken in
+    (omega arith, at-loop .loop .inv .1, all-step (λ k. not (le (at xs (k + gap)) (at xs k))) (at-loop .loop .i) _ _ (at-loop .loop .inv .2) (c .is-below .ensures))
 
 returns : tie.Need-returns Inv-loop μ-loop
 unfolding apart
-returns c = let t = c .loop-test .left in let u = c .before .loop .inv .0 in let v = c .before .loop .inv .1 in let e : c .before .loop .i ≡ length (now (c .before .before .args .xs)) - c .before .before .args .gap = omega arith in c .before .loop .inv .2 ∙ ap (allBelow (λ k. not (le (at (now (c .before .before .args .xs)) (k + (c .before .before .args .gap))) (at (now (c .before .before .args .xs)) k)))) e
+returns c =
+    let at-loop = c .before in
+    let xs = now (at-loop .before .before .args .xs) in
+    let gap = at-loop .before .before .args .gap in
+    let t = c .loop-test .left in
+    let u = at-loop .loop .inv .0 in
+    let v = at-loop .loop .inv .1 in
+    let e : at-loop .loop .i ≡ length xs - gap = omega arith in
+    at-loop .loop .inv .2 ∙ ap (allBelow (λ k. not (le (at xs (k + gap)) (at xs k)))) e
 
 pub apart-by-spec : {M : Type 1} → statement M
 apart-by-spec =
@@ -62,11 +78,12 @@ apart-by-spec =
     μ-loop
     sub-end
     loop-holds
-    mul-fine
-    shared-slice-read-fine
-    add-fine
-    mul-fine-2
-    shared-slice-read-fine-2
+    mul-is-below
+    shared-slice-read-is-below
+    add-is-below
+    mul-is-below-2
+    shared-slice-read-is-below-2
+    is-below-requires
     add-i
     loop-less
     loop-again
