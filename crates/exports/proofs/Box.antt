@@ -2,18 +2,17 @@
 -- Assumes nothing.
 use Prim.Native.Nat.{ℕ, suc, _-_, _≤_}
 use native.Mathlib.Omega.{arith}
-use mathlib.Core.Path.{_≡_, refl, sym, _∙_, ap, subst}
+use mathlib.Core.Path.{_≡_, refl, _∙_, ap, subst}
 use mathlib.Core.List.{List, _++_}
 use lib.ListN.{length, drop, replicate}
 use lib.Ieee.{Float}
 use Rattle.knots.specs.Clear.{zeros}
 use Rattle.doubles.specs.Value.{zero+}
-use Rattle.bounds.specs.declared.answer.Triple.{Triple}
 use Rattle.bounds.specs.declared.answer.NurbsBounds.{NurbsBounds}
 use Rattle.bounds.specs.declared.answer.Bounded.{Bounded}
 use Rattle.bounds.specs.declared.answer.Bounded.the-variants.{Are}
 use Rattle.bounds.specs.Numbers.{boundedValues}
-use Rattle.exports.specs.Answer.{Answer, values, Leaves}
+use Rattle.exports.specs.Answer.{values, Leaves}
 use Rattle.exports.specs.Boxes.{storedSix, boundedAnswer}
 use Rattle.exports.proofs.Put.{leaves-by, leaves-long, kept}
 

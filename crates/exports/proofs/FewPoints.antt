@@ -28,8 +28,8 @@ formed-points p n (gives ks ps ws) = omega arith
 formed-points p n (refuses r) = omega arith
 
 -- it is enough to look at a start s that is not refused
-few : (p n : ℕ) (s : Refusal) (o : Outcome) → (s .number ≡ 0 → n < 4294967296) → pointsOf (answerOf p n (cond (eqb (s .number) 0) o (refuses s))) < 4294967296
-few p n s o h = go (eqb (s .number) 0) refl
+few : (p n : ℕ) (s : Refusal) (o : Outcome) (r : EditAnswer) → r ≡ answerOf p n (cond (eqb (s .number) 0) o (refuses s)) → (s .number ≡ 0 → n < 4294967296) → pointsOf r < 4294967296
+few p n s o r m h = subst (λ (x : EditAnswer). pointsOf x < 4294967296) (sym m) (go (eqb (s .number) 0) refl)
   where
     go : (x : Bool) → eqb (s .number) 0 ≡ x → pointsOf (answerOf p n (cond x o (refuses s))) < 4294967296
     go true e = omega (arith, h (eqb-true _ _ e), formed-points p n o)
@@ -38,18 +38,14 @@ few p n s o h = go (eqb (s .number) 0) refl
 module _ (p : ℕ) (ks ps : List Float) (g : Bool) (ws : List Float) where
   pub few-inserted : (ts : List Float) {a b c d : ℕ} {k₁ p₁ w₁ s₁ : List Float} {r : EditAnswer} → InsertMeets p ks ps g ws ts a b c d k₁ p₁ w₁ s₁ r → pointsOf r < 4294967296
   unfolding insertOutcome
-  few-inserted ts {a} {b} {c} {d} m =
-      subst (λ (x : EditAnswer). pointsOf x < 4294967296) (sym (m .answer))
-      (few p (countOf ps + length ts) (insertStart p ks ps g ws ts a b c d) _ small)
+  few-inserted ts {a} {b} {c} {d} m = few p (countOf ps + length ts) (insertStart p ks ps g ws ts a b c d) _ _ (m .answer) small
     where
       small : insertStart p ks ps g ws ts a b c d .number ≡ 0 → countOf ps + length ts < 4294967296
       small z = let o = start-open p ks ps g ws ts a b c d z in let l = o .curve .short .points in let t = o .few in omega arith
 
   pub few-kept : (lo hi : Float) {a b c d : ℕ} {k₁ p₁ w₁ s₁ : List Float} {r : EditAnswer} → TrimMeets p ks ps g ws lo hi a b c d k₁ p₁ w₁ s₁ r → pointsOf r < 4294967296
   unfolding trimOutcome keptOf
-  few-kept lo hi {a} {b} {c} {d} m =
-      subst (λ (x : EditAnswer). pointsOf x < 4294967296) (sym (m .answer))
-      (few p (keptOf p ks lo hi) (trimStart p ks ps g ws lo hi a b c d) _ small)
+  few-kept lo hi {a} {b} {c} {d} m = few p (keptOf p ks lo hi) (trimStart p ks ps g ws lo hi a b c d) _ _ (m .answer) small
     where
       small : trimStart p ks ps g ws lo hi a b c d .number ≡ 0 → keptOf p ks lo hi < 4294967296
       small z =
@@ -62,9 +58,7 @@ module _ (p : ℕ) (ks ps : List Float) (g : Bool) (ws : List Float) where
 
   pub few-raised : (e : ℕ) {a b c d : ℕ} {k₁ p₁ w₁ s₁ : List Float} {r : EditAnswer} → ElevateMeets p ks ps g ws e a b c d k₁ p₁ w₁ s₁ r → pointsOf r < 4294967296
   unfolding elevateOutcome
-  few-raised e {a} {b} {c} {d} m =
-      subst (λ (x : EditAnswer). pointsOf x < 4294967296) (sym (m .answer))
-      (few e (elevatedCount p e (countOf ps) ks) (elevateStart p ks ps g ws e a b c d) _ small)
+  few-raised e {a} {b} {c} {d} m = few e (elevatedCount p e (countOf ps) ks) (elevateStart p ks ps g ws e a b c d) _ _ (m .answer) small
     where
       small : elevateStart p ks ps g ws e a b c d .number ≡ 0 → elevatedCount p e (countOf ps) ks < 4294967296
       small z =

@@ -8,7 +8,7 @@ use mathlib.Core.Bool.{Bool, cond}
 use mathlib.Core.List.{List, [], _∷_, _++_}
 use borrow.Author.Tests.{lt-ltb, le-ltb}
 use lib.ListN.{length, set, drop, replicate, length-replicate}
-use lib.Ieee.{Float, binary64, ofBits}
+use lib.Ieee.{Float}
 use Rattle.knots.specs.Clear.{zeros}
 use Rattle.knots.specs.Refusal.{accepted}
 use Rattle.knots.specs.declared.refusal.Refusal.{Refusal}
