@@ -18,6 +18,7 @@ use Rattle.exact.specs.Spline.{Knots}
 use Rattle.exact.proofs.Local.{Near}
 use Rattle.exact.proofs.Window.{window, window-is, window-knots}
 use Rattle.doubles.specs.Run.{at, valAt}
+use Rattle.doubles.specs.Value.{val}
 use Rattle.doubles.proofs.Tests.{T-of, Tn-of}
 use Rattle.doubles.proofs.Value.{val-lt, val-le}
 use Rattle.interval.specs.Inside.{Inside}
@@ -87,10 +88,11 @@ pub record Active (p s : ℕ) (ks ps : List Float) (r : Bool) (ws : List Float) 
   pub points : (i : ℕ) → i ≤ p → FinitePoint (pointAt ps (s - p + i))
   pub heavy : (i : ℕ) → i ≤ p → Heavy r ws (s - p + i)
 
--- a range of finite ends that the span contains
+-- a range of finite ends in order that the span contains
 pub record Ranged (ks : List Float) (lo hi : Float) (s : ℕ) : Type 0 where
   pub lo-finite : T (finite lo)
   pub hi-finite : T (finite hi)
+  pub forward : val lo ≤q val hi
   pub taken : inSpan ks lo hi s ≡ true
 
 pub valid-active : {p s : ℕ} {ks ps : List Float} {r : Bool} {ws : List Float} → ValidCurve p ks ps r ws → p ≤ s → s < countOf ps → Active p s ks ps r ws
@@ -184,7 +186,7 @@ module _ (p s : ℕ) (ks ps : List Float) (r : Bool) (ws : List Float) where
       pub ranged : Ranged ks lo hi s
 
     ranged-of : (b : Bool) → inSpan ks lo hi s ≡ b → RangeValid p (countOf ps) (cond b s (countOf ps)) lo hi → Ranged ks lo hi s
-    ranged-of true e v = record { lo-finite = v .lo-finite; hi-finite = v .hi-finite; taken = e }
+    ranged-of true e v = record { lo-finite = v .lo-finite; hi-finite = v .hi-finite; forward = v .forward; taken = e }
     ranged-of false e v = absurd (v .found refl)
 
     pub started : startRefusal p s ks ps r ws lo hi .number ≡ 0 → Started

@@ -11,8 +11,8 @@ use Rattle.doubles.specs.Value.{Lower, Upper, val}
 use Rattle.exact.proofs.Field.{div-is}
 use Rattle.exact.specs.Rational.{ℚ, _+q_, _-q_, _*q_, _/q_, inv, _≤q_, _<q_}
 use Rattle.exact.specs.Spline.{quotient}
-use Rattle.interval.proofs.Contain.{point-inside, add-inside, sub-inside, mul-inside, reciprocal-inside}
-use Rattle.interval.specs.Inside.{Inside, Encloses as Divides}
+use Rattle.interval.proofs.Contain.{point-inside, add-inside, sub-inside, mul-inside, ends-ordered, Formed, reciprocal-formed}
+use Rattle.interval.specs.Inside.{Inside}
 use Rattle.interval.specs.Ops.{subOf, mulOf, newOf, reciprocalOf}
 use Rattle.interval.specs.declared.Interval.{Interval}
 use Rattle.interval.specs.declared.New.the-variants.{Made, Nothing}
@@ -26,6 +26,7 @@ use Rattle.bounds.specs.declared.cartesian.Bounds.{Bounds}
 use Rattle.bounds.specs.declared.cartesian.BoundAnswer.{BoundAnswer}
 use Rattle.bounds.specs.declared.cartesian.BoundAnswer.the-variants as B
 use Rattle.bounds.specs.Cartesian.{coordinateOf, boxBy, cutBy, cartesianOf}
+use Rattle.bounds.proofs.NetIn.{Given}
 use Rattle.bounds.proofs.WeightIn.{FinitePoint}
 use Rattle.bounds.proofs.JetIn.{JetIn}
 
@@ -49,9 +50,10 @@ pub record Encloses (b : Bounds) (X Y Z : Three) : Type 0 where
   pub y : JetIn (b .y) (Y .value) (Y .du) (Y .dv)
   pub z : JetIn (b .z) (Z .value) (Z .du) (Z .dv)
 
+-- or a refusal that is not 28 and not 29
 abbrev pub Boxes : BoundAnswer → Three → Three → Three → Type 0
 Boxes (B.Are b) X Y Z = Encloses b X Y Z
-Boxes (B.Refused n) X Y Z = Unit
+Boxes (B.Refused n) X Y Z = Given n
 
 -- the quotient of two homogeneous numbers with their derivatives, moved by o
 abbrev pub over : Three → Three → ℚ → Three
@@ -73,7 +75,7 @@ pub cartesian-in : (h : Control) (o : Point) (bound : Interval) (X Y Z W : Three
     → Inside bound (W .value) → FinitePoint o
     → Boxes (cartesianOf h o bound) (over X W (val (o .x))) (over Y W (val (o .y))) (over Z W (val (o .z)))
 unfolding cartesianOf newOf
-cartesian-in h o bound X Y Z W a b c d e f = go (le lo hi)
+cartesian-in h o bound X Y Z W a b c d e f = go (le lo hi) (ends-ordered lo hi (W .value) (cut .low) (cut .high))
   where
     lo : Float
     lo = fmax (h .w .v .lo) (bound .lo)
@@ -90,14 +92,14 @@ cartesian-in h o bound X Y Z W a b c d e f = go (le lo hi)
       high = high-either (lt (bound .hi) (h .w .v .hi) || isNan (h .w .v .hi)) (bound .hi) (h .w .v .hi) (W .value) (e .high) (d .value .high);
     }
 
-    box : (r : Quotient) → Divides r (inv (W .value)) → Boxes (boxBy h o r) (over X W (val (o .x))) (over Y W (val (o .y))) (over Z W (val (o .z)))
+    box : (r : Quotient) → Formed r (inv (W .value)) → Boxes (boxBy h o r) (over X W (val (o .x))) (over Y W (val (o .y))) (over Z W (val (o .z)))
     box (Q.Is r) k = record { x = coordinate-in (h .x) (h .w) r (o .x) a d k (f .x); y = coordinate-in (h .y) (h .w) r (o .y) b d k (f .y); z = coordinate-in (h .z) (h .w) r (o .z) c d k (f .z) }
     box Q.HoldsZero k = tt
-    box Q.Unbounded k = tt
+    box Q.Unbounded k = absurd k
 
-    go : (t : Bool) → Boxes (cutBy h o (cond t (Made w) Nothing)) (over X W (val (o .x))) (over Y W (val (o .y))) (over Z W (val (o .z)))
-    go true = box (reciprocalOf w) (reciprocal-inside w (W .value) cut)
-    go false = tt
+    go : (t : Bool) → T t → Boxes (cutBy h o (cond t (Made w) Nothing)) (over X W (val (o .x))) (over Y W (val (o .y))) (over Z W (val (o .z)))
+    go true l = box (reciprocalOf w) (reciprocal-formed w (W .value) cut)
+    go false l = absurd l
 
 pub boxes-eq : (a : BoundAnswer) (X Y Z X′ Y′ Z′ : Three) → X ≡ X′ → Y ≡ Y′ → Z ≡ Z′ → Boxes a X Y Z → Boxes a X′ Y′ Z′
 boxes-eq a X Y Z X′ Y′ Z′ e f g h = subst (λ (x : Three). Boxes a x Y′ Z′) e (subst (λ (y : Three). Boxes a X y Z′) f (subst (λ (z : Three). Boxes a X Y z) g h))

@@ -20,7 +20,8 @@ use Rattle.exact.proofs.Jets.{dwork, dexact-work}
 use Rattle.exact.proofs.Source.{work}
 use Rattle.exact.specs.Rational.{ℚ, _+q_, _-q_, _*q_, _/q_, inv, q0, q1, _≤q_, _<q_}
 use Rattle.exact.specs.Spline.{Knots, exact, whole, dexact, quotient}
-use Rattle.interval.specs.Inside.{Inside, Encloses as Divides}
+use Rattle.interval.proofs.Contain.{Formed}
+use Rattle.interval.specs.Inside.{Inside}
 use Rattle.interval.specs.Ops.{pointOf, newOf, reciprocalOf}
 use Rattle.interval.specs.declared.Interval.{Interval}
 use Rattle.interval.specs.declared.Quotient.{Quotient}
@@ -45,7 +46,7 @@ use Rattle.exact.proofs.Window.{dexact-local}
 use Rattle.bounds.specs.Curve.{rangeIs, weightsAre, spanBound, boundOf, boundAt}
 use Rattle.bounds.specs.Jet.{parameterOf}
 use Rattle.bounds.proofs.JetIn.{JetIn, in-one, in-zero}
-use Rattle.bounds.proofs.NetIn.{none, along, nowhere, net-in}
+use Rattle.bounds.proofs.NetIn.{Given, levels-given, none, along, nowhere, net-in}
 use Rattle.bounds.proofs.WeightIn.{Cut, Cuts, Largest, Least, largest, least, range-in, scale-in, bound-in, ControlIn, FinitePoint, control-in}
 use Rattle.bounds.proofs.CartesianIn.{Boxes, over, cartesian-in, boxes-eq, three-eq}
 use Rattle.bounds.proofs.SpanIn.{span-valid, in-parts, t-above, t-below, heavy-pos}
@@ -212,7 +213,7 @@ module _ (p s : ℕ) (ks ps ws : List Float) (r : Bool) (lo hi : Float) (A : Act
 
       levels-in : (j : Jet) → JetIn j t q1 q0 → (k : ℕ) → refusalLevels ks p s j 1 p ≡ k → Good (netBy (pointAt ps (s - p)) bound (lastBy k (netOf ks p s j net p p)))
       unfolding lastBy pointAt mixOf
-      levels-in j h (suc k) e = tt
+      levels-in j h (suc k) e = subst Given e (levels-given ks p s j knots (A .first) room (around-held A) t q1 q0 h 0 p (omega arith))
       levels-in j h zero e =
           boxes-eq (cartesianOf (netOf ks p s j net p p) (pointAt ps (s - p)) bound) (over (HT (H (X ps))) (HT HW) (X ps b)) (over (HT (H (Y ps))) (HT HW) (Y ps b)) (over (HT (H (Z ps))) (HT HW) (Z ps b))
           (EX (X ps)) (EX (Y ps)) (EX (Z ps)) (exact-eq (X ps)) (exact-eq (Y ps)) (exact-eq (Z ps))
@@ -223,11 +224,11 @@ module _ (p s : ℕ) (ks ps ws : List Float) (r : Bool) (lo hi : Float) (A : Act
           (run j h e (λ c. c .w) (λ α a b. refl) HW (λ m l. start-in m l .w))
           (bound-in cut wh wh-low wh-high) first-finite)
 
-    row-in : (j : Jet) → JetIn j t q1 q0 → (a : Quotient) → Divides a (inv σ) → Good (netBy (pointAt ps (s - p)) bound (rowBy ps ws r (s - p) (pointAt ps (s - p)) ks p s j a))
+    row-in : (j : Jet) → JetIn j t q1 q0 → (a : Quotient) → Formed a (inv σ) → Good (netBy (pointAt ps (s - p)) bound (rowBy ps ws r (s - p) (pointAt ps (s - p)) ks p s j a))
     unfolding deboorOf
     row-in j h (Q.Is q) k = levels-in q k j h (refusalLevels ks p s j 1 p) refl
     row-in j h Q.HoldsZero k = tt
-    row-in j h Q.Unbounded k = tt
+    row-in j h Q.Unbounded k = absurd k
 
     range-is-in : Good (rangeIs p s ks ps ws r lo hi scale bound (newOf lo hi))
     unfolding newOf rowOf
@@ -239,11 +240,11 @@ module _ (p s : ℕ) (ks ps ws : List Float) (r : Bool) (lo hi : Float) (A : Act
 
   pub span-bound-in : Good (spanBound p s ks ps ws r lo hi)
   unfolding spanBound weightsOf
-  span-bound-in = go (weightsOf w (p + 1)) (subst (λ k. Cuts (minFrom (inf false) w (suc p)) (maxFrom zero+ w (suc p)) (weightsOf w k)) (sym (add-one p)) (range-in (minFrom (inf false) w (suc p)) (maxFrom zero+ w (suc p)) (least-is .held) (most-is .held) (pos-ne σ-pos)))
+  span-bound-in = go (weightsOf w (p + 1)) (subst (λ k. Cuts (minFrom (inf false) w (suc p)) (maxFrom zero+ w (suc p)) (weightsOf w k)) (sym (add-one p)) (range-in (minFrom (inf false) w (suc p)) (maxFrom zero+ w (suc p)) (least-is .held) (most-is .held) (≤-trans wh-low wh-high)))
     where
       go : (A : Weights) → Cuts (minFrom (inf false) w (suc p)) (maxFrom zero+ w (suc p)) A → Good (weightsAre p s ks ps ws r lo hi A)
       go (W.Are scale bound) c = range-is-in scale bound c
-      go (W.Refused k) c = tt
+      go (W.Refused k) c = c
 
 -- ---- the whole answer
 
@@ -277,7 +278,7 @@ bound-holds p ks ps ws r lo hi t from upto =
     unless-in (rangeRefusal p (countOf ps) s lo hi) (boundedOf A) (e (X ps)) (e (Y ps)) (e (Z ps))
     (λ k. let l = Va .knots .count in
     let v = span-valid p (countOf ps) ks lo hi (omega arith) k in
-    boxed A (e (X ps)) (e (Y ps)) (e (Z ps)) (span-bound-in p s ks ps ws r lo hi (valid-active Va (v .span .first) (v .span .last)) (record { lo-finite = v .lo-finite; hi-finite = v .hi-finite; taken = v .span .taken }) t from upto)))
+    boxed A (e (X ps)) (e (Y ps)) (e (Z ps)) (span-bound-in p s ks ps ws r lo hi (valid-active Va (v .span .first) (v .span .last)) (record { lo-finite = v .lo-finite; hi-finite = v .hi-finite; forward = v .forward; taken = v .span .taken }) t from upto)))
 
 -- the promise on a span, from the boxes of the answer
 pub holds-on : (p s : ℕ) (ks ps ws : List Float) (r : Bool) (lo hi : Float) (A B : Bounded) → A ≡ B

@@ -8,3 +8,4 @@ pub mod SpanIn
 pub mod Active
 pub mod CurveIn
 pub mod SurfaceIn
+pub mod Idle

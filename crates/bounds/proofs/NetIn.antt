@@ -1,11 +1,11 @@
 -- De Boor's levels over jets hold the exact ones: Source.work and its derivative Jets.dwork. Assumes nothing.
 use mathlib.Core.Path.{_≡_, refl, sym, _∙_, ap, ap₂, subst}
-use mathlib.Core.Bool.{Bool, true, false, not, cond}
+use mathlib.Core.Bool.{Bool, true, false, not, _||_, cond}
 use mathlib.Core.Logic.{_≢_}
 use mathlib.Core.List.{List, [], _∷_}
 use Prim.Native.Nat.{ℕ, zero, suc, _+_, _-_, _≤_, _<_}
 use native.Mathlib.Omega.{arith}
-use lib.Dec.{T, leb, leb→le, nleb→lt}
+use lib.Dec.{T, leb, eqb, leb→le, nleb→lt}
 use lib.Ieee.{Float}
 use Rattle.doubles.specs.Run.{at}
 use Rattle.doubles.specs.Value.{val, zero+, one+}
@@ -15,8 +15,8 @@ use Rattle.exact.proofs.Jets.{dalpha, dwork, dwork-in, dwork-out}
 use Rattle.exact.proofs.Source.{alpha, work, work-in, work-out}
 use Rattle.exact.specs.Rational.{ℚ, _+q_, _-q_, _*q_, _/q_, negq, inv, q0, q1, _≤q_, _<q_}
 use Rattle.exact.specs.Spline.{Knots}
-use Rattle.interval.proofs.Contain.{sub-inside, divide-inside}
-use Rattle.interval.specs.Inside.{Inside, Encloses as Divides}
+use Rattle.interval.proofs.Contain.{sub-inside, divide-formed, Formed}
+use Rattle.interval.specs.Inside.{Inside}
 use Rattle.interval.specs.Ops.{pointOf, addOf, subOf, mulOf, divideOf}
 use Rattle.interval.specs.declared.Interval.{Interval}
 use Rattle.interval.specs.declared.Quotient.{Quotient}
@@ -28,10 +28,22 @@ use Rattle.bounds.specs.declared.net.Control.{Control}
 use Rattle.bounds.specs.Net.{shareBy, shareOf, shareAt, mixJet, mixOf, mixBy, refusedBy, orElse, levelOf, refusalFrom, netOf, refusalLevels}
 use Rattle.bounds.proofs.JetIn.{JetIn, jet-eq, jet-const, jet-sub, jet-scale, jet-mix, in-one, in-zero}
 
--- a jet that holds, or a refusal that is not 0
+-- a number that is not 28 and not 29
+abbrev pub Given : ℕ → Type 0
+Given n = T (not (eqb n 28 || eqb n 29))
+
+-- a jet that holds, or a refusal that is none of 0, 28 and 29
 abbrev pub Shares : JetAnswer → ℚ → ℚ → ℚ → Type 0
 Shares (F.Is j) x u v = JetIn j x u v
-Shares (F.Refused n) x u v = n ≡ 0 → ⊥
+Shares (F.Refused n) x u v = (n ≡ 0 → ⊥) × Given n
+
+share-given : (g : JetAnswer) (x u v : ℚ) → Shares g x u v → Given (refusedBy g)
+share-given (F.Is j) x u v h = tt
+share-given (F.Refused n) x u v h = h .1
+
+pub orElse-given : (m n : ℕ) → Given m → Given n → Given (orElse m n)
+orElse-given zero n h k = k
+orElse-given (suc m) n h k = h
 
 pub orElse-0 : (m n : ℕ) → orElse m n ≡ 0 → (m ≡ 0) × (n ≡ 0)
 orElse-0 zero n h = (refl, h)
@@ -97,7 +109,7 @@ module _ (ks : List Float) (p s : ℕ) (J : Jet) where
       (t e f : ℚ) (param : JetIn J t e f) where
     pub share-in : (l j : ℕ) → l < j → j ≤ p → Shares (shareAt ks p s J (suc l) j) (alpha U t p s (suc l) j) (e *q dalpha U p s (suc l) j) (f *q dalpha U p s (suc l) j)
     unfolding shareAt shareOf alpha dalpha
-    share-in l j a b = go (divideOf (pointOf one+) (subOf (pointOf (at ks hi)) (pointOf (at ks lo)))) (divide-inside _ _ _ _ in-one (sub-inside _ _ _ _ right left))
+    share-in l j a b = go (divideOf (pointOf one+) (subOf (pointOf (at ks hi)) (pointOf (at ks lo)))) (divide-formed _ _ _ _ in-one (sub-inside _ _ _ _ right left))
       where
         lo : ℕ
         lo = s - p + j
@@ -116,13 +128,27 @@ module _ (ks : List Float) (p s : ℕ) (J : Jet) where
             let x : lo + suc (p - suc l) ≡ hi = omega arith in
             subst (λ k. q0 <q U k -q U lo) x (wide K (p - suc l) lo (omega arith) (omega arith) (omega arith))
 
-        go : (q : Quotient) → Divides q (q1 /q (U hi -q U lo)) → Shares (shareBy J (pointOf (at ks lo)) q) ((t -q U lo) /q (U hi -q U lo)) (e *q inv (U hi -q U lo)) (f *q inv (U hi -q U lo))
+        go : (q : Quotient) → Formed q (q1 /q (U hi -q U lo)) → Shares (shareBy J (pointOf (at ks lo)) q) ((t -q U lo) /q (U hi -q U lo)) (e *q inv (U hi -q U lo)) (f *q inv (U hi -q U lo))
         go (Is q) d =
             let i = inv (U hi -q U lo) in
             jet-eq (q-ring (t ∷ U lo ∷ i ∷ []) (search qring depth 20) tt) (q-ring (e ∷ i ∷ []) (search qring depth 20) tt) (q-ring (f ∷ i ∷ []) (search qring depth 20) tt)
             (jet-scale _ q (jet-sub J _ param (jet-const (pointOf (at ks lo)) left)) d)
-        go HoldsZero d = λ x. absurd (omega arith)
-        go Unbounded d = λ x. absurd (omega arith)
+        go HoldsZero d = (λ x. absurd (omega arith), tt)
+        go Unbounded d = absurd d
+
+    from-given : (l k j : ℕ) → k + suc l ≤ j + 1 → j ≤ p → Given (refusalFrom ks p s J (suc l) k j)
+    unfolding refusalFrom
+    from-given l zero j h m = tt
+    from-given l (suc k) j h m = orElse-given (refusedBy (shareAt ks p s J (suc l) j)) (refusalFrom ks p s J (suc l) k (j - 1))
+        (share-given (shareAt ks p s J (suc l) j) _ _ _ (share-in l j (omega arith) m)) (from-given l k (j - 1) (omega arith) (omega arith))
+
+    pub levels-given : (l k : ℕ) → l + k ≤ p → Given (refusalLevels ks p s J (suc l) k)
+    unfolding refusalLevels
+    levels-given l zero h = tt
+    levels-given l (suc k) h =
+        let e : suc l + 1 ≡ suc (suc l) = omega arith in
+        orElse-given (refusalFrom ks p s J (suc l) (p + 1 - suc l) p) (refusalLevels ks p s J (suc l + 1) k)
+        (from-given l (p + 1 - suc l) p (omega arith) (omega arith)) (subst (λ i. Given (refusalLevels ks p s J i k)) (sym e) (levels-given (suc l) k (omega arith)))
 
     -- one of the four jets of each point of the net, with its derivatives G and H
     module _ (sel : Control → Jet) (mixes : (α : Jet) (a b : Control) → sel (mixOf α a b) ≡ mixJet α (sel a) (sel b))
@@ -136,7 +162,7 @@ module _ (ks : List Float) (p s : ℕ) (J : Jet) where
         where
           mixed : l < j → (g : JetAnswer) → Shares g (alpha U t p s (suc l) j) (e *q dalpha U p s (suc l) j) (f *q dalpha U p s (suc l) j) → refusedBy g ≡ 0
               → JetIn (sel (mixBy g (netOf ks p s J c l (j - 1)) (netOf ks p s J c l j))) (work U t p s C (suc l) j) (G (suc l) j) (H (suc l) j)
-          mixed m (F.Refused n) g z = absurd (g z)
+          mixed m (F.Refused n) g z = absurd (g .0 z)
           mixed m (F.Is α) g z =
               subst (λ z. JetIn z (work U t p s C (suc l) j) (G (suc l) j) (H (suc l) j)) (sym (mixes α _ _))
               (jet-eq (sym (work-in U t p s C l j m)) (sym (FG .inside l j m)) (sym (FH .inside l j m))

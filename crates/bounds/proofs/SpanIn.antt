@@ -17,7 +17,7 @@ use Rattle.exact.proofs.Field.{≤-trans}
 use Rattle.doubles.specs.Value.{zero+, one+, val}
 use Rattle.doubles.specs.Run.{at, valAt}
 use Rattle.doubles.proofs.Tests.{T-of, Tn-of}
-use Rattle.doubles.proofs.Value.{val-lt, val-zero}
+use Rattle.doubles.proofs.Value.{val-lt, val-le, val-zero}
 use Rattle.doubles.proofs.Order.{val-leq}
 use Rattle.knots.specs.Refusal.{refuse, accepted, degree-high, range-bad, range-in-no-span}
 use Rattle.knots.specs.Knots.{ValidKnots}
@@ -51,6 +51,7 @@ pub record SpanValid (p n : ℕ) (ks : List Float) (lo hi : Float) (s : ℕ) : T
   pub small : p ≤ 64
   pub lo-finite : T (finite lo)
   pub hi-finite : T (finite hi)
+  pub forward : val lo ≤q val hi
   pub span : Taken (inSpan ks lo hi) p n s
 
 -- what a range that is not refused is, whatever its span s
@@ -58,6 +59,7 @@ pub record RangeValid (p n s : ℕ) (lo hi : Float) : Type 0 where
   pub small : p ≤ 64
   pub lo-finite : T (finite lo)
   pub hi-finite : T (finite hi)
+  pub forward : val lo ≤q val hi
   pub found : s ≡ n → ⊥
 
 pub range-valid : (p n s : ℕ) (lo hi : Float) → rangeRefusal p n s lo hi .number ≡ 0 → RangeValid p n s lo hi
@@ -68,10 +70,13 @@ range-valid p n s lo hi h =
     let c = passed (not (finite hi)) (refuse range-bad) _ (λ e. omega arith) (b .1) in
     let d = passed (lt hi lo) (refuse range-bad) _ (λ e. omega arith) (c .1) in
     let e = passed (eqb s n) (refuse range-in-no-span) accepted (λ e. omega arith) (d .1) in
+    let f = T-of (finite lo) (not-false (finite lo) (b .0)) in
+    let g = T-of (finite hi) (not-false (finite hi) (c .0)) in
     record {
       small = ltb-false 64 p (a .0);
-      lo-finite = T-of (finite lo) (not-false (finite lo) (b .0));
-      hi-finite = T-of (finite hi) (not-false (finite hi) (c .0));
+      lo-finite = f;
+      hi-finite = g;
+      forward = val-le hi lo g f (Tn-of (lt hi lo) (d .0));
       found = eqb-false s n (e .0);
     }
 
@@ -84,6 +89,7 @@ span-valid p n ks lo hi l h =
       small = v .small;
       lo-finite = v .lo-finite;
       hi-finite = v .hi-finite;
+      forward = v .forward;
       span = elim (first-is (inSpan ks lo hi) (n - p) p) [
         | inl x ↦ absurd (v .found (x ∙ f))
         | inr y ↦ subst (λ m. Taken (inSpan ks lo hi) p m (spanOver p n ks lo hi)) f y

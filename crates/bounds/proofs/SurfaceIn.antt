@@ -19,7 +19,8 @@ use Rattle.exact.proofs.Source.{work}
 use Rattle.exact.proofs.Surface.{net, net-du, net-dv, exact₂-net, exact₂-du, exact₂-dv, weight₂-pos, weight₂-low, weight₂-le-1}
 use Rattle.exact.specs.Rational.{ℚ, _+q_, _-q_, _*q_, _/q_, inv, q0, q1, _≤q_, _<q_}
 use Rattle.exact.specs.Surface.{whole₂, exact₂, dexact₂u, dexact₂v}
-use Rattle.interval.specs.Inside.{Inside, Encloses as Divides}
+use Rattle.interval.proofs.Contain.{Formed}
+use Rattle.interval.specs.Inside.{Inside}
 use Rattle.interval.specs.Ops.{pointOf, newOf, reciprocalOf}
 use Rattle.knots.specs.Knots.{ValidKnots}
 use Rattle.interval.specs.declared.Interval.{Interval}
@@ -44,8 +45,8 @@ use Rattle.bounds.specs.Jet.{parameterOf}
 use Rattle.bounds.specs.Enclosed.{Three, Boxed, grid, at-uv}
 use Rattle.bounds.specs.Surface.{rangesRefusal, maxRows, minRows, secondOf, rowAt, rangesAre, weightsBy, spansBound, boundedBy, surfaceOf, SpansFit}
 use Rattle.bounds.proofs.JetIn.{JetIn, in-one, in-zero}
-use Rattle.bounds.proofs.NetIn.{none, along, across, nowhere, net-in}
-use Rattle.bounds.proofs.WeightIn.{max-from, min-from, least, Cut, Cuts, range-in, scale-in, bound-in, ControlIn, FinitePoint, point-finite, control-in, up-0}
+use Rattle.bounds.proofs.NetIn.{Given, levels-given, none, along, across, nowhere, net-in}
+use Rattle.bounds.proofs.WeightIn.{max-from, min-from, least, Cut, Cuts, range-in, scale-in, bound-in, ControlIn, FinitePoint, point-finite, control-in, up-0, up-given}
 use Rattle.bounds.proofs.CartesianIn.{Boxes, over, cartesian-in, boxes-eq, three-eq}
 use Rattle.bounds.proofs.CurveIn.{low-of, high-of, X, Y, Z, param-in, boxed, unless-in}
 use Rattle.bounds.proofs.SpanIn.{SpanValid, span-valid, InSpan, in-span, heavy-valid, heavy-pos}
@@ -109,9 +110,14 @@ unfolding lastBy
 last-0 zero x h = (refl, refl)
 last-0 (suc L) x h = absurd (omega arith)
 
-refuse-in : (o : Point) (bound : Interval) (n : ℕ) (a : NetAnswer) (X Y Z : Three) → (n ≡ 0 → Boxes (netBy o bound a) X Y Z) → Boxes (netBy o bound (refuseNet n a)) X Y Z
-refuse-in o bound zero a X Y Z h = h refl
-refuse-in o bound (suc n) a X Y Z h = tt
+last-given : (L : ℕ) (x : Control) → Given L → Given (netRefused (lastBy L x))
+unfolding lastBy
+last-given zero x h = tt
+last-given (suc L) x h = h
+
+refuse-in : (o : Point) (bound : Interval) (n : ℕ) (a : NetAnswer) (X Y Z : Three) → Given n → (n ≡ 0 → Boxes (netBy o bound a) X Y Z) → Boxes (netBy o bound (refuseNet n a)) X Y Z
+refuse-in o bound zero a X Y Z g h = h refl
+refuse-in o bound (suc n) a X Y Z g h = g
 
 below-product : (i j nu nv : ℕ) → i < nu → j < nv → i * nv + j < nu * nv
 below-product i j nu nv h k =
@@ -262,13 +268,24 @@ module _ (p q us vs : ℕ) (uk vk : List Float) (nu nv : ℕ) (ps ws : List Floa
         (control-in (pointAt ps ((us - p + m) * nv + (vs - q) + k)) (pointAt ps ((us - p) * nv + (vs - q))) (weightAt r ws ((us - p + m) * nv + (vs - q) + k)) c σ
         (finite-at ((us - p + m) * nv + (vs - q) + k) (here′ m k l h)) (finite-at ((us - p) * nv + (vs - q)) first-here) (heavy ((us - p + m) * nv + (vs - q) + k) (here′ m k l h)) d)
 
-    -- a row along v
+    -- a row along v: what it refuses
+    row-given : (m : ℕ) → m ≤ p → Given (netRefused (row m))
+    unfolding rowAt rowOf deboorOf
+    row-given m h = go (reciprocalOf (pointOf scale)) (scale-in cut (most-is .held))
+      where
+        go : (a : Quotient) → Formed a (inv σ) → Given (netRefused (rowBy ps ws r ((us - p + m) * nv + (vs - q)) (pointAt ps ((us - p) * nv + (vs - q))) vk q vs (secondOf iv) a))
+        go (Q.Is c) d = last-given (refusalLevels vk q vs (secondOf iv) 1 q) (netOf vk q vs (secondOf iv) (start c m) q q)
+            (levels-given vk q vs (secondOf iv) (Iv .knots) (Iv .low) (Iv .room) (Iv .held) v q0 q1 (second-in vlo vhi v (Sv .lo-finite) (Sv .hi-finite) v-from v-upto) 0 q (omega arith))
+        go Q.HoldsZero d = tt
+        go Q.Unbounded d = absurd d
+
+    -- and what it holds
     module _ (sel : Control → Jet) (mixes : (α : Jet) (a b : Control) → sel (mixOf α a b) ≡ mixJet α (sel a) (sel b)) (C : ℕ → ℕ → ℚ)
         (holds : (c : Interval) → Inside c (inv σ) → (m : ℕ) → m ≤ p → (k : ℕ) → k ≤ q → JetIn (sel (start c m k)) (C (us - p + m) (vs - q + k)) q0 q0) where
       abbrev RowIn : ℕ → NetAnswer → Type 0
       RowIn m A = netRefused A ≡ 0 → JetIn (sel (netControl A)) (work (valAt vk) v q vs (λ k. C (us - p + m) (vs - q + k)) q q) q0 (dwork (valAt vk) v q vs (λ k. C (us - p + m) (vs - q + k)) (λ k. q0) q q)
 
-      by-scale : (m : ℕ) → m ≤ p → (a : Quotient) → Divides a (inv σ) → RowIn m (rowBy ps ws r ((us - p + m) * nv + (vs - q)) (pointAt ps ((us - p) * nv + (vs - q))) vk q vs (secondOf iv) a)
+      by-scale : (m : ℕ) → m ≤ p → (a : Quotient) → Formed a (inv σ) → RowIn m (rowBy ps ws r ((us - p + m) * nv + (vs - q)) (pointAt ps ((us - p) * nv + (vs - q))) vk q vs (secondOf iv) a)
       unfolding deboorOf dwork
       by-scale m h (Q.Is c) d ok =
           let x = last-0 (refusalLevels vk q vs (secondOf iv) 1 q) (netOf vk q vs (secondOf iv) (start c m) q q) ok in
@@ -276,7 +293,7 @@ module _ (p q us vs : ℕ) (uk vk : List Float) (nu nv : ℕ) (ps ws : List Floa
           (net-in vk q vs (secondOf iv) (Iv .knots) (Iv .low) (Iv .room) (Iv .held) v q0 q1 (second-in vlo vhi v (Sv .lo-finite) (Sv .hi-finite) v-from v-upto) sel mixes (start c m) (λ k. C (us - p + m) (vs - q + k)) (λ l j. q0) (dwork (valAt vk) v q vs (λ k. C (us - p + m) (vs - q + k)) (λ k. q0))
           (nowhere (valAt vk) v q vs (λ k. C (us - p + m) (vs - q + k))) (along (valAt vk) v q vs (λ k. C (us - p + m) (vs - q + k)) (λ k. q0)) (holds c d m h) (none vk q vs (secondOf iv) (x .0)) q q (omega arith))
       by-scale m h Q.HoldsZero d ok = absurd (omega arith)
-      by-scale m h Q.Unbounded d ok = absurd (omega arith)
+      by-scale m h Q.Unbounded d ok = absurd d
 
       row-in : (m : ℕ) → m ≤ p → RowIn m (row m)
       unfolding rowAt rowOf
@@ -299,7 +316,8 @@ module _ (p q us vs : ℕ) (uk vk : List Float) (nu nv : ℕ) (ps ws : List Floa
     levels-in : refusalUp row (p + 1) 0 ≡ 0 → (k : ℕ) → refusalLevels uk p us (parameterOf iu) 1 p ≡ k
         → Good (netBy (pointAt ps ((us - p) * nv + (vs - q))) bound (lastBy k (netOf uk p us (parameterOf iu) (λ m. netControl (row m)) p p)))
     unfolding lastBy pointAt mixOf
-    levels-in clear (suc k) e = tt
+    levels-in clear (suc k) e =
+        subst Given e (levels-given uk p us (parameterOf iu) (Iu .knots) (Iu .low) (Iu .room) (Iu .held) u q1 q0 (param-in ulo uhi u (Su .lo-finite) (Su .hi-finite) u-from u-upto) 0 p (omega arith))
     levels-in clear zero e =
         boxes-eq (cartesianOf (netOf uk p us (parameterOf iu) (λ m. netControl (row m)) p p) (pointAt ps ((us - p) * nv + (vs - q))) bound)
         (over (HT (H (X ps))) (HT HW) (X ps ((us - p) * nv + (vs - q)))) (over (HT (H (Y ps))) (HT HW) (Y ps ((us - p) * nv + (vs - q)))) (over (HT (H (Z ps))) (HT HW) (Z ps ((us - p) * nv + (vs - q))))
@@ -317,6 +335,7 @@ module _ (p q us vs : ℕ) (uk vk : List Float) (nu nv : ℕ) (ps ws : List Floa
       where
         go : (x y : Bool) → Good (rangesAre p q us vs uk vk nv ps ws r ulo uhi vlo vhi scale bound (cond x (Made iv) Nothing) (cond y (Made iu) Nothing))
         go true true = refuse-in (pointAt ps ((us - p) * nv + (vs - q))) bound (refusalUp row (p + 1) 0) (deboorOf uk p us (parameterOf iu) (λ m. netControl (row m))) (EX (X ps)) (EX (Y ps)) (EX (Z ps))
+            (up-given row (p + 1) 0 (λ m l. let z : 0 + m ≡ m = omega arith in subst (λ i. Given (netRefused (row i))) (sym z) (row-given m (omega arith))))
             (λ clear. levels-in clear (refusalLevels uk p us (parameterOf iu) 1 p) refl)
         go true false = tt
         go false y = tt
@@ -326,11 +345,11 @@ module _ (p q us vs : ℕ) (uk vk : List Float) (nu nv : ℕ) (ps ws : List Floa
   spans-bound-in = go (rangeOf (minRows w (q + 1) (p + 1)) (maxRows w (q + 1) (p + 1)))
       (subst (λ i. Cuts (minRows w (suc q) (suc p)) (maxRows w (suc q) (suc p)) (rangeOf (minRows w i (p + 1)) (maxRows w i (p + 1)))) (sym (add-one q))
       (subst (λ i. Cuts (minRows w (suc q) (suc p)) (maxRows w (suc q) (suc p)) (rangeOf (minRows w (suc q) i) (maxRows w (suc q) i))) (sym (add-one p))
-      (range-in (minRows w (suc q) (suc p)) (maxRows w (suc q) (suc p)) (least-is .held) (most-is .held) (pos-ne σ-pos))))
+      (range-in (minRows w (suc q) (suc p)) (maxRows w (suc q) (suc p)) (least-is .held) (most-is .held) (≤-trans wh-low wh-high))))
     where
       go : (A : Weights) → Cuts (minRows w (suc q) (suc p)) (maxRows w (suc q) (suc p)) A → Good (weightsBy p q us vs uk vk nv ps ws r ulo uhi vlo vhi A)
       go (W.Are scale bound) c = ranges-in scale bound c
-      go (W.Refused k) c = tt
+      go (W.Refused k) c = c
 
 -- ---- the whole answer
 

@@ -1,7 +1,7 @@
 -- The least and the largest weight, the enclosure of their quotient, and the points of the first net. Assumes nothing.
 use mathlib.Core.Path.{_≡_, refl, sym, _∙_, subst}
 use mathlib.Core.Bool.{Bool, true, false, not, _||_, cond}
-use mathlib.Core.Logic.{_≢_, _⊎_, inl, inr}
+use mathlib.Core.Logic.{_⊎_, inl, inr}
 use mathlib.Core.List.{List, [], _∷_}
 use Prim.Native.Nat.{ℕ, zero, suc, _+_, _-_, _*_, _≤_, _<_}
 use native.Mathlib.Nat.{eq-or-lt-of-le, le-of-suc-le-suc}
@@ -18,8 +18,8 @@ use Rattle.doubles.specs.Run.{at}
 use Rattle.doubles.specs.Value.{Lower, Upper, val, zero+, one+}
 use Rattle.exact.proofs.Field.{≤-refl, ≤-trans, <-≤-trans, lt→le, div-is}
 use Rattle.exact.specs.Rational.{ℚ, _+q_, _-q_, _*q_, _/q_, inv, q0, q1, _≤q_, _<q_}
-use Rattle.interval.proofs.Contain.{point-inside, sub-inside, mul-inside, reciprocal-inside, divide-inside}
-use Rattle.interval.specs.Inside.{Inside, Encloses as Divides}
+use Rattle.interval.proofs.Contain.{point-inside, sub-inside, mul-inside, ends-ordered, Formed, reciprocal-formed, divide-formed}
+use Rattle.interval.specs.Inside.{Inside}
 use Rattle.interval.specs.Ops.{pointOf, mulOf, newOf, reciprocalOf, divideOf}
 use Rattle.interval.specs.declared.Interval.{Interval}
 use Rattle.interval.specs.declared.New.the-variants.{Made, Nothing}
@@ -32,7 +32,7 @@ use Rattle.bounds.specs.declared.net.NetAnswer.the-variants as N
 use Rattle.bounds.specs.declared.start.Weights.{Weights}
 use Rattle.bounds.specs.declared.start.Weights.the-variants as W
 use Rattle.bounds.specs.Net.{netRefused, refusalUp}
-use Rattle.bounds.proofs.NetIn.{orElse-0}
+use Rattle.bounds.proofs.NetIn.{Given, orElse-0, orElse-given}
 use Rattle.bounds.specs.Start.{maxFrom, minFrom, areBy, rangeBy, rangeOf, movedOf, pointAt, controlOf}
 use Rattle.bounds.proofs.JetIn.{JetIn, jet-const}
 
@@ -157,34 +157,38 @@ pub record Cut (least most scale : Float) (bound : Interval) : Type 0 where
   pub low : Lower ((bound .lo)) (val least /q val most)
   pub one : bound .hi ≡ one+
 
+-- or a refusal that is not 28 and not 29
 abbrev pub Cuts : Float → Float → Weights → Type 0
 Cuts least most (W.Are scale bound) = Cut least most scale bound
-Cuts least most (W.Refused n) = Unit
+Cuts least most (W.Refused n) = Given n
 
-pub range-in : (least most : Float) → T (finite least) → T (finite most) → val most ≢ q0 → Cuts least most (rangeOf least most)
+below-one : {x : ℚ} → x ≤q q1 → Upper one+ x
+below-one {x} h = subst (λ y. x ≤q y) (sym val-one) h
+
+pub range-in : (least most : Float) → T (finite least) → T (finite most) → val least /q val most ≤q q1 → Cuts least most (rangeOf least most)
 unfolding rangeOf newOf
-range-in least most f g n = go (divideOf (pointOf least) (pointOf most)) (divide-inside _ _ _ _ (point-inside least f) (point-inside most g))
+range-in least most f g u = go (divideOf (pointOf least) (pointOf most)) (divide-formed _ _ _ _ (point-inside least f) (point-inside most g))
   where
-    made : (q : Interval) → Inside q (val least /q val most) → (b : Bool) → Cuts least most (areBy most (cond b (Made (record { lo = q .lo; hi = one+ })) Nothing))
-    made q d true = record { scaled = refl; low = d .low; one = refl }
-    made q d false = tt
+    made : (q : Interval) → Inside q (val least /q val most) → (b : Bool) → T b → Cuts least most (areBy most (cond b (Made (record { lo = q .lo; hi = one+ })) Nothing))
+    made q d true h = record { scaled = refl; low = d .low; one = refl }
+    made q d false h = absurd h
 
     test : (q : Interval) → Inside q (val least /q val most) → (b : Bool) → Cuts least most (cond b (W.Refused 27) (areBy most (newOf (q .lo) one+)))
     test q d true = tt
-    test q d false = made q d (le (q .lo) one+)
+    test q d false = made q d (le (q .lo) one+) (ends-ordered (q .lo) one+ (val least /q val most) (d .low) (below-one u))
 
-    go : (q : Quotient) → Divides q (val least /q val most) → Cuts least most (rangeBy most q)
+    go : (q : Quotient) → Formed q (val least /q val most) → Cuts least most (rangeBy most q)
     go (Q.Is q) d = test q d (le (q .lo) zero+)
     go Q.HoldsZero d = tt
-    go Q.Unbounded d = tt
+    go Q.Unbounded d = absurd d
 
 -- the reciprocal of the scale, and the weight's enclosure
 module _ {least most scale : Float} {bound : Interval} (cut : Cut least most scale bound) where
-  pub scale-in : T (finite most) → Divides (reciprocalOf (pointOf scale)) (inv (val most))
-  scale-in f = subst (λ (x : Float). Divides (reciprocalOf (pointOf x)) (inv (val most))) (sym (cut .scaled)) (reciprocal-inside _ (val most) (point-inside most f))
+  pub scale-in : T (finite most) → Formed (reciprocalOf (pointOf scale)) (inv (val most))
+  scale-in f = subst (λ (x : Float). Formed (reciprocalOf (pointOf x)) (inv (val most))) (sym (cut .scaled)) (reciprocal-formed _ (val most) (point-inside most f))
 
   pub bound-in : (W : ℚ) → val least /q val most ≤q W → W ≤q q1 → Inside bound W
-  bound-in W l h = record { low = lower-le (bound .lo) (cut .low) l; high = subst (λ x. Upper x W) (sym (cut .one)) (subst (λ x. W ≤q x) (sym val-one) h) }
+  bound-in W l h = record { low = lower-le (bound .lo) (cut .low) l; high = subst (λ x. Upper x W) (sym (cut .one)) (below-one h) }
 
 -- ---- a point of the net
 
@@ -227,3 +231,11 @@ up-0 f (suc k) i h zero l = let e : i + 0 ≡ i = omega arith in rw e (orElse-0 
 up-0 f (suc k) i h (suc m) l =
     let e : i + suc m ≡ i + 1 + m = omega arith in
     rw e (up-0 f k (i + 1) (orElse-0 (netRefused (f i)) _ h .1) m (omega arith))
+
+pub up-given : (f : ℕ → NetAnswer) (k i : ℕ) → ((m : ℕ) → m < k → Given (netRefused (f (i + m)))) → Given (refusalUp f k i)
+unfolding refusalUp
+up-given f zero i h = tt
+up-given f (suc k) i h =
+    let e : i + 0 ≡ i = omega arith in
+    orElse-given (netRefused (f i)) (refusalUp f k (i + 1)) (subst (λ j. Given (netRefused (f j))) e (h 0 (omega arith)))
+    (up-given f k (i + 1) (λ m l. let e : i + suc m ≡ i + 1 + m = omega arith in subst (λ j. Given (netRefused (f j))) e (h (suc m) (omega arith))))

@@ -7,11 +7,12 @@ use lib.Ieee.{Float, nan, inf, fin, binary64, isNan, fits, lt, le, eq, add, sub,
 use lib.Ieee.Fits.{mul-fits, div-fits, and-l, and-r}
 use lib.Ieee.Scale.{finite}
 use Rattle.exact.specs.Rational.{ℚ, _+q_, _-q_, _*q_, _/q_, negq, inv, q0, _≤q_, _<q_}
-use Rattle.exact.proofs.Field.{div-is, ≤-antisym}
+use Rattle.exact.proofs.Field.{div-is, not-both, ≤-antisym, ≤-trans}
 use Rattle.doubles.specs.Value.{zero+, one+, val, Lower, Upper, Number, _⊑_}
 use Rattle.doubles.specs.Neighbour.{nextUp, nextDown, fmin, fmax, least4, greatest4}
-use Rattle.doubles.proofs.Value.{val-zero}
-use Rattle.doubles.proofs.Order.{le-left, le-right, le-not, val-eq}
+use Rattle.doubles.proofs.Tests.{yes-or-no}
+use Rattle.doubles.proofs.Value.{val-zero, val-lt}
+use Rattle.doubles.proofs.Order.{le-is, le-left, le-right, le-not, val-eq}
 use Rattle.doubles.proofs.Enclose.{lower-neg, upper-neg}
 use Rattle.doubles.proofs.Sums.{sum-lower, sum-upper, sub-lower, sub-upper}
 use Rattle.doubles.proofs.Extremes.{Picked, Under, Over, Four, smaller, larger, least, greatest, min-fits, max-fits}
@@ -149,25 +150,54 @@ sqr-inside a x i =
         (square-lower binary64 (fmin p q) (min-fits binary64 p q hp hq) (l .number) x (a .lo) (a .hi) (i .low) (i .high) (o tt) (l .first) (l .second))
 
 -- ---- quotients
+
+-- two ends with a fraction between them are in order
+pub ends-ordered : (l h : Float) (x : ℚ) → Lower l x → Upper h x → T (le l h)
+ends-ordered nan h x a b = absurd a
+ends-ordered (inf false) h x a b = absurd a
+ends-ordered (inf true) nan x a b = absurd b
+ends-ordered (inf true) (inf true) x a b = absurd b
+ends-ordered (inf true) (inf false) x a b = unfold le lt in tt
+ends-ordered (inf true) (fin t n d) x a b = unfold le lt in tt
+ends-ordered (fin s m e) nan x a b = absurd b
+ends-ordered (fin s m e) (inf true) x a b = absurd b
+ends-ordered (fin s m e) (inf false) x a b = unfold le lt in tt
+ends-ordered (fin s m e) (fin t n d) x a b = elim (yes-or-no (lt (fin t n d) (fin s m e))) [
+  | inl l ↦ absurd (not-both (val-lt (fin t n d) (fin s m e) tt tt l) (≤-trans a b))
+  | inr k ↦ subst T (sym (le-is (fin s m e) (fin t n d) (unfold isNan in tt) (unfold isNan in tt))) k
+]
+
+-- so an interval is made of them
 abbrev MadeInside : New → ℚ → Type 0
 MadeInside (Made c) x = Inside c x
-MadeInside Nothing x = Unit
+MadeInside Nothing x = ⊥
 
 new-inside : (l h : Float) (x : ℚ) → Lower l x → Upper h x → MadeInside (newOf l h) x
 unfolding newOf
-new-inside l h x L H = go (le l h)
+new-inside l h x L H = go (le l h) (ends-ordered l h x L H)
   where
-    go : (b : Bool) → MadeInside (cond b (Made (record { lo = l; hi = h })) Nothing) x
-    go true = record { low = L; high = H }
-    go false = tt
+    go : (b : Bool) → T b → MadeInside (cond b (Made (record { lo = l; hi = h })) Nothing) x
+    go true t = record { low = L; high = H }
+    go false t = absurd t
 
-made-inside : (n : New) (x : ℚ) → MadeInside n x → Encloses (madeBy n) x
-made-inside (Made c) x i = i
-made-inside Nothing x i = tt
+-- a quotient that holds x, or a divisor that holds 0: never `Unbounded`
+abbrev pub Formed : Quotient → ℚ → Type 0
+Formed (Is c) x = Inside c x
+Formed HoldsZero x = Unit
+Formed Unbounded x = ⊥
 
-pub reciprocal-inside : (b : Interval) (y : ℚ) → Inside b y → Encloses (reciprocalOf b) (inv y)
+made-formed : (n : New) (x : ℚ) → MadeInside n x → Formed (madeBy n) x
+made-formed (Made c) x i = i
+made-formed Nothing x i = absurd i
+
+formed-inside : (q : Quotient) (x : ℚ) → Formed q x → Encloses q x
+formed-inside (Is c) x i = i
+formed-inside HoldsZero x i = tt
+formed-inside Unbounded x i = tt
+
+pub reciprocal-formed : (b : Interval) (y : ℚ) → Inside b y → Formed (reciprocalOf b) (inv y)
 unfolding reciprocalOf containsOf
-reciprocal-inside b y j = go (containsOf b zero+) (off-zero (b .lo) (b .hi) y (j .low) (j .high))
+reciprocal-formed b y j = go (containsOf b zero+) (off-zero (b .lo) (b .hi) y (j .low) (j .high))
   where
     p : Float
     p = div binary64 one+ (b .lo)
@@ -187,18 +217,24 @@ reciprocal-inside b y j = go (containsOf b zero+) (off-zero (b .lo) (b .hi) y (j
         (recip-lower binary64 (fmin p q) (min-fits binary64 p q hp hq) (l .number) y (b .hi) (elim o [ inl t ↦ inl (end-above (b .lo) y t (j .low)) | inr t ↦ inr t ]) (j .high) (l .second))
         (recip-upper binary64 (fmax p q) (max-fits binary64 p q hp hq) (g .number) y (b .lo) (elim o [ inl t ↦ inl t | inr t ↦ inr (end-below (b .hi) y t (j .high)) ]) (j .low) (g .first))
 
-    go : (t : Bool) → (T (not t) → T (lt zero+ (b .lo)) ⊎ T (lt (b .hi) zero+)) → Encloses (cond t HoldsZero (madeBy (newOf (nextDown (fmin p q)) (nextUp (fmax p q))))) (inv y)
+    go : (t : Bool) → (T (not t) → T (lt zero+ (b .lo)) ⊎ T (lt (b .hi) zero+)) → Formed (cond t HoldsZero (madeBy (newOf (nextDown (fmin p q)) (nextUp (fmax p q))))) (inv y)
     go true o = tt
-    go false o = made-inside (newOf (nextDown (fmin p q)) (nextUp (fmax p q))) (inv y) (ends (o tt))
+    go false o = made-formed (newOf (nextDown (fmin p q)) (nextUp (fmax p q))) (inv y) (ends (o tt))
 
-pub divide-inside : (a b : Interval) (x y : ℚ) → Inside a x → Inside b y → Encloses (divideOf a b) (x /q y)
+pub divide-formed : (a b : Interval) (x y : ℚ) → Inside a x → Inside b y → Formed (divideOf a b) (x /q y)
 unfolding divideOf
-divide-inside a b x y i j = subst (Encloses (divideOf a b)) (sym (div-is x y)) (go (reciprocalOf b) (reciprocal-inside b y j))
+divide-formed a b x y i j = subst (Formed (divideOf a b)) (sym (div-is x y)) (go (reciprocalOf b) (reciprocal-formed b y j))
   where
-    go : (r : Quotient) → Encloses r (inv y) → Encloses (timesBy a r) (x *q inv y)
+    go : (r : Quotient) → Formed r (inv y) → Formed (timesBy a r) (x *q inv y)
     go (Is c) k = mul-inside a c x (inv y) i k
     go HoldsZero k = tt
-    go Unbounded k = tt
+    go Unbounded k = k
+
+pub reciprocal-inside : (b : Interval) (y : ℚ) → Inside b y → Encloses (reciprocalOf b) (inv y)
+reciprocal-inside b y j = formed-inside (reciprocalOf b) (inv y) (reciprocal-formed b y j)
+
+pub divide-inside : (a b : Interval) (x y : ℚ) → Inside a x → Inside b y → Encloses (divideOf a b) (x /q y)
+divide-inside a b x y i j = formed-inside (divideOf a b) (x /q y) (divide-formed a b x y i j)
 
 -- ---- hulls, widths, signs
 module _ (a b : Interval) (x y : ℚ) (i : Inside a x) (j : Inside b y) where
