@@ -38,7 +38,7 @@ use Rattle.bounds.specs.Holds.{HoldsOn}
 use Rattle.bounds.proofs.CurveIn.{both-hold, step-is-bound}
 use Rattle.many.proofs.Said.{box-says}
 use Rattle.many.specs.Rows.{tableRefusal, roomsRefusal}
-use Rattle.many.specs.Spans.{spansFrom, spansOf, boxRow, marksOf, boxOf, markAt, boxAt, spansStart}
+use Rattle.many.specs.Spans.{spansFrom, spansOf, boundIn, boxRow, marksOf, boxOf, markAt, boxAt, spansStart}
 use Rattle.many.specs.declared.boxes.BoxRow.{BoxRow}
 use Rattle.many.proofs.Rows.{InRows, in-start, in-more, rooms-open}
 
@@ -187,7 +187,7 @@ module _ (p : ℕ) (ks ps : List Float) (g : Bool) (ws : List Float) (v : ValidC
           upto = omega arith;
           count = ap length z;
           marks = subst (λ (l : List ℕ). InRows (markAt p ks ps g ws) 2 m₀ l 0 m₀) z (in-start (markAt p ks ps g ws) 2 (λ s. refl) m₀);
-          boxes = subst (λ (l : List ℕ). InRows (boxAt p ks ps g ws) 18 b₀ l 0 b₀) z (in-start (boxAt p ks ps g ws) 18 (λ s. box-says _ .count) b₀);
+          boxes = subst (λ (l : List ℕ). InRows (boxAt p ks ps g ws) 18 b₀ l 0 b₀) z (in-start (boxAt p ks ps g ws) 18 (λ s. box-says (boundIn p ks ps g ws s) .count) b₀);
         }
 
     module _ (m₁ : List ℕ) (b₁ : List Float) (i s : ℕ) (I : InSpans p ks ps g ws m₀ b₀ m₁ b₁ i s) (l : s < countOf ps) where
@@ -236,8 +236,8 @@ module _ (p : ℕ) (ks ps : List Float) (g : Bool) (ws : List Float) (v : ValidC
             from = omega arith;
             upto = omega arith;
             count = count-here ks p s f i (I .count) h;
-            marks = subst (λ (y : List ℕ). InRows (markAt p ks ps g ws) 2 m₀ (spansFrom (s + 1 - p) ks p) ((i + 1) * 2) y) (sym em) (in-more (markAt p ks ps g ws) 2 (λ s. refl) m₀ (spansFrom (s - p) ks p) (spansFrom (s + 1 - p) ks p) s (i * 2) ((i + 1) * 2) m₁ (marksOf s w) (I .marks) (ap (marksOf s) row ∙ ap (λ (n : ℕ). s ∷ n ∷ []) (box-says _ .number)) (omega arith) (omega arith) z);
-            boxes = subst (λ (y : List Float). InRows (boxAt p ks ps g ws) 18 b₀ (spansFrom (s + 1 - p) ks p) ((i + 1) * 18) y) (sym eb) (in-more (boxAt p ks ps g ws) 18 (λ s. box-says _ .count) b₀ (spansFrom (s - p) ks p) (spansFrom (s + 1 - p) ks p) s (i * 18) ((i + 1) * 18) b₁ (boxOf w) (I .boxes) (ap boxOf row ∙ box-says _ .numbers) (omega arith) (omega arith) z);
+            marks = subst (λ (y : List ℕ). InRows (markAt p ks ps g ws) 2 m₀ (spansFrom (s + 1 - p) ks p) ((i + 1) * 2) y) (sym em) (in-more (markAt p ks ps g ws) 2 (λ s. refl) m₀ (spansFrom (s - p) ks p) (spansFrom (s + 1 - p) ks p) s (i * 2) ((i + 1) * 2) m₁ (marksOf s w) (I .marks) (ap (marksOf s) row ∙ ap (λ (n : ℕ). s ∷ n ∷ []) (box-says (boundIn p ks ps g ws s) .number)) (omega arith) (omega arith) z);
+            boxes = subst (λ (y : List Float). InRows (boxAt p ks ps g ws) 18 b₀ (spansFrom (s + 1 - p) ks p) ((i + 1) * 18) y) (sym eb) (in-more (boxAt p ks ps g ws) 18 (λ s. box-says (boundIn p ks ps g ws s) .count) b₀ (spansFrom (s - p) ks p) (spansFrom (s + 1 - p) ks p) s (i * 18) ((i + 1) * 18) b₁ (boxOf w) (I .boxes) (ap boxOf row ∙ box-says (boundIn p ks ps g ws s) .numbers) (omega arith) (omega arith) z);
           }
 
     -- all are done

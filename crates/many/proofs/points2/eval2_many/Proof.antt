@@ -1,5 +1,6 @@
 -- `many::points2::eval2_many` meets its contract.
 -- Assumes nothing.
+use Rattle.evaluate.specs.Curve2.{eval2Of}
 use Rattle.many.proofs.Said.{point2-says}
 use denote.Ref.{now}
 use lib.ListN.{length}
@@ -29,7 +30,7 @@ same-length-2 : tie.Need-same-length-2
 same-length-2 c = search needs
 
 returns : tie.Need-returns
-returns c = meets-refused (numberAt2 (c .before .before .before .before .before .before .before .before .before .before .before .before .before .before .before .before .before .args .degree) (now (c .before .before .before .before .before .before .before .before .before .before .before .before .before .before .before .before .before .args .knots)) (now (c .before .before .before .before .before .before .before .before .before .before .before .before .before .before .before .before .before .args .points)) (c .before .before .before .before .before .before .before .before .before .before .before .before .before .before .before .before .before .args .rational) (now (c .before .before .before .before .before .before .before .before .before .before .before .before .before .before .before .before .before .args .weights))) 1 (λ t. refl) (numbersAt2 (c .before .before .before .before .before .before .before .before .before .before .before .before .before .before .before .before .before .args .degree) (now (c .before .before .before .before .before .before .before .before .before .before .before .before .before .before .before .before .before .args .knots)) (now (c .before .before .before .before .before .before .before .before .before .before .before .before .before .before .before .before .before .args .points)) (c .before .before .before .before .before .before .before .before .before .before .before .before .before .before .before .before .before .args .rational) (now (c .before .before .before .before .before .before .before .before .before .before .before .before .before .before .before .before .before .args .weights))) 9 (λ t. point2-says _ .count) (now (c .before .before .before .before .before .before .before .before .before .before .before .before .before .before .before .before .before .args .ts)) (length (now (c .before .before .before .before .before .before .before .before .before .before .before .before .before .before .before .before .before .args .numbers))) (length (now (c .before .before .before .before .before .before .before .before .before .before .before .before .before .before .before .before .before .args .rows))) (c .before .before .before .before .before .before .before .before .before .clear-numbers .last .0) (c .before .before .before .before .before .clear .last .0) (c .before .before .before .before .before .before .before .before .before .clear-numbers .ensures) (c .before .before .before .before .before .clear .ensures) _ _ (start-is (c .before .before .before .before .before .before .before .before .before .before .before .before .before .before .before .before .before .args .degree) (now (c .before .before .before .before .before .before .before .before .before .before .before .before .before .before .before .before .before .args .knots)) (now (c .before .before .before .before .before .before .before .before .before .before .before .before .before .before .before .before .before .args .points)) (c .before .before .before .before .before .before .before .before .before .before .before .before .before .before .before .before .before .args .rational) (now (c .before .before .before .before .before .before .before .before .before .before .before .before .before .before .before .before .before .args .weights)) (now (c .before .before .before .before .before .before .before .before .before .before .before .before .before .before .before .before .before .args .ts)) 9 (length (now (c .before .before .before .before .before .before .before .before .before .before .before .before .before .before .before .before .before .args .numbers))) (length (now (c .before .before .before .before .before .before .before .before .before .before .before .before .before .before .before .before .before .args .rows))) (c .before .before .before .before .before .before .before .before .before .clear-numbers .last .0) (c .before .before .before .before .before .clear .last .0) (c .before .before .before .before .before .before .before .before .before .clear-numbers .ensures) (c .before .before .before .before .before .clear .ensures) _ (c .before .before .points-start .ensures)) (c .if1 .taken)
+returns c = meets-refused (numberAt2 (c .before .before .before .before .before .before .before .before .before .before .before .before .before .before .before .before .before .args .degree) (now (c .before .before .before .before .before .before .before .before .before .before .before .before .before .before .before .before .before .args .knots)) (now (c .before .before .before .before .before .before .before .before .before .before .before .before .before .before .before .before .before .args .points)) (c .before .before .before .before .before .before .before .before .before .before .before .before .before .before .before .before .before .args .rational) (now (c .before .before .before .before .before .before .before .before .before .before .before .before .before .before .before .before .before .args .weights))) 1 (λ t. refl) (numbersAt2 (c .before .before .before .before .before .before .before .before .before .before .before .before .before .before .before .before .before .args .degree) (now (c .before .before .before .before .before .before .before .before .before .before .before .before .before .before .before .before .before .args .knots)) (now (c .before .before .before .before .before .before .before .before .before .before .before .before .before .before .before .before .before .args .points)) (c .before .before .before .before .before .before .before .before .before .before .before .before .before .before .before .before .before .args .rational) (now (c .before .before .before .before .before .before .before .before .before .before .before .before .before .before .before .before .before .args .weights))) 9 (λ t. point2-says (eval2Of (c .before .before .before .before .before .before .before .before .before .before .before .before .before .before .before .before .before .args .degree) (now (c .before .before .before .before .before .before .before .before .before .before .before .before .before .before .before .before .before .args .knots)) (now (c .before .before .before .before .before .before .before .before .before .before .before .before .before .before .before .before .before .args .points)) (c .before .before .before .before .before .before .before .before .before .before .before .before .before .before .before .before .before .args .rational) (now (c .before .before .before .before .before .before .before .before .before .before .before .before .before .before .before .before .before .args .weights)) t) .count) (now (c .before .before .before .before .before .before .before .before .before .before .before .before .before .before .before .before .before .args .ts)) (length (now (c .before .before .before .before .before .before .before .before .before .before .before .before .before .before .before .before .before .args .numbers))) (length (now (c .before .before .before .before .before .before .before .before .before .before .before .before .before .before .before .before .before .args .rows))) (c .before .before .before .before .before .before .before .before .before .clear-numbers .last .0) (c .before .before .before .before .before .clear .last .0) (c .before .before .before .before .before .before .before .before .before .clear-numbers .ensures) (c .before .before .before .before .before .clear .ensures) _ _ (start-is (c .before .before .before .before .before .before .before .before .before .before .before .before .before .before .before .before .before .args .degree) (now (c .before .before .before .before .before .before .before .before .before .before .before .before .before .before .before .before .before .args .knots)) (now (c .before .before .before .before .before .before .before .before .before .before .before .before .before .before .before .before .before .args .points)) (c .before .before .before .before .before .before .before .before .before .before .before .before .before .before .before .before .before .args .rational) (now (c .before .before .before .before .before .before .before .before .before .before .before .before .before .before .before .before .before .args .weights)) (now (c .before .before .before .before .before .before .before .before .before .before .before .before .before .before .before .before .before .args .ts)) 9 (length (now (c .before .before .before .before .before .before .before .before .before .before .before .before .before .before .before .before .before .args .numbers))) (length (now (c .before .before .before .before .before .before .before .before .before .before .before .before .before .before .before .before .before .args .rows))) (c .before .before .before .before .before .before .before .before .before .clear-numbers .last .0) (c .before .before .before .before .before .clear .last .0) (c .before .before .before .before .before .before .before .before .before .clear-numbers .ensures) (c .before .before .before .before .before .clear .ensures) _ (c .before .before .points-start .ensures)) (c .if1 .taken)
 
 eval2-each-requires : tie.Need-eval2-each-requires
 eval2-each-requires c κs = let o = points-open (c .before .before .before .before .before .before .before .before .before .before .before .before .before .before .before .before .before .before .before .args .degree) (now (c .before .before .before .before .before .before .before .before .before .before .before .before .before .before .before .before .before .before .before .args .knots)) (now (c .before .before .before .before .before .before .before .before .before .before .before .before .before .before .before .before .before .before .before .args .points)) (c .before .before .before .before .before .before .before .before .before .before .before .before .before .before .before .before .before .before .before .args .rational) (now (c .before .before .before .before .before .before .before .before .before .before .before .before .before .before .before .before .before .before .before .args .weights)) (now (c .before .before .before .before .before .before .before .before .before .before .before .before .before .before .before .before .before .before .before .args .ts)) 9 _ _ (sym (ap (λ (r : Refusal). r .number) (c .before .before .before .before .points-start .ensures)) ∙ c .before .before .if1 .left) in (o .curve, (o .few, (o .numbers, o .rows)))
@@ -41,7 +42,7 @@ same-length-4 : tie.Need-same-length-4
 same-length-4 c = search needs
 
 returns-2 : tie.Need-returns-2
-returns-2 c = meets-answered (numberAt2 (c .before .before .before .before .before .before .before .before .before .before .before .before .before .before .before .before .before .before .before .before .before .before .before .before .args .degree) (now (c .before .before .before .before .before .before .before .before .before .before .before .before .before .before .before .before .before .before .before .before .before .before .before .before .args .knots)) (now (c .before .before .before .before .before .before .before .before .before .before .before .before .before .before .before .before .before .before .before .before .before .before .before .before .args .points)) (c .before .before .before .before .before .before .before .before .before .before .before .before .before .before .before .before .before .before .before .before .before .before .before .before .args .rational) (now (c .before .before .before .before .before .before .before .before .before .before .before .before .before .before .before .before .before .before .before .before .before .before .before .before .args .weights))) 1 (λ t. refl) (numbersAt2 (c .before .before .before .before .before .before .before .before .before .before .before .before .before .before .before .before .before .before .before .before .before .before .before .before .args .degree) (now (c .before .before .before .before .before .before .before .before .before .before .before .before .before .before .before .before .before .before .before .before .before .before .before .before .args .knots)) (now (c .before .before .before .before .before .before .before .before .before .before .before .before .before .before .before .before .before .before .before .before .before .before .before .before .args .points)) (c .before .before .before .before .before .before .before .before .before .before .before .before .before .before .before .before .before .before .before .before .before .before .before .before .args .rational) (now (c .before .before .before .before .before .before .before .before .before .before .before .before .before .before .before .before .before .before .before .before .before .before .before .before .args .weights))) 9 (λ t. point2-says _ .count) (now (c .before .before .before .before .before .before .before .before .before .before .before .before .before .before .before .before .before .before .before .before .before .before .before .before .args .ts)) (length (now (c .before .before .before .before .before .before .before .before .before .before .before .before .before .before .before .before .before .before .before .before .before .before .before .before .args .numbers))) (length (now (c .before .before .before .before .before .before .before .before .before .before .before .before .before .before .before .before .before .before .before .before .before .before .before .before .args .rows))) (c .before .before .before .before .before .before .before .before .before .before .before .before .before .before .before .before .clear-numbers .last .0) (c .before .before .before .before .before .before .before .before .before .before .before .before .clear .last .0) (c .before .before .before .before .before .before .before .before .before .before .before .before .before .before .before .before .clear-numbers .ensures) (c .before .before .before .before .before .before .before .before .before .before .before .before .clear .ensures) _ _ (start-is (c .before .before .before .before .before .before .before .before .before .before .before .before .before .before .before .before .before .before .before .before .before .before .before .before .args .degree) (now (c .before .before .before .before .before .before .before .before .before .before .before .before .before .before .before .before .before .before .before .before .before .before .before .before .args .knots)) (now (c .before .before .before .before .before .before .before .before .before .before .before .before .before .before .before .before .before .before .before .before .before .before .before .before .args .points)) (c .before .before .before .before .before .before .before .before .before .before .before .before .before .before .before .before .before .before .before .before .before .before .before .before .args .rational) (now (c .before .before .before .before .before .before .before .before .before .before .before .before .before .before .before .before .before .before .before .before .before .before .before .before .args .weights)) (now (c .before .before .before .before .before .before .before .before .before .before .before .before .before .before .before .before .before .before .before .before .before .before .before .before .args .ts)) 9 (length (now (c .before .before .before .before .before .before .before .before .before .before .before .before .before .before .before .before .before .before .before .before .before .before .before .before .args .numbers))) (length (now (c .before .before .before .before .before .before .before .before .before .before .before .before .before .before .before .before .before .before .before .before .before .before .before .before .args .rows))) (c .before .before .before .before .before .before .before .before .before .before .before .before .before .before .before .before .clear-numbers .last .0) (c .before .before .before .before .before .before .before .before .before .before .before .before .clear .last .0) (c .before .before .before .before .before .before .before .before .before .before .before .before .before .before .before .before .clear-numbers .ensures) (c .before .before .before .before .before .before .before .before .before .before .before .before .clear .ensures) _ (c .before .before .before .before .before .before .before .before .before .points-start .ensures)) (c .before .before .before .before .before .before .before .if1 .left) _ (length (now (c .before .before .before .before .before .before .before .before .before .before .before .before .before .before .before .before .before .before .before .before .before .before .before .before .args .ts))) _ _ _ refl (omega arith) refl (c .before .before .before .before .eval2-each .ensures .0) (c .before .before .before .before .eval2-each .ensures .1)
+returns-2 c = meets-answered (numberAt2 (c .before .before .before .before .before .before .before .before .before .before .before .before .before .before .before .before .before .before .before .before .before .before .before .before .args .degree) (now (c .before .before .before .before .before .before .before .before .before .before .before .before .before .before .before .before .before .before .before .before .before .before .before .before .args .knots)) (now (c .before .before .before .before .before .before .before .before .before .before .before .before .before .before .before .before .before .before .before .before .before .before .before .before .args .points)) (c .before .before .before .before .before .before .before .before .before .before .before .before .before .before .before .before .before .before .before .before .before .before .before .before .args .rational) (now (c .before .before .before .before .before .before .before .before .before .before .before .before .before .before .before .before .before .before .before .before .before .before .before .before .args .weights))) 1 (λ t. refl) (numbersAt2 (c .before .before .before .before .before .before .before .before .before .before .before .before .before .before .before .before .before .before .before .before .before .before .before .before .args .degree) (now (c .before .before .before .before .before .before .before .before .before .before .before .before .before .before .before .before .before .before .before .before .before .before .before .before .args .knots)) (now (c .before .before .before .before .before .before .before .before .before .before .before .before .before .before .before .before .before .before .before .before .before .before .before .before .args .points)) (c .before .before .before .before .before .before .before .before .before .before .before .before .before .before .before .before .before .before .before .before .before .before .before .before .args .rational) (now (c .before .before .before .before .before .before .before .before .before .before .before .before .before .before .before .before .before .before .before .before .before .before .before .before .args .weights))) 9 (λ t. point2-says (eval2Of (c .before .before .before .before .before .before .before .before .before .before .before .before .before .before .before .before .before .before .before .before .before .before .before .before .args .degree) (now (c .before .before .before .before .before .before .before .before .before .before .before .before .before .before .before .before .before .before .before .before .before .before .before .before .args .knots)) (now (c .before .before .before .before .before .before .before .before .before .before .before .before .before .before .before .before .before .before .before .before .before .before .before .before .args .points)) (c .before .before .before .before .before .before .before .before .before .before .before .before .before .before .before .before .before .before .before .before .before .before .before .before .args .rational) (now (c .before .before .before .before .before .before .before .before .before .before .before .before .before .before .before .before .before .before .before .before .before .before .before .before .args .weights)) t) .count) (now (c .before .before .before .before .before .before .before .before .before .before .before .before .before .before .before .before .before .before .before .before .before .before .before .before .args .ts)) (length (now (c .before .before .before .before .before .before .before .before .before .before .before .before .before .before .before .before .before .before .before .before .before .before .before .before .args .numbers))) (length (now (c .before .before .before .before .before .before .before .before .before .before .before .before .before .before .before .before .before .before .before .before .before .before .before .before .args .rows))) (c .before .before .before .before .before .before .before .before .before .before .before .before .before .before .before .before .clear-numbers .last .0) (c .before .before .before .before .before .before .before .before .before .before .before .before .clear .last .0) (c .before .before .before .before .before .before .before .before .before .before .before .before .before .before .before .before .clear-numbers .ensures) (c .before .before .before .before .before .before .before .before .before .before .before .before .clear .ensures) _ _ (start-is (c .before .before .before .before .before .before .before .before .before .before .before .before .before .before .before .before .before .before .before .before .before .before .before .before .args .degree) (now (c .before .before .before .before .before .before .before .before .before .before .before .before .before .before .before .before .before .before .before .before .before .before .before .before .args .knots)) (now (c .before .before .before .before .before .before .before .before .before .before .before .before .before .before .before .before .before .before .before .before .before .before .before .before .args .points)) (c .before .before .before .before .before .before .before .before .before .before .before .before .before .before .before .before .before .before .before .before .before .before .before .before .args .rational) (now (c .before .before .before .before .before .before .before .before .before .before .before .before .before .before .before .before .before .before .before .before .before .before .before .before .args .weights)) (now (c .before .before .before .before .before .before .before .before .before .before .before .before .before .before .before .before .before .before .before .before .before .before .before .before .args .ts)) 9 (length (now (c .before .before .before .before .before .before .before .before .before .before .before .before .before .before .before .before .before .before .before .before .before .before .before .before .args .numbers))) (length (now (c .before .before .before .before .before .before .before .before .before .before .before .before .before .before .before .before .before .before .before .before .before .before .before .before .args .rows))) (c .before .before .before .before .before .before .before .before .before .before .before .before .before .before .before .before .clear-numbers .last .0) (c .before .before .before .before .before .before .before .before .before .before .before .before .clear .last .0) (c .before .before .before .before .before .before .before .before .before .before .before .before .before .before .before .before .clear-numbers .ensures) (c .before .before .before .before .before .before .before .before .before .before .before .before .clear .ensures) _ (c .before .before .before .before .before .before .before .before .before .points-start .ensures)) (c .before .before .before .before .before .before .before .if1 .left) _ (length (now (c .before .before .before .before .before .before .before .before .before .before .before .before .before .before .before .before .before .before .before .before .before .before .before .before .args .ts))) _ _ _ refl (omega arith) refl (c .before .before .before .before .eval2-each .ensures .0) (c .before .before .before .before .eval2-each .ensures .1)
 
 pub eval2-many-spec : {M : Type 1} → statement M
 eval2-many-spec =
