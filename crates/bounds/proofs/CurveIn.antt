@@ -39,7 +39,7 @@ use Rattle.bounds.specs.Start.{weightsOf, maxFrom, minFrom, startAt, poi
 use Rattle.bounds.specs.Cartesian.{cartesianOf, netBy}
 use Rattle.bounds.specs.Range.{weightAt, spanOver, takenSpan, rangeRefusal}
 use Rattle.bounds.specs.Read.{startRefusal}
-use Rattle.bounds.specs.Enclosed.{Three, Boxed, at-t}
+use Rattle.bounds.specs.Enclosed.{Three, Boxed, X, Y, Z, at-t}
 use Rattle.bounds.proofs.Active.{Active, Ranged, around, around-is, around-held, around-knots, around-near, valid-active, Started, started, start-valid, taken-first}
 use Rattle.exact.proofs.Local.{Near, exact-local}
 use Rattle.exact.proofs.Window.{dexact-local}
@@ -60,16 +60,6 @@ use Rattle.knots.specs.Curve.{countOf, curveRefusal, ValidCurve}
 use Rattle.knots.proofs.Curves.{valid-curve}
 use Rattle.doubles.specs.Run.{valAt}
 use Rattle.bounds.specs.Curve.{unless}
-
--- coordinate k of point i
-abbrev pub X : List Float → ℕ → ℚ
-X ps i = val (at ps (i * 3))
-
-abbrev pub Y : List Float → ℕ → ℚ
-Y ps i = val (at ps (i * 3 + 1))
-
-abbrev pub Z : List Float → ℕ → ℚ
-Z ps i = val (at ps (i * 3 + 2))
 
 -- ---- helpers
 

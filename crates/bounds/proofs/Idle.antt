@@ -21,7 +21,7 @@ use Rattle.knots.specs.declared.refusal.Refusal.{Refusal}
 use Rattle.knots.proofs.Curves.{valid-curve}
 use Rattle.knots.proofs.Surfaces.{valid-surface}
 use Rattle.bounds.specs.Answer.{boundedOf}
-use Rattle.bounds.specs.Numbers.{boundedRefusal}
+use Rattle.bounds.specs.Numbers.{boundedRefusal, Idle}
 use Rattle.bounds.specs.Range.{spanOver, takenSpan, rangeRefusal}
 use Rattle.bounds.specs.Read.{readRefusal, placeRefusal, startRefusal}
 use Rattle.bounds.specs.Enclosed.{Three}
@@ -132,11 +132,6 @@ ranges-other p q nu nv us vs ulo uhi vlo vhi =
     (orElse-other (rangeRefusal p nu us ulo uhi) (rangeRefusal q nv vs vlo vhi) (range-other p nu us ulo uhi) (range-other q nv vs vlo vhi))
 
 -- ---- the whole answer
-
--- it refuses with neither
-pub record Idle (A : Bounded) : Type 0 where
-  pub not-28 : boundedRefusal A .number ≡ 28 → ⊥
-  pub not-29 : boundedRefusal A .number ≡ 29 → ⊥
 
 idle : (A : Bounded) → Other (boundedRefusal A) → Idle A
 idle A h = record { not-28 = λ e. subst Given e h; not-29 = λ e. subst Given e h }

@@ -42,13 +42,13 @@ use Rattle.bounds.specs.Cartesian.{cartesianOf, netBy}
 use Rattle.bounds.specs.Range.{weightAt, spanOver, rangeRefusal}
 use Rattle.bounds.specs.Curve.{unless}
 use Rattle.bounds.specs.Jet.{parameterOf}
-use Rattle.bounds.specs.Enclosed.{Three, Boxed, grid, at-uv}
+use Rattle.bounds.specs.Enclosed.{Three, Boxed, X, Y, Z, grid, at-uv}
 use Rattle.bounds.specs.Surface.{rangesRefusal, maxRows, minRows, secondOf, rowAt, rangesAre, weightsBy, spansBound, boundedBy, surfaceOf, SpansFit}
 use Rattle.bounds.proofs.JetIn.{JetIn, in-one, in-zero}
 use Rattle.bounds.proofs.NetIn.{Given, levels-given, none, along, across, nowhere, net-in}
 use Rattle.bounds.proofs.WeightIn.{max-from, min-from, least, Cut, Cuts, range-in, scale-in, bound-in, ControlIn, FinitePoint, point-finite, control-in, up-0, up-given}
 use Rattle.bounds.proofs.CartesianIn.{Boxes, over, cartesian-in, boxes-eq, three-eq}
-use Rattle.bounds.proofs.CurveIn.{low-of, high-of, X, Y, Z, param-in, boxed, unless-in}
+use Rattle.bounds.proofs.CurveIn.{low-of, high-of, param-in, boxed, unless-in}
 use Rattle.bounds.proofs.SpanIn.{SpanValid, span-valid, InSpan, in-span, heavy-valid, heavy-pos}
 use Rattle.bounds.specs.Holds.{weight}
 use Rattle.bounds.specs.Answer.{boundedOf}

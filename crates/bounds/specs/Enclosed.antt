@@ -7,7 +7,7 @@ use Rattle.exact.specs.Rational.{ℚ, q0}
 use Rattle.exact.specs.Spline.{exact, dexact}
 use Rattle.exact.specs.Surface.{exact₂, dexact₂u, dexact₂v}
 use Rattle.doubles.specs.Run.{valAt}
-use Rattle.bounds.specs.Holds.{weight, Holding}
+use Rattle.bounds.specs.Holds.{coordinate, weight, Holding}
 use Rattle.bounds.specs.declared.answer.Bounded.{Bounded}
 use Rattle.bounds.specs.declared.answer.Bounded.the-variants.{Are, Refused}
 
@@ -22,6 +22,16 @@ abbrev pub Boxed : Bounded → Three → Three → Three → Type 0
 Boxed (Are b) X Y Z =
     Holding (b .point) (X .value) (Y .value) (Z .value) × Holding (b .du) (X .du) (Y .du) (Z .du) × Holding (b .dv) (X .dv) (Y .dv) (Z .dv)
 Boxed (Refused r) X Y Z = Unit
+
+-- the coordinates of point i
+abbrev pub X : List Float → ℕ → ℚ
+X ps = coordinate ps 0
+
+abbrev pub Y : List Float → ℕ → ℚ
+Y ps = coordinate ps 1
+
+abbrev pub Z : List Float → ℕ → ℚ
+Z ps = coordinate ps 2
 
 -- of a curve: the exact coordinate P and its derivative at t in span s; 0 in the other direction
 abbrev pub at-t : ℕ → List Float → ℕ → List Float → Bool → ℕ → ℚ → (ℕ → ℚ) → Three

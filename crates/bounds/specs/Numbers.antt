@@ -1,4 +1,5 @@
 -- A bound's answer in the paper's numbers, case by case: its refusal, which is `accepted` where there is none, and its values. Definitions only.
+use mathlib.Core.Path.{_≡_}
 use mathlib.Core.List.{List, []}
 use lib.Ieee.{Float}
 use Rattle.knots.specs.Refusal.{accepted}
@@ -20,3 +21,8 @@ boundedRefusal (Refused r) = r
 abbrev pub boundedValues : Bounded → List Float
 boundedValues (Are b) = sixOnto (b .point) (sixOnto (b .du) (sixOnto (b .dv) []))
 boundedValues (Refused r) = []
+
+-- an answer that is refused by neither 28 nor 29
+pub record Idle (A : Bounded) : Type 0 where
+  pub not-28 : boundedRefusal A .number ≡ 28 → ⊥
+  pub not-29 : boundedRefusal A .number ≡ 29 → ⊥

@@ -21,7 +21,8 @@ use Rattle.insertion.specs.Fold.{gives, refuses, insertAll}
 use Rattle.insertion.specs.Start.{clampedEnds}
 use Rattle.insertion.proofs.Grown.{count-run}
 use Rattle.insertion.proofs.Counted.{gt-not-eq, lt-not-eq, below-by, eq-finite, count-early, eq-self, eq-same, eq-sym, eq-lt-left, eq-lt-right, multiplicity-most, clamped-low, clamped-high}
-use Rattle.insertion.proofs.Made.{Each, countIn, each-append, each-replicate, each-map, count-append, count-replicate, Made, made, made-multiplicity}
+use Rattle.insertion.specs.Placed.{Each}
+use Rattle.insertion.proofs.Made.{countIn, each-append, each-replicate, each-map, count-append, count-replicate, Made, made, made-multiplicity}
 use Rattle.insertion.proofs.Never.{Late, late}
 use Rattle.insertion.proofs.Repeated.{inside-by, room-more}
 use Rattle.elevation.specs.Breaks.{breaksFrom, breaksOf, isFull, fullCount, missingAll}

@@ -23,13 +23,13 @@ use Rattle.basis.proofs.Cases.{lt-or-ge}
 use Rattle.insertion.specs.Counts.{bit, multiplicityOf, belowOf}
 use Rattle.insertion.specs.Insert.{knotAt, moreKnots, insertedKnots, insertedPoints, insertedWeights, insertRefusal}
 use Rattle.insertion.specs.Fold.{gives, refuses, insertAll}
-use Rattle.insertion.specs.Placed.{placed}
+use Rattle.insertion.specs.Placed.{placed, Each}
 use Rattle.insertion.proofs.Storing.{knot-low, knot-here}
 use Rattle.insertion.proofs.Grown.{count-run}
 use Rattle.insertion.proofs.Counted.{not-both, count-within, count-early, lt-not-eq, level-eq, eq-level, eq-self, below-rest, below-not}
 use Rattle.insertion.proofs.Places.{equal-value}
 use Rattle.insertion.proofs.Folds.{inserted-valid}
-use Rattle.insertion.proofs.Made.{Each, countIn, each-append, each-replicate, each-map, by-number, others, one-counts, made, made-below}
+use Rattle.insertion.proofs.Made.{countIn, each-append, each-replicate, each-map, by-number, others, one-counts, made, made-below}
 use Rattle.insertion.proofs.Domain.{Spot, spot}
 use Rattle.insertion.proofs.Placed.{spot-values}
 use Rattle.elevation.specs.Breaks.{isFull, missingAll}

@@ -15,7 +15,8 @@ use Rattle.knots.specs.Knots.{ValidKnots}
 use Rattle.insertion.specs.Counts.{bit, countBelow, multiplicityOf}
 use Rattle.insertion.specs.Start.{clampedEnds}
 use Rattle.insertion.proofs.Counted.{lt-not-eq, gt-not-eq, eq-self}
-use Rattle.insertion.proofs.Made.{Each, countIn, each-append, each-replicate, each-map, count-append, count-replicate}
+use Rattle.insertion.specs.Placed.{Each}
+use Rattle.insertion.proofs.Made.{countIn, each-append, each-replicate, each-map, count-append, count-replicate}
 use Rattle.elevation.specs.Breaks.{breaksOf, isFull}
 use Rattle.elevation.specs.Elevate.{breakKnots, raisedKnots, raisedCount}
 use Rattle.elevation.proofs.Breaks.{raisedCount as sumCount, Rising, each-zip, count-none-in, out-count, IsBreak, distinct, breaks-are}

@@ -32,9 +32,9 @@ use Rattle.insertion.specs.Counts.{bit, multiplicityOf}
 use Rattle.insertion.specs.Fold.{Outcome, gives, refuses, insertAll}
 use Rattle.insertion.specs.Whole.{givenOf}
 use Rattle.insertion.specs.Start.{clampedEnds, editStart}
-use Rattle.insertion.specs.Placed.{placed, weightValue, coordinateValue}
+use Rattle.insertion.specs.Placed.{placed, weightValue, coordinateValue, Each}
 use Rattle.insertion.proofs.Counted.{multiplicity-low, multiplicity-high, below-room}
-use Rattle.insertion.proofs.Made.{Each, each-map, by-number, Made, made, made-low, made-high, made-clamped}
+use Rattle.insertion.proofs.Made.{each-map, by-number, Made, made, made-low, made-high, made-clamped}
 use Rattle.insertion.proofs.Starting.{edit-open}
 use Rattle.insertion.proofs.Placed.{placed-long, Placed, placed-all, weight-above}
 use Rattle.elevation.specs.Breaks.{breaksOf, isFull, missingAll}

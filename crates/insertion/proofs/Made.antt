@@ -16,6 +16,7 @@ use Rattle.knots.specs.Knots.{ValidKnots}
 use Rattle.knots.specs.Curve.{ValidControls}
 use Rattle.knots.specs.Span.{SpanAt, spanOf}
 use Rattle.basis.proofs.Whole.{at-tabulate, length-tabulate}
+use Rattle.insertion.specs.Placed.{Each}
 use Rattle.insertion.specs.Counts.{bit, countBelow, multiplicityOf, belowOf, allEqual}
 use Rattle.insertion.specs.Rows.{given}
 use Rattle.insertion.specs.Insert.{knotAt, moreKnots, inside, morePoints, moreWeights, insertedKnots, insertedPoints, insertedWeights, insertRefusal}
@@ -27,11 +28,6 @@ use Rattle.insertion.proofs.Folds.{inserted-formed, inserted-valid}
 use Rattle.insertion.proofs.Counted.{count-grown}
 
 -- ---- lists
--- every number of a list
-abbrev pub Each : (Float → Type 0) → List Float → Type 0
-Each P [] = Unit
-Each P (t ∷ ts) = P t × Each P ts
-
 -- every number of a list lies strictly inside the domain
 abbrev pub AllInside : ℕ → ℕ → List Float → List Float → Type 0
 AllInside p n ks = Each (λ t. inside (at ks p) (at ks n) t ≡ true)

@@ -24,3 +24,8 @@ weightValue g ws i = val (cond g (at ws i) one+)
 
 abbrev pub coordinateValue : List Float → ℕ → ℕ → ℚ
 coordinateValue ps k i = val (coordinate ps i k)
+
+-- every number of a list
+abbrev pub Each : (Float → Type 0) → List Float → Type 0
+Each P [] = Unit
+Each P (t ∷ ts) = P t × Each P ts

@@ -11,12 +11,8 @@ use Rattle.exact.specs.Rational.{ℚ, _≤q_}
 use Rattle.exact.proofs.Field.{≤-trans}
 use Rattle.doubles.specs.Value.{ratio, val, Lower, Upper}
 use Rattle.doubles.proofs.Value.{ratio-le, val-is}
-use Rattle.listing.specs.Fixed.{whole}
+use Rattle.listing.specs.Fixed.{whole, written}
 use Rattle.listing.proofs.Rounding.{cut, raised}
-
--- the fraction that `fixed above (fin s m e)` writes
-abbrev pub written : Bool → Bool → ℕ → ℤ → ℚ
-written above s m e = ratio s (whole (unlike above s) (m * up e * 1000000000) (down e)) 1000000000
 
 pub written-below : (s : Bool) (m : ℕ) (e : ℤ) → written false s m e ≤q val (fin s m e)
 written-below false m e =

@@ -4,7 +4,10 @@ use Prim.Native.Nat.{ℕ, _+_, _-_, _*_, _/_}
 use mathlib.Core.Bool.{Bool, true, false, _&&_, cond}
 use mathlib.Core.List.{List, [], _∷_, _++_}
 use lib.Dec.{ltb}
+use lib.IntN.{ℤ}
 use lib.Ieee.{Float, nan, inf, fin, up, down, unlike}
+use Rattle.exact.specs.Rational.{ℚ}
+use Rattle.doubles.specs.Value.{ratio}
 use Rattle.listing.specs.Text.{digits, width}
 
 -- n / d as a whole number: the part before the point, or, where it is to be no smaller, the least such
@@ -24,3 +27,7 @@ unfoldable pub fixed : Bool → Float → List ℕ
 fixed above nan = 110 ∷ 97 ∷ 110 ∷ []
 fixed above (inf s) = minus s ++ (105 ∷ 110 ∷ 102 ∷ [])
 fixed above (fin s m e) = billionths s (whole (unlike above s) (m * up e * 1000000000) (down e))
+
+-- the fraction that `fixed above (fin s m e)` writes
+abbrev pub written : Bool → Bool → ℕ → ℤ → ℚ
+written above s m e = ratio s (whole (unlike above s) (m * up e * 1000000000) (down e)) 1000000000

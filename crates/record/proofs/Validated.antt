@@ -3,7 +3,7 @@
 use Prim.Native.Nat.{ℕ}
 use mathlib.Core.Bool.{Bool, true, false, cond}
 use mathlib.Core.Path.{_≡_, refl, sym, _∙_, ap, subst}
-use mathlib.Core.List.{List}
+use mathlib.Core.List.{List, [], _∷_}
 use mathlib.Core.Option.{Option, none, some}
 use native.Mathlib.Omega.{arith}
 use lib.ListN.{length, take, length-map}
@@ -18,8 +18,8 @@ use Rattle.knots.proofs.Curves.{valid-curve}
 use Rattle.knots.proofs.Refusals.{stop, skip}
 use Rattle.record.specs.Format.{Table, given, rationalBy}
 use Rattle.record.specs.Reading.{tableOf, layout, rational, roomFor, numbersOf, numbers, handed, cleared, padded, Lent, ReadsNumbers}
-use Rattle.record.specs.Validated.{refusalIn, curveIn, answerOf, numberOf, ReadsTable}
-use Rattle.record.specs.Numbers.{tableAnswerRefusal}
+use Rattle.record.specs.Validated.{refusalIn, curveIn, answerOf, numberOf, valuesOf, ReadsTable}
+use Rattle.record.specs.Numbers.{tableAnswerRefusal, tableAnswerValues}
 use Rattle.record.specs.declared.table.TableAnswer.{TableAnswer}
 use Rattle.record.specs.declared.read.Layout.{Layout}
 use Rattle.record.specs.declared.read.Record.the-variants as R
@@ -73,11 +73,27 @@ said (some t) k p w r e = ap (λ (a : TableAnswer). tableAnswerRefusal a .number
     by-room true = by-curve (eqb (refusalIn t .number) 0) (eqb-true (refusalIn t .number) 0)
     by-room false = refl
 
+-- and its values
+abbrev lengths : Table → List ℕ
+lengths t = t .degree ∷ length (t .knots) ∷ length (t .points) ∷ length (given (t .weights)) ∷ []
+
+listed : (o : Option Table) (k p w : ℕ) (r : TableAnswer) → r ≡ answerOf o k p w → tableAnswerValues r ≡ valuesOf o k p w
+listed none k p w r e = ap tableAnswerValues e
+listed (some t) k p w r e = ap tableAnswerValues e ∙ by-room (roomFor (layout t) k p w)
+  where
+    by-curve : (b : Bool) → tableAnswerValues (cond b (Curve (layout t) (rationalBy (t .weights))) (Refused (refusalIn t))) ≡ cond b (lengths t) []
+    by-curve true = refl
+    by-curve false = refl
+
+    by-room : (b : Bool) → tableAnswerValues (cond b (curveIn t) (Refused (refuse too-long))) ≡ cond b (cond (eqb (refusalIn t .number) 0) (lengths t) []) []
+    by-room true = by-curve (eqb (refusalIn t .number) 0)
+    by-room false = refl
+
 module _ (s : List ℕ) (k p w k′ p′ w′ : List Float) where
   pub refused-first : (x : Refusal) → ReadsNumbers s k p w k′ p′ w′ (R.Refused x) → ReadsTable s k p w k′ p′ w′ (Refused x)
   refused-first x r =
       let a = numbers-none (length k) (length p) (length w) (tableOf s) x (r .answer) in
-      record { means = r .means; answer = a; number = said (tableOf s) (length k) (length p) (length w) (Refused x) a; runs = r .runs; front = tt }
+      record { means = r .means; answer = a; number = said (tableOf s) (length k) (length p) (length w) (Refused x) a; values = listed (tableOf s) (length k) (length p) (length w) (Refused x) a; runs = r .runs; front = tt }
 
   module _ (l : Layout) (r : ReadsNumbers s k p w k′ p′ w′ (R.Fields l)) where
     found : (t : Table) × (tableOf s ≡ some t) × (layout t ≡ l) × (roomFor (layout t) (length k) (length p) (length w) ≡ true)
@@ -108,6 +124,7 @@ module _ (s : List ℕ) (k p w k′ p′ w′ : List Float) where
             means = r .means;
             answer = a;
             number = said (tableOf s) (length k) (length p) (length w) (Refused x) a;
+            values = listed (tableOf s) (length k) (length p) (length w) (Refused x) a;
             runs = blank-runs k p w;
             front = tt;
           }
@@ -121,6 +138,7 @@ module _ (s : List ℕ) (k p w k′ p′ w′ : List Float) where
             means = r .means;
             answer = a;
             number = said (tableOf s) (length k) (length p) (length w) (Curve l (rational l)) a;
+            values = listed (tableOf s) (length k) (length p) (length w) (Curve l (rational l)) a;
             runs = r .runs;
             front = record {
               knots = rw lk (fits .0);

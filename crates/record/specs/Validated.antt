@@ -3,7 +3,7 @@
 use Prim.Native.Nat.{ℕ, _≤_}
 use mathlib.Core.Bool.{Bool, cond}
 use mathlib.Core.Path.{_≡_}
-use mathlib.Core.List.{List}
+use mathlib.Core.List.{List, [], _∷_}
 use mathlib.Core.Option.{Option, none, some}
 use lib.ListN.{length, take}
 use lib.Dec.{eqb}
@@ -13,7 +13,7 @@ use Rattle.knots.specs.Refusal.{refuse, too-long, record-malformed}
 use Rattle.knots.specs.Curve.{curveRefusal, ValidCurve}
 use Rattle.record.specs.Format.{Table, Means, given, rationalBy}
 use Rattle.record.specs.Reading.{tableOf, layout, roomFor, handed, numbers, Lent}
-use Rattle.record.specs.Numbers.{tableAnswerRefusal}
+use Rattle.record.specs.Numbers.{tableAnswerRefusal, tableAnswerValues}
 use Rattle.record.specs.declared.read.Layout.{Layout}
 use Rattle.record.specs.declared.read.Record.{Record}
 use Rattle.record.specs.declared.read.Record.the-variants as R
@@ -38,6 +38,12 @@ abbrev pub numberOf : Option Table → ℕ → ℕ → ℕ → ℕ
 numberOf none k p w = refuse record-malformed .number
 numberOf (some t) k p w = cond (roomFor (layout t) k p w) (refusalIn t .number) (refuse too-long .number)
 
+-- its values: the degree and the lengths of the three runs, none after a refusal
+abbrev pub valuesOf : Option Table → ℕ → ℕ → ℕ → List ℕ
+valuesOf none k p w = []
+valuesOf (some t) k p w =
+    cond (roomFor (layout t) k p w) (cond (eqb (refusalIn t .number) 0) (t .degree ∷ length (t .knots) ∷ length (t .points) ∷ length (given (t .weights)) ∷ []) []) []
+
 -- the same answer without the validation
 abbrev pub unvalidated : TableAnswer → Record
 unvalidated (Curve l g) = R.Fields l
@@ -54,10 +60,11 @@ abbrev pub FrontOf : TableAnswer → List Float → List Float → List Float �
 FrontOf (Curve l g) k p w = Front l g k p w
 FrontOf (Refused x) k p w = Unit {0}
 
--- the promise of `read_table`: k, p, w are the lent runs before, k′, p′, w′ after. `number` and `front` follow from the others: the first is the paper's number, the second what a caller goes on with
+-- the promise of `read_table`: k, p, w are the lent runs before, k′, p′, w′ after. `number`, `values` and `front` follow from the others: the first two are the paper's, the third is what a caller goes on with
 pub record ReadsTable (s : List ℕ) (k p w k′ p′ w′ : List Float) (r : TableAnswer) : Type 0 where
   pub means : Means s (tableOf s)
   pub answer : r ≡ answerOf (tableOf s) (length k) (length p) (length w)
   pub number : tableAnswerRefusal r .number ≡ numberOf (tableOf s) (length k) (length p) (length w)
+  pub values : tableAnswerValues r ≡ valuesOf (tableOf s) (length k) (length p) (length w)
   pub runs : Lent (handed (unvalidated r) (tableOf s)) k p w k′ p′ w′
   pub front : FrontOf r k′ p′ w′

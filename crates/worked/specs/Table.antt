@@ -25,10 +25,10 @@ use Rattle.bounds.specs.Curve.{boundOf}
 use Rattle.bounds.specs.Numbers.{boundedRefusal}
 
 -- ---- doubles by their bits
-abbrev d : ℕ → Float
+abbrev pub d : ℕ → Float
 d b = ofBits binary64 b
 
-abbrev doubles : List ℕ → List Float
+abbrev pub doubles : List ℕ → List Float
 doubles = map d
 
 abbrev bits : List Float → List ℕ
@@ -44,22 +44,22 @@ eighth = 0x3fc0_0000_0000_0000
 abbrev quarter : ℕ
 quarter = 0x3fd0_0000_0000_0000
 
-abbrev half : ℕ
+abbrev pub half : ℕ
 half = 0x3fe0_0000_0000_0000
 
 abbrev five-eighths : ℕ
 five-eighths = 0x3fe4_0000_0000_0000
 
-abbrev one : ℕ
+abbrev pub one : ℕ
 one = 0x3ff0_0000_0000_0000
 
 abbrev three-halves : ℕ
 three-halves = 0x3ff8_0000_0000_0000
 
-abbrev two : ℕ
+abbrev pub two : ℕ
 two = 0x4000_0000_0000_0000
 
-abbrev three : ℕ
+abbrev pub three : ℕ
 three = 0x4008_0000_0000_0000
 
 abbrev four : ℕ
@@ -72,7 +72,7 @@ abbrev six : ℕ
 six = 0x4018_0000_0000_0000
 
 -- with the sign set
-abbrev minus : ℕ → ℕ
+abbrev pub minus : ℕ → ℕ
 minus b = 0x8000_0000_0000_0000 + b
 
 -- points on the x axis
