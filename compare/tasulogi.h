@@ -14,7 +14,7 @@
  * - 30 is said of two things. An input run has more than 1,048,576 numbers: this comes before every other refusal. Or a
  *   lent run is too short: this comes after every other refusal, but where a curve is made from a curve or a surface. There
  *   it comes before what is refused while the curve is formed (13, 14, 19, 20, 23) and before 1 to 10 of the curve that
- *   was. Each function says its order.
+ *   was formed. Each function on curves and surfaces says its order; an interval function looks for 99, then 26, then 30.
  * - Refusals 1 to 7 of a surface say their direction: 101 to 107 along u, 201 to 207 along v.
  * - A function with no lent run returns its answer.
  * - An interval is passed by its ends, low before high, and answered as two doubles, low before high. Infinite ends
@@ -189,7 +189,8 @@ uint32_t tasulogi_eval2(
     const double *weights, size_t weights_n,
     double t, double *out, size_t n);
 
-/* The point and the derivatives along u and v: 9 numbers. */
+/* The point and the derivatives along u and v: 9 numbers. Parameters outside the domain become the nearer ends. Refusals in
+ * this order: those of the surface, 31, 12, then 30 for the lent run. */
 uint32_t tasulogi_eval_surface(
     size_t u_degree, size_t v_degree, const double *u_knots, size_t u_knots_n, const double *v_knots, size_t v_knots_n,
     size_t u_count, size_t v_count, const double *points, size_t points_n, bool rational, const double *weights,
@@ -246,7 +247,7 @@ uint32_t tasulogi_iso_curve(
 
 /* Knots inserted one after the other, into runs for count + inserted_n points, with scratch of
  * 10 (count + inserted_n) + 2 (degree + 1) numbers. Refusals: 30 for a run that is too long, those of the curve, 17,
- * 30 for a lent run, then per knot 13, 14, 19, 20, and 8 of the curve that is formed. */
+ * 30 for a lent run, then per knot 13, 14, 19, 20, and 1 to 10 of the curve that is formed. */
 uint64_t tasulogi_insert_knots(
     size_t degree, const double *knots, size_t knots_n, const double *points, size_t points_n, bool rational,
     const double *weights, size_t weights_n, const double *inserted, size_t inserted_n,
@@ -256,7 +257,7 @@ uint64_t tasulogi_insert_knots(
 /* The part from lo to hi, a full break being taken from inside. With a and b for how often lo and hi are missing from
  * degree + 1 of them among the knots, and c(x) for the knots below x: into runs for c(hi) + a - c(lo) points, with
  * scratch of 10 (count + a + b) + 2 (degree + 1) numbers. Refusals: 30 for a run that is too long, those of the curve,
- * 17, 15, 30 for a lent run, then 19, 20, and 8 of a curve that is formed. */
+ * 17, 15, 30 for a lent run, then 19, 20, and 1 to 10 of a curve that is formed. */
 uint64_t tasulogi_trim(
     size_t degree, const double *knots, size_t knots_n, const double *points, size_t points_n, bool rational,
     const double *weights, size_t weights_n, double lo, double hi,
@@ -266,7 +267,7 @@ uint64_t tasulogi_trim(
 /* The curve with a higher degree e = raised, or a copy where it is the same. With b distinct knots inside the domain, f
  * of them degree + 1 times: into runs for (e + 1) (b + 1) - b + f points, count for a copy, with scratch of
  * 10 (degree + 1) (b + 1) + 2 (degree + 1) numbers. Refusals: 30 for a run that is too long, those of the curve, 17, 16,
- * 18, 30 for a lent run, then 19, 20, and 8 of a curve that is formed. */
+ * 18, 30 for a lent run, then 19, 20, and 1 to 10 of a curve that is formed. */
 uint64_t tasulogi_elevate_degree(
     size_t degree, const double *knots, size_t knots_n, const double *points, size_t points_n, bool rational,
     const double *weights, size_t weights_n, size_t raised,

@@ -1,5 +1,10 @@
-#!/usr/bin/env python3
-"""The table record of docs/01-scope.md: fields of a tag, a length in two bytes and a payload, all little-endian.
+#!/bin/sh
+''':'
+# Python would end at a folder as input before its first line, so the shell looks for one; for Python these lines are a text.
+[ -d /dev/stdin ] && { echo "record.py: the input is a folder" >&2; exit 5; }
+exec python3 "$0" "$@"
+'''
+__doc__ = """The table record of docs/01-scope.md: fields of a tag, a length in two bytes and a payload, all little-endian.
 
   tables/record.py pack < TABLE.json > TABLE.rec    the record of a table that is written as JSON
   tables/record.py show < TABLE.rec > TABLE.json    a record as JSON, which packs to the same bytes
@@ -10,7 +15,6 @@ digits is a double by its bits, as the listers print it: an infinity or a NaN ca
 the table is valid is not judged here; the last point may have fewer than three coordinates, as in a record.
 
 Exit status: 0 done; 2 bad usage; 5 the input cannot be read, is no such JSON or no record, or the output failed.
-A folder as input is refused by Python itself, with status 1.
 """
 import json
 import math
