@@ -3,13 +3,10 @@ use mathlib.Core.Path.{_≡_, refl, sym, _∙_, ap, ap₂}
 use mathlib.Core.Bool.{Bool, true, _&&_}
 use lib.Ieee.{Float}
 use Rattle.interval.specs.declared.Interval.{Interval}
-use Rattle.interval.specs.Ops.{addOf, mulOf, oppositesOf, symmetricOf, isSymmetric}
-use Rattle.interval.proofs.Symmetric.{symmetric-left, symmetric-right, product-is, sum-is, clear-is, product-clear, sum-clear}
+use Rattle.interval.specs.Ops.{addOf, mulOf, oppositesOf, isSymmetric}
+use Rattle.interval.proofs.Symmetric.{symmetric-left, symmetric-right, product-is, sum-is}
 use Rattle.knots.proofs.Below.{and-left, and-right}
 use Rattle.bounds.specs.Net.{slopeOf}
-
-pub times-is : (a d : Interval) → isSymmetric d ≡ true → symmetricOf (mulOf (oppositesOf (d .hi)) a .hi) ≡ mulOf a d
-times-is a d e = clear-is _ (product-clear (d .hi) a) ∙ sym (product-is (d .hi) a) ∙ symmetric-right d a e
 
 -- the high end of a sum of two by theirs
 abbrev highOf : Float → Float → Float
@@ -25,10 +22,8 @@ module _ (b : Interval) (bs : Float) (a : Interval) (s : Float) (c : Interval) (
   abbrev y : Float
   y = highOf (mulOf (oppositesOf cs) d .hi) (mulOf (oppositesOf t) c .hi)
 
-  pub about-is : symmetricOf (highOf x y) ≡ addOf (addOf (mulOf (oppositesOf bs) a) (mulOf (oppositesOf s) b)) (addOf (mulOf (oppositesOf cs) d) (mulOf (oppositesOf t) c))
-  about-is =
-      clear-is _ (sum-clear x y (sum-clear _ _ (product-clear bs a) (product-clear s b)) (sum-clear _ _ (product-clear cs d) (product-clear t c)))
-      ∙ sym (pair _ _ x y (pair _ _ _ _ (product-is bs a) (product-is s b)) (pair _ _ _ _ (product-is cs d) (product-is t c)))
+  pub about-is : addOf (oppositesOf x) (oppositesOf y) ≡ addOf (addOf (mulOf (oppositesOf bs) a) (mulOf (oppositesOf s) b)) (addOf (mulOf (oppositesOf cs) d) (mulOf (oppositesOf t) c))
+  about-is = sym (ap₂ addOf (pair _ _ _ _ (product-is bs a) (product-is s b)) (pair _ _ _ _ (product-is cs d) (product-is t c)))
 
 pub slope-is : (b bd a ad c cd d dd : Interval) → (isSymmetric bd && (isSymmetric ad && (isSymmetric cd && isSymmetric dd))) ≡ true
     → addOf (addOf (mulOf (oppositesOf (bd .hi)) a) (mulOf (oppositesOf (ad .hi)) b)) (addOf (mulOf (oppositesOf (cd .hi)) d) (mulOf (oppositesOf (dd .hi)) c)) ≡ slopeOf b bd a ad c cd d dd

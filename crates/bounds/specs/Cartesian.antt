@@ -7,9 +7,8 @@ use Rattle.interval.specs.declared.Interval.{Interval}
 use Rattle.interval.specs.declared.New.{New}
 use Rattle.interval.specs.declared.New.the-variants.{Made, Nothing}
 use Rattle.interval.specs.declared.Quotient.{Quotient}
-use Rattle.interval.specs.declared.Quotient.the-variants as Q
 use Rattle.knots.specs.Refusal.{refuse, weights-apart}
-use Rattle.knots.specs.Numbers.{quotientRefusal}
+use Rattle.knots.specs.Numbers.{quotientBy}
 use Rattle.bounds.specs.declared.jet.Jet.{Jet}
 use Rattle.bounds.specs.declared.net.Control.{Control}
 use Rattle.bounds.specs.declared.net.NetAnswer.{NetAnswer}
@@ -26,9 +25,7 @@ coordinateOf h weight r o =
     record { v = addOf q (pointOf o); du = mulOf (subOf (h .du) (mulOf q (weight .du))) r; dv = mulOf (subOf (h .dv) (mulOf q (weight .dv))) r }
 
 abbrev pub boxBy : Control → Point → Quotient → BoundAnswer
-boxBy h o (Q.Is r) = B.Are (record { x = coordinateOf (h .x) (h .w) r (o .x); y = coordinateOf (h .y) (h .w) r (o .y); z = coordinateOf (h .z) (h .w) r (o .z) })
-boxBy h o Q.HoldsZero = B.Refused (quotientRefusal Q.HoldsZero .number)
-boxBy h o Q.Unbounded = B.Refused (quotientRefusal Q.Unbounded .number)
+boxBy h o = quotientBy (λ r. B.Are (record { x = coordinateOf (h .x) (h .w) r (o .x); y = coordinateOf (h .y) (h .w) r (o .y); z = coordinateOf (h .z) (h .w) r (o .z) })) B.Refused
 
 abbrev pub cutBy : Control → Point → New → BoundAnswer
 cutBy h o (Made w) = boxBy h o (reciprocalOf w)

@@ -10,8 +10,7 @@ use Rattle.doubles.specs.Value.{zero+, one+}
 use Rattle.interval.specs.Ops.{pointOf, addOf, subOf, mulOf, divideOf}
 use Rattle.interval.specs.declared.Interval.{Interval}
 use Rattle.interval.specs.declared.Quotient.{Quotient}
-use Rattle.interval.specs.declared.Quotient.the-variants.{Is, HoldsZero, Unbounded}
-use Rattle.knots.specs.Numbers.{quotientRefusal}
+use Rattle.knots.specs.Numbers.{quotientBy}
 use Rattle.bounds.specs.declared.jet.Jet.{Jet}
 use Rattle.bounds.specs.declared.net.Control.{Control}
 use Rattle.bounds.specs.declared.jet.JetAnswer.{JetAnswer}
@@ -22,9 +21,7 @@ use Rattle.bounds.specs.Jet.{constantOf, jetSub, jetAdd, jetMul, jetScal
 
 -- the share by the quotient of its denominator
 abbrev pub shareBy : Jet → Interval → Quotient → JetAnswer
-shareBy t l (Is q) = F.Is (jetScale (jetSub t (constantOf l)) q)
-shareBy t l HoldsZero = F.Refused (quotientRefusal HoldsZero .number)
-shareBy t l Unbounded = F.Refused (quotientRefusal Unbounded .number)
+shareBy t l = quotientBy (λ q. F.Is (jetScale (jetSub t (constantOf l)) q)) F.Refused
 
 unfoldable pub shareOf : Jet → Float → Float → JetAnswer
 shareOf t left right = shareBy t (pointOf left) (divideOf (pointOf one+) (subOf (pointOf right) (pointOf left)))

@@ -11,9 +11,8 @@ use Rattle.interval.specs.declared.Interval.{Interval}
 use Rattle.interval.specs.declared.New.{New}
 use Rattle.interval.specs.declared.New.the-variants.{Made, Nothing}
 use Rattle.interval.specs.declared.Quotient.{Quotient}
-use Rattle.interval.specs.declared.Quotient.the-variants as Q
 use Rattle.knots.specs.Refusal.{refuse, quotient-none, weight-ratio-low}
-use Rattle.knots.specs.Numbers.{quotientRefusal}
+use Rattle.knots.specs.Numbers.{quotientBy}
 use Rattle.bounds.specs.declared.jet.Jet.{Jet}
 use Rattle.bounds.specs.declared.net.Control.{Control}
 use Rattle.bounds.specs.declared.net.NetAnswer.{NetAnswer}
@@ -39,9 +38,7 @@ areBy most (Made b) = W.Are most b
 areBy most Nothing = W.Refused (refuse quotient-none .number)
 
 abbrev pub rangeBy : Float → Quotient → Weights
-rangeBy most (Q.Is q) = cond (le (q .lo) zero+) (W.Refused (refuse weight-ratio-low .number)) (areBy most (newOf (q .lo) one+))
-rangeBy most Q.HoldsZero = W.Refused (quotientRefusal Q.HoldsZero .number)
-rangeBy most Q.Unbounded = W.Refused (quotientRefusal Q.Unbounded .number)
+rangeBy most = quotientBy (λ q. cond (le (q .lo) zero+) (W.Refused (refuse weight-ratio-low .number)) (areBy most (newOf (q .lo) one+))) W.Refused
 
 -- the scale and [low of least / most, 1]
 unfoldable pub rangeOf : Float → Float → Weights
@@ -68,9 +65,7 @@ unfoldable pub startAt : List Float → List Float → Bool → ℕ → Point �
 startAt ps ws r b o q m = controlOf (pointAt ps (b + m)) o (weightAt r ws (b + m)) q
 
 abbrev pub rowBy : List Float → List Float → Bool → ℕ → Point → List Float → ℕ → ℕ → Jet → Quotient → NetAnswer
-rowBy ps ws r b o ks p s t (Q.Is q) = deboorOf ks p s t (startAt ps ws r b o q)
-rowBy ps ws r b o ks p s t Q.HoldsZero = N.Refused (quotientRefusal Q.HoldsZero .number)
-rowBy ps ws r b o ks p s t Q.Unbounded = N.Refused (quotientRefusal Q.Unbounded .number)
+rowBy ps ws r b o ks p s t = quotientBy (λ q. deboorOf ks p s t (startAt ps ws r b o q)) N.Refused
 
 -- all levels on the row at b, its weights over the scale
 unfoldable pub rowOf : List Float → List Float → Bool → ℕ → Point → Float → List Float → ℕ → ℕ → Jet → NetAnswer

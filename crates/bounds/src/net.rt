@@ -4,6 +4,7 @@ use crate::jet::JetAnswer;
 use interval::Interval;
 use interval::Quotient;
 use interval::reach_sum;
+use interval::spread_sum;
 ghost use mathlib.Core.Path.{_≡_};
 ghost use Rattle.bounds.specs.Jet.{jetAdd, jetMul};
 ghost use mathlib.Core.Bool.{_&&_};
@@ -88,7 +89,7 @@ fn about_zero(
 {
     let x = reach_sum(a.reach(bs), b.reach(s));
     let y = reach_sum(d.reach(cs), c.reach(t));
-    Interval::symmetric(reach_sum(x, y))
+    spread_sum(x, y)
 }
 
 // a d, where d is the derivative of a control: [0, 0] at first.
@@ -96,7 +97,7 @@ fn times(a: Interval, d: Interval) -> Interval
     ensures { λ r. ⌜ r ≡ mulOf a d ⌝ }
 {
     if d.is_symmetric() {
-        return Interval::symmetric(a.reach(d.hi()));
+        return a.spread(d.hi());
     }
     a.mul(d)
 }

@@ -16,7 +16,6 @@ use Rattle.exact.proofs.Laws.{frac-neg}
 use Rattle.exact.proofs.Field.{≤-trans, le-or-lt, lt→le, neg-le}
 use Rattle.doubles.specs.Value.{signed, ratio, val, Lower, Upper, Number, _⊑_}
 use Rattle.doubles.specs.Neighbour.{upFrom, downFrom}
-use Rattle.doubles.specs.Place.{sign-bit}
 use Rattle.doubles.proofs.Tests.{yes-or-no, neg-neg}
 use Rattle.doubles.proofs.Value.{le-ratio, ratio-neg, val-is, val-neg}
 use Rattle.doubles.proofs.Order.{lt-⊑, lt-irrefl, le-not}
@@ -92,14 +91,6 @@ units-signed f s q k = go (ltb (q * 2 ^ k) (2 ^ (low f + suc (emax f)))) (odd (s
 
 round-signed : (f : Format) (s : Bool) (a b : ℕ) → Signed s (round f s a b)
 round-signed f s a b = subst (Signed s) (sym (round-is f s a b)) (units-signed f s _ _)
-
-pub round-sign : (f : Format) (s : Bool) (a b : ℕ) → sign-bit (round f s a b) ≡ s
-round-sign f s a b = go (round f s a b) (round-signed f s a b)
-  where
-    go : (v : Float) → Signed s v → sign-bit v ≡ s
-    go nan h = absurd h
-    go (inf t) h = h
-    go (fin t m e) h = h
 
 pub round-number : (f : Format) (s : Bool) (a b : ℕ) → T (not (isNan (round f s a b)))
 round-number f s a b = go (round f s a b) (round-signed f s a b)

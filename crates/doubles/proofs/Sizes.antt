@@ -1,22 +1,20 @@
 -- A double without its sign. Its pattern is the double's without the sign, and patterns without signs are in the order of sizes, so that integers find the larger of two. Assumes nothing.
 use mathlib.Core.Path.{_≡_, refl, sym, ap, _∙_, subst}
-use Prim.Native.Nat.{ℕ, zero, suc, _+_, _%_, _≤_, _<_}
+use Prim.Native.Nat.{ℕ, _+_, _%_, _≤_, _<_}
 use native.Mathlib.Nat.{le-of-lt, lt-trans, not-le-of-lt, mod-eq-of-lt, add-mod-left}
-use native.Mathlib.Omega.{arith}
-use mathlib.Core.Bool.{Bool, true, false, not, cond, true≢false}
+use mathlib.Core.Bool.{Bool, true, false, not, cond}
 use lib.IntN.{ℤ}
 use lib.Dec.{T, ltb, ltb→lt, nltb→le}
 use lib.Arith.{le→nltb}
-use lib.Ieee.{Float, nan, inf, fin, Format, top, fits, isNan, ofBits, toBits, lt, neg, below, add, sum}
+use lib.Ieee.{Float, nan, inf, fin, Format, top, fits, isNan, ofBits, toBits, lt, neg}
 use lib.Ieee.Fits.{inf-fits}
 use lib.Ieee.Bits.{ofBits-toBits}
-use Rattle.doubles.specs.Neighbour.{upFrom, fmax, fabs}
+use Rattle.doubles.specs.Neighbour.{upFrom, fabs}
 use Rattle.doubles.specs.Value.{Number, _⊑_}
-use Rattle.doubles.specs.Place.{sign-bit, infPat, mag}
+use Rattle.doubles.specs.Place.{infPat, mag}
 use Rattle.doubles.proofs.Order.{lt-irrefl, ⊑-trans}
-use Rattle.doubles.proofs.Place.{fits-plus, infPat<top, infPat-pos, bits-halves, lt-below, mag-lt, toBits-inf, toBits-split}
+use Rattle.doubles.proofs.Place.{fits-plus, infPat<top, lt-below, mag-lt, toBits-inf, toBits-split}
 use Rattle.doubles.proofs.Stepping.{clear-inf}
-use Rattle.doubles.proofs.Enclose.{round-sign}
 use Rattle.doubles.proofs.Symmetric.{Peak, peaks-up, farthest, farthest-peak}
 
 -- ---- the pattern without the sign
@@ -74,50 +72,6 @@ abs-order f (fin s m e) (fin t n e2) h k n2 o l =
     let y = fin false n e2 in
     subst (λ (b : Bool). T (not b)) (sym (lt-below f y x (fits-plus f t n e2 k) (fits-plus f s m e h) (unfold isNan in tt) (unfold isNan in tt))) (le→nltb (mag f y) (mag f x) l)
 
--- ---- a clear sign
-pub abs-sign : (x : Float) → sign-bit (fabs x) ≡ false
-abs-sign nan = refl
-abs-sign (inf s) = refl
-abs-sign (fin s m e) = refl
-
-pub abs-fits : (f : Format) (x : Float) → T (fits f x) → T (fits f (fabs x))
-abs-fits f nan h = h
-abs-fits f (inf s) h = inf-fits f false
-abs-fits f (fin s m e) h = fits-plus f s m e h
-
-pub clear-abs : (x : Float) → sign-bit x ≡ false → fabs x ≡ x
-clear-abs nan e = refl
-clear-abs (inf s) e = ap inf (sym e)
-clear-abs (fin s m d) e = ap (λ (b : Bool). fin b m d) (sym e)
-
--- a step up from a clear sign keeps it
-pub up-sign : (f : Format) (x : Float) → T (fits f x) → sign-bit x ≡ false → sign-bit (upFrom f x) ≡ false
-unfolding upFrom
-up-sign f nan h e = refl
-up-sign f (inf true) h e = absurd (true≢false e)
-up-sign f (inf false) h e = refl
-up-sign f (fin s zero d) h e = bits-halves f false 1 (infPat-pos f) .0
-up-sign f (fin true (suc m) d) h e = absurd (true≢false e)
-up-sign f (fin false (suc m) d) h e = ap (λ (b : ℕ). sign-bit (ofBits f b)) (more (toBits f (fin false (suc m) d))) ∙ bits-halves f false (suc (mag f (fin false (suc m) d))) (mag-lt f false (suc m) d h) .0
-  where
-    more : (a : ℕ) → a + 1 ≡ 0 + suc a
-    more a = omega arith
-
--- and so does a sum
-pub add-sign : (f : Format) (x y : Float) → sign-bit x ≡ false → sign-bit y ≡ false → sign-bit (add f x y) ≡ false
-unfolding add sum
-add-sign f nan y d e = refl
-add-sign f (inf s) nan d e = refl
-add-sign f (inf true) (inf t) d e = absurd (true≢false d)
-add-sign f (inf false) (inf true) d e = absurd (true≢false e)
-add-sign f (inf false) (inf false) d e = refl
-add-sign f (inf s) (fin t n k) d e = d
-add-sign f (fin s m l) nan d e = refl
-add-sign f (fin s m l) (inf t) d e = e
-add-sign f (fin true m l) (fin t n k) d e = absurd (true≢false d)
-add-sign f (fin false m l) (fin true n k) d e = absurd (true≢false e)
-add-sign f (fin false m l) (fin false n k) d e = round-sign f false _ _
-
 -- ---- the larger of two sizes by their patterns
 module _ (f : Format) (p q : Float) (hp : T (fits f p)) (hq : T (fits f q)) (np : Number p) (nq : Number q) where
   abs-peak : (w : Float) → Number w → fabs p ⊑ w → fabs q ⊑ w → ((t : Float) → fabs p ⊑ t → fabs q ⊑ t → w ⊑ t) → Peak p (neg p) q (neg q) w
@@ -142,14 +96,3 @@ module _ (f : Format) (p q : Float) (hp : T (fits f p)) (hq : T (fits f q)) (np 
       go : (b : Bool) → (T b → fabs p ⊑ fabs q) → (T (not b) → fabs q ⊑ fabs p) → upFrom f (ofBits f (cond b (mag f q) (mag f p))) ≡ upFrom f (farthest p q)
       go true h k = ap (upFrom f) (of-size f q hq nq) ∙ stepped (fabs q) (abs-peak (fabs q) (abs-number q nq) (h tt) (lt-irrefl (fabs q)) (λ t a b. b))
       go false h k = ap (upFrom f) (of-size f p hp np) ∙ stepped (fabs p) (abs-peak (fabs p) (abs-number p np) (lt-irrefl (fabs p)) (k tt) (λ t a b. a))
-
-  -- a step up from the larger of two sizes has a clear sign
-  pub farthest-sign : sign-bit (upFrom f (farthest p q)) ≡ false
-  farthest-sign = ap sign-bit (sym up-larger) ∙ go (ltb (mag f p) (mag f q))
-    where
-      of : (x : Float) → T (fits f x) → Number x → sign-bit (upFrom f (ofBits f (mag f x))) ≡ false
-      of x h n = ap (λ (z : Float). sign-bit (upFrom f z)) (of-size f x h n) ∙ up-sign f (fabs x) (abs-fits f x h) (abs-sign x)
-
-      go : (b : Bool) → sign-bit (upFrom f (ofBits f (cond b (mag f q) (mag f p)))) ≡ false
-      go true = of q hq nq
-      go false = of p hp np

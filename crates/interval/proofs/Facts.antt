@@ -35,10 +35,6 @@ at-low (fin s m d) e = sym e
 pub finite-no : (x i : Float) → i ≡ inf false → lt (neg i) x ≡ false → false ≡ finite x
 finite-no x i p e = at-low x (ap (λ (z : Float). lt (neg z) x) (sym p) ∙ e)
 
-pub or-none : (a b : Bool) → (a || b) ≡ false → (a ≡ false) × (b ≡ false)
-or-none true b e = absurd (subst T e tt)
-or-none false b e = (refl, e)
-
 -- none of four is a NaN
 pub none-nan : (p q r s : Float) → someNan p q r s ≡ false → Four (λ x. isNan x ≡ false) p q r s
 unfolding someNan

@@ -6,19 +6,17 @@ use lib.Ieee.{Float, inf, binary64, neg, lt, eq, isNan, fits, add, mul}
 use lib.Ieee.Fits.{neg-fits, add-fits, mul-fits}
 use Rattle.doubles.specs.Neighbour.{nextUp, nextDown, fmax, least4, greatest4}
 use Rattle.doubles.specs.Value.{Number}
-use Rattle.doubles.specs.Place.{sign-bit}
 use Rattle.doubles.proofs.Tests.{T-of, Tn-of, neg-neg}
 use Rattle.doubles.proofs.Neighbour.{neg-nan, neg-lt}
 use Rattle.doubles.proofs.Extremes.{Four}
 use Rattle.doubles.proofs.Products.{mul-neg, number-neg}
 use Rattle.doubles.proofs.Opposite.{Opposed, opposed-neg, add-opposed, mul-opposed, mul-swap}
 use Rattle.doubles.proofs.Symmetric.{up-same, farthest, farthest-up, ends, ends-swapped}
-use Rattle.doubles.proofs.Sizes.{clear-abs, up-sign, add-sign, farthest-sign}
 use Rattle.doubles.proofs.Stepping.{up-nan}
 use Rattle.doubles.specs.Neighbour.{downFrom}
 use Rattle.interval.specs.declared.Interval.{Interval}
-use Rattle.interval.specs.Ops.{entire, checkedOf, someNan, addOf, mulOf, oppositesOf, symmetricOf, isSymmetric}
-use Rattle.interval.proofs.Facts.{none-nan, or-none}
+use Rattle.interval.specs.Ops.{entire, checkedOf, someNan, addOf, mulOf, oppositesOf, isSymmetric}
+use Rattle.interval.proofs.Facts.{none-nan}
 
 abbrev Held : Float → Type 0
 Held x = T (fits binary64 x)
@@ -145,43 +143,3 @@ sum-box a b = rw (low, up-nan binary64 r (add-fits binary64 a b)) (go (isNan r) 
 
 pub sum-is : (a b : Float) → addOf (oppositesOf a) (oppositesOf b) ≡ oppositesOf (addOf (oppositesOf a) (oppositesOf b) .hi)
 sum-is a b = subst (λ (i : Interval). i ≡ oppositesOf (i .hi)) (sym (sum-box a b)) (around-is (isNan (add binary64 a b)) (nextUp (add binary64 a b)))
-
--- ---- a high end that is a number with a clear sign is its own size
-
-abbrev pub Clear : Float → Type 0
-Clear x = (isNan x ≡ false) × (sign-bit x ≡ false)
-
-pub clear-is : (s : Float) → Clear s → symmetricOf s ≡ oppositesOf s
-unfolding symmetricOf
-clear-is s c = rw (c .0, clear-abs s (c .1))
-
-top-clear : Clear (inf false)
-unfolding isNan
-top-clear = (refl, refl)
-
-else-clear : (b : Bool) (m : Float) → (b ≡ false → Clear m) → Clear (cond b entire (oppositesOf m) .hi)
-else-clear true m h = top-clear
-else-clear false m h = h refl
-
-pub product-clear : (s : Float) (o : Interval) → Clear (mulOf (oppositesOf s) o .hi)
-product-clear s o = subst (λ (i : Interval). Clear (i .hi)) (sym (about-zero s o)) (else-clear (isNan p || isNan q) (nextUp (farthest p q)) stepped-clear)
-  where
-    p : Float
-    p = mul binary64 s (o .lo)
-
-    q : Float
-    q = mul binary64 s (o .hi)
-
-    stepped-clear : (isNan p || isNan q) ≡ false → Clear (nextUp (farthest p q))
-    stepped-clear e =
-        let h = mul-fits binary64 s (o .lo) in
-        let k = mul-fits binary64 s (o .hi) in
-        let n = or-none (isNan p) (isNan q) e in
-        (farthest-up binary64 p q h k (n .0), farthest-sign binary64 p q h k (Tn-of _ (n .0)) (Tn-of _ (n .1)))
-
-pub sum-clear : (a b : Float) → Clear a → Clear b → Clear (addOf (oppositesOf a) (oppositesOf b) .hi)
-sum-clear a b c d =
-    let r = add binary64 a b in
-    let h = add-fits binary64 a b in
-    subst (λ (i : Interval). Clear (i .hi)) (sym (sum-box a b))
-    (else-clear (isNan r) (nextUp r) (λ e. (up-nan binary64 r h ∙ e, up-sign binary64 r h (add-sign binary64 a b (c .1) (d .1)))))

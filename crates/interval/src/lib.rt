@@ -246,6 +246,14 @@ impl Interval {
         }
         above_sizes(p, q)
     }
+
+    // [-s, s] times it: its ends are opposite numbers too.
+    pub fn spread(self, s: f64) -> Interval
+        ensures { λ r. ⌜ r ≡ mulOf (oppositesOf s) self ⌝ }
+    {
+        let m = self.reach(s);
+        Interval { lo: -m, hi: m }
+    }
 }
 
 // The high end of [-a, a] + [-b, b].
@@ -257,6 +265,14 @@ pub fn reach_sum(a: f64, b: f64) -> f64
         return infinity();
     }
     above(c)
+}
+
+// [-a, a] + [-b, b]: its ends are opposite numbers too.
+pub fn spread_sum(a: f64, b: f64) -> Interval
+    ensures { λ r. ⌜ r ≡ addOf (oppositesOf a) (oppositesOf b) ⌝ }
+{
+    let m = reach_sum(a, b);
+    Interval { lo: -m, hi: m }
 }
 
 // A quotient of two intervals: the first times the outward interval of both reciprocals.

@@ -6,8 +6,8 @@ use Rattle.bounds.proofs.net.about_zero.Tie as tie
 use Rattle.bounds.proofs.net.about_zero.Reads as reads
 use Rattle.bounds.proofs.net.about_zero.Lts as lts
 use Rattle.interval.proofs.Interval.reach.Reads as reach-reads
-use Rattle.interval.proofs.Interval.symmetric.Reads as symmetric-reads
 use Rattle.interval.proofs.reach_sum.Reads as reach-sum-reads
+use Rattle.interval.proofs.spread_sum.Reads as spread-sum-reads
 
 reach-requires : tie.Need-reach-requires
 reach-requires c κs = search needs
@@ -27,14 +27,11 @@ reach-requires-4 c κs = search needs
 reach-sum-requires-2 : tie.Need-reach-sum-requires-2
 reach-sum-requires-2 c κs = search needs
 
-reach-sum-requires-3 : tie.Need-reach-sum-requires-3
-reach-sum-requires-3 c κs = search needs
-
-symmetric-requires : tie.Need-symmetric-requires
-symmetric-requires c κs = search needs
+spread-sum-requires : tie.Need-spread-sum-requires
+spread-sum-requires c κs = search needs
 
 returns : tie.Need-returns
-returns c = rw ((c .symmetric .ensures), (c .before .reach-sum3 .ensures), (c .before .before .reach-sum2 .ensures), (c .before .before .before .reach4 .ensures), (c .before .before .before .before .reach3 .ensures), (c .before .before .before .before .before .reach-sum .ensures), (c .before .before .before .before .before .before .reach2 .ensures), (c .before .before .before .before .before .before .before .reach .ensures)) (about-is (c .before .before .before .before .before .before .before .before .args .b) (c .before .before .before .before .before .before .before .before .args .bs) (c .before .before .before .before .before .before .before .before .args .a) (c .before .before .before .before .before .before .before .before .args .s) (c .before .before .before .before .before .before .before .before .args .c) (c .before .before .before .before .before .before .before .before .args .cs) (c .before .before .before .before .before .before .before .before .args .d) (c .before .before .before .before .before .before .before .before .args .t))
+returns c = rw ((c .spread-sum .ensures), (c .before .reach-sum2 .ensures), (c .before .before .reach4 .ensures), (c .before .before .before .reach3 .ensures), (c .before .before .before .before .reach-sum .ensures), (c .before .before .before .before .before .reach2 .ensures), (c .before .before .before .before .before .before .reach .ensures)) (about-is (c .before .before .before .before .before .before .before .args .b) (c .before .before .before .before .before .before .before .args .bs) (c .before .before .before .before .before .before .before .args .a) (c .before .before .before .before .before .before .before .args .s) (c .before .before .before .before .before .before .before .args .c) (c .before .before .before .before .before .before .before .args .cs) (c .before .before .before .before .before .before .before .args .d) (c .before .before .before .before .before .before .before .args .t))
 
 pub about-zero-spec : {M : Type 1} → statement M
 about-zero-spec =
@@ -46,6 +43,5 @@ about-zero-spec =
     reach-requires-3
     reach-requires-4
     reach-sum-requires-2
-    reach-sum-requires-3
-    symmetric-requires
+    spread-sum-requires
     returns)

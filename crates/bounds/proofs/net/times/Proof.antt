@@ -1,5 +1,5 @@
 use mathlib.Core.Path.{_≡_, refl, sym, ap, _∙_, subst}
-use Rattle.bounds.proofs.Slopes.{times-is}
+use Rattle.interval.proofs.Symmetric.{symmetric-right}
 use borrow.Author.Needs.{needs}
 use Rattle.bounds.proofs.net.times.Statement.{statement}
 use Rattle.bounds.proofs.net.times.Tie as tie
@@ -8,8 +8,7 @@ use Rattle.bounds.proofs.net.times.Lts as lts
 use Rattle.interval.proofs.Interval.hi.Reads as hi-reads
 use Rattle.interval.proofs.Interval.is_symmetric.Reads as is-symmetric-reads
 use Rattle.interval.proofs.Interval.mul.Reads as mul-reads
-use Rattle.interval.proofs.Interval.reach.Reads as reach-reads
-use Rattle.interval.proofs.Interval.symmetric.Reads as symmetric-reads
+use Rattle.interval.proofs.Interval.spread.Reads as spread-reads
 
 is-symmetric-requires : tie.Need-is-symmetric-requires
 is-symmetric-requires c κs = search needs
@@ -17,14 +16,11 @@ is-symmetric-requires c κs = search needs
 hi-requires : tie.Need-hi-requires
 hi-requires c κs = search needs
 
-reach-requires : tie.Need-reach-requires
-reach-requires c κs = search needs
-
-symmetric-requires : tie.Need-symmetric-requires
-symmetric-requires c κs = search needs
+spread-requires : tie.Need-spread-requires
+spread-requires c κs = search needs
 
 returns : tie.Need-returns
-returns c = rw ((c .symmetric .ensures), (c .before .reach .ensures), (c .before .before .hi .ensures)) (times-is (c .before .before .before .before .before .args .a) (c .before .before .before .before .before .args .d) (sym (c .before .before .before .before .is-symmetric .ensures) ∙ c .before .before .before .if1 .taken))
+returns c = rw ((c .spread .ensures), (c .before .hi .ensures)) (symmetric-right (c .before .before .before .before .args .d) (c .before .before .before .before .args .a) (sym (c .before .before .before .is-symmetric .ensures) ∙ c .before .before .if1 .taken))
 
 mul-requires : tie.Need-mul-requires
 mul-requires c κs = search needs
@@ -38,8 +34,7 @@ times-spec =
     (tie.spec
     is-symmetric-requires
     hi-requires
-    reach-requires
-    symmetric-requires
+    spread-requires
     returns
     mul-requires
     returns-2)
