@@ -1,16 +1,17 @@
 -- The lines of the box lister: a span, its knots, and an interval for each coordinate of the point. A text is its bytes in ASCII.
 -- Assumes nothing.
 use Prim.Native.Nat.{ℕ, _+_}
-use mathlib.Core.Bool.{Bool, true, false}
+use mathlib.Core.Bool.{Bool, true, false, cond}
 use mathlib.Core.List.{List, [], _∷_, _++_}
+use lib.Dec.{eqb}
+use lib.ListN.{length}
 use lib.Ieee.{Float}
 use Rattle.doubles.specs.Run.{at}
 use Rattle.interval.specs.declared.Interval.{Interval}
 use Rattle.bounds.specs.Curve.{boundAt}
-use Rattle.bounds.specs.Numbers.{boundedRefusal}
+use Rattle.bounds.specs.Numbers.{boundedRefusal, boundedValues}
 use Rattle.bounds.specs.declared.answer.Triple.{Triple}
 use Rattle.bounds.specs.declared.answer.Bounded.{Bounded}
-use Rattle.bounds.specs.declared.answer.Bounded.the-variants.{Are, Refused}
 use Rattle.listing.specs.Text.{decimal, spacedBits, refusedWord}
 use Rattle.listing.specs.Fixed.{fixed}
 
@@ -26,10 +27,13 @@ spacedDecimals i = 32 ∷ (fixed false (i .lo) ++ (32 ∷ fixed true (i .hi)))
 abbrev pub each : (Interval → List ℕ) → Triple → List ℕ
 each text t = text (t .x) ++ (text (t .y) ++ text (t .z))
 
--- the point's coordinates by their bits, then as decimals; or ` refused ` and the number
+-- x, y and z, by the first six of a bound's values
+abbrev pub pointOf : List Float → Triple
+pointOf vs = record { x = record { lo = at vs 0; hi = at vs 1 }; y = record { lo = at vs 2; hi = at vs 3 }; z = record { lo = at vs 4; hi = at vs 5 } }
+
+-- the point's coordinates by their bits, then as decimals; or, where it is refused and has no values, ` refused ` and the number
 unfoldable pub outcome : Bounded → List ℕ
-outcome (Are b) = each spacedEnds (b .point) ++ each spacedDecimals (b .point)
-outcome (Refused r) = 32 ∷ (refusedWord ++ decimal (boundedRefusal (Refused r) .number))
+outcome a = let vs = boundedValues a in let t = pointOf vs in cond (eqb (length vs) 0) (32 ∷ (refusedWord ++ decimal (boundedRefusal a .number))) (each spacedEnds t ++ each spacedDecimals t)
 
 -- the line of the span s between two knots
 unfoldable pub boxLine : ℕ → Float → Float → Bounded → List ℕ

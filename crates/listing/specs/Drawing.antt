@@ -5,6 +5,7 @@ use Prim.Native.String.{String}
 use mathlib.Core.Bool.{Bool, true, false, _&&_, cond}
 use mathlib.Core.List.{List, [], _∷_, _++_}
 use lib.Dec.{eqb, ltb}
+use lib.ListN.{length}
 use lib.IntN.{pos}
 use lib.Ieee.{Float, inf, binary64, neg, lt, add, sub, mul, div, ofInt}
 use lib.Ieee.Scale.{finite}
@@ -15,13 +16,13 @@ use Rattle.interval.specs.declared.Interval.{Interval}
 use Rattle.knots.specs.Curve.{countOf}
 use Rattle.bounds.specs.Start.{minFrom, maxFrom}
 use Rattle.bounds.specs.Curve.{boundAt}
-use Rattle.bounds.specs.Numbers.{boundedRefusal}
+use Rattle.bounds.specs.Numbers.{boundedRefusal, boundedValues}
 use Rattle.bounds.specs.declared.answer.Bounded.{Bounded}
-use Rattle.bounds.specs.declared.answer.Bounded.the-variants.{Are, Refused}
 use Rattle.listing.specs.Ascii.{ascii}
 use Rattle.listing.specs.Text.{decimal}
 use Rattle.listing.specs.Fixed.{fixed}
 use Rattle.listing.specs.Listing.{listing}
+use Rattle.listing.specs.Boxes.{pointOf}
 use Rattle.listing.specs.declared.drawing.View.{View}
 
 -- ---- what is in view
@@ -103,10 +104,9 @@ refusedText s j n = partText "<!-- span " s j ++ (label " refused " n ++ ascii "
 unfoldable pub unboundedText : ℕ → ℕ → List ℕ
 unboundedText s j = partText "<!-- span " s j ++ ascii " unbounded -->\n"
 
--- a path, or, where there is none to draw, why
+-- a path, or, where there is none to draw, why: a bound that is refused has no values
 abbrev pub boxText : ℕ → ℕ → Bounded → List ℕ
-boxText s j (Are b) = cond (bothFinite (b .point .x) (b .point .y)) (pathText s j (b .point .x) (b .point .y)) (unboundedText s j)
-boxText s j (Refused r) = refusedText s j (boundedRefusal (Refused r) .number)
+boxText s j a = let vs = boundedValues a in let t = pointOf vs in cond (eqb (length vs) 0) (refusedText s j (boundedRefusal a .number)) (cond (bothFinite (t .x) (t .y)) (pathText s j (t .x) (t .y)) (unboundedText s j))
 
 -- ---- the parts of a span: bounds over a whole span are wide
 
