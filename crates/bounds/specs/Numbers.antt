@@ -2,7 +2,7 @@
 use mathlib.Core.Path.{_≡_}
 use mathlib.Core.List.{List, []}
 use lib.Ieee.{Float}
-use Rattle.knots.specs.Refusal.{accepted}
+use Rattle.knots.specs.Refusal.{refuse, accepted, quotient-none, weights-apart}
 use Rattle.knots.specs.declared.refusal.Refusal.{Refusal}
 use Rattle.interval.specs.Numbers.{endsOnto}
 use Rattle.bounds.specs.declared.answer.Triple.{Triple}
@@ -24,5 +24,5 @@ boundedValues (Refused r) = []
 
 -- an answer that is refused by neither 28 nor 29
 pub record Idle (A : Bounded) : Type 0 where
-  pub not-28 : boundedRefusal A .number ≡ 28 → ⊥
-  pub not-29 : boundedRefusal A .number ≡ 29 → ⊥
+  pub not-28 : boundedRefusal A .number ≡ refuse quotient-none .number → ⊥
+  pub not-29 : boundedRefusal A .number ≡ refuse weights-apart .number → ⊥

@@ -3,12 +3,12 @@ use crate::jet::Jet;
 use crate::jet::JetAnswer;
 use interval::Interval;
 use interval::Quotient;
-use interval::reach_sum;
-use interval::spread_sum;
+use interval::spread::product;
+use interval::spread::sum_of_products;
 ghost use mathlib.Core.Path.{_≡_};
 ghost use Rattle.bounds.specs.Jet.{jetAdd, jetMul};
 ghost use mathlib.Core.Bool.{_&&_};
-ghost use Rattle.interval.specs.Ops.{addOf, mulOf, oppositesOf, isSymmetric};
+ghost use Rattle.interval.specs.Ops.{addOf, mulOf, isSymmetric};
 ghost use Rattle.bounds.specs.Net.{slopeOf, shareOf, mixOf, neighbours, zeroControl};
 
 // A point of the net: three weighted coordinates and the weight.
@@ -74,30 +74,12 @@ fn all_symmetric(a: Interval, b: Interval, c: Interval, d: Interval) -> bool
     }
 }
 
-// [-bs, bs] a + [-s, s] b + [-cs, cs] d + [-t, t] c: symmetric too, so that its high end is enough.
-fn about_zero(
-    b: Interval,
-    bs: f64,
-    a: Interval,
-    s: f64,
-    c: Interval,
-    cs: f64,
-    d: Interval,
-    t: f64,
-) -> Interval
-    ensures { λ r. ⌜ r ≡ addOf (addOf (mulOf (oppositesOf bs) a) (mulOf (oppositesOf s) b)) (addOf (mulOf (oppositesOf cs) d) (mulOf (oppositesOf t) c)) ⌝ }
-{
-    let x = reach_sum(a.reach(bs), b.reach(s));
-    let y = reach_sum(d.reach(cs), c.reach(t));
-    spread_sum(x, y)
-}
-
 // a d, where d is the derivative of a control: [0, 0] at first.
 fn times(a: Interval, d: Interval) -> Interval
     ensures { λ r. ⌜ r ≡ mulOf a d ⌝ }
 {
     if d.is_symmetric() {
-        return a.spread(d.hi());
+        return product(a, d.hi());
     }
     a.mul(d)
 }
@@ -116,7 +98,7 @@ fn slope(
     ensures { λ r. ⌜ r ≡ slopeOf b bd a ad c cd d dd ⌝ }
 {
     if all_symmetric(bd, ad, cd, dd) {
-        return about_zero(b, bd.hi(), a, ad.hi(), c, cd.hi(), d, dd.hi());
+        return sum_of_products(a, bd.hi(), b, ad.hi(), d, cd.hi(), c, dd.hi());
     }
     let x = bd.mul(a).add(times(b, ad));
     let y = cd.mul(d).add(times(c, dd));

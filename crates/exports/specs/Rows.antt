@@ -1,15 +1,14 @@
 -- The numbers that a call for many rows returns.
-use Prim.Native.Nat.{ℕ}
+use Prim.Native.Nat.{ℕ, _+_}
+use lib.ListN.{getD}
+use Rattle.many.specs.Numbers.{manyAnswerRefusal, manyAnswerValues}
 use Rattle.many.specs.declared.answer.ManyAnswer.{ManyAnswer}
-use Rattle.many.specs.declared.answer.ManyAnswer.the-variants.{Rows, Refused}
 use Rattle.exports.specs.Tables.{packedOf, highOf}
 
 -- 0 where there are rows
 abbrev pub rowsNumber : ManyAnswer → ℕ
-rowsNumber (Rows n) = 0
-rowsNumber (Refused r) = packedOf r
+rowsNumber a = packedOf (manyAnswerRefusal a)
 
 -- how many, or a refusal's number times 2^32
 abbrev pub rowsCount : ManyAnswer → ℕ
-rowsCount (Rows n) = n
-rowsCount (Refused r) = highOf r
+rowsCount a = highOf (manyAnswerRefusal a) + getD (manyAnswerValues a) 0 0

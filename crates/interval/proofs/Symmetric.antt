@@ -1,5 +1,5 @@
 -- Products and sums of intervals that are symmetric about zero are symmetric, and a product needs two products of ends. Assumes nothing.
-use mathlib.Core.Path.{_≡_, refl, sym, ap, _∙_, subst}
+use mathlib.Core.Path.{_≡_, refl, sym, ap, ap₂, _∙_, subst}
 use mathlib.Core.Bool.{Bool, true, false, not, _||_, cond}
 use lib.Dec.{T}
 use lib.Ieee.{Float, inf, binary64, neg, lt, eq, isNan, fits, add, mul}
@@ -143,3 +143,20 @@ sum-box a b = rw (low, up-nan binary64 r (add-fits binary64 a b)) (go (isNan r) 
 
 pub sum-is : (a b : Float) → addOf (oppositesOf a) (oppositesOf b) ≡ oppositesOf (addOf (oppositesOf a) (oppositesOf b) .hi)
 sum-is a b = subst (λ (i : Interval). i ≡ oppositesOf (i .hi)) (sym (sum-box a b)) (around-is (isNan (add binary64 a b)) (nextUp (add binary64 a b)))
+
+-- the high end of a sum of two by theirs
+abbrev highOf : Float → Float → Float
+highOf x y = addOf (oppositesOf x) (oppositesOf y) .hi
+
+pair : (p q : Interval) (x y : Float) → p ≡ oppositesOf x → q ≡ oppositesOf y → addOf p q ≡ oppositesOf (highOf x y)
+pair p q x y e f = ap₂ addOf e f ∙ sum-is x y
+
+module _ (a : Interval) (s : Float) (b : Interval) (t : Float) (c : Interval) (u : Float) (d : Interval) (v : Float) where
+  abbrev x : Float
+  x = highOf (mulOf (oppositesOf s) a .hi) (mulOf (oppositesOf t) b .hi)
+
+  abbrev y : Float
+  y = highOf (mulOf (oppositesOf u) c .hi) (mulOf (oppositesOf v) d .hi)
+
+  pub products-are : oppositesOf (highOf x y) ≡ addOf (addOf (mulOf (oppositesOf s) a) (mulOf (oppositesOf t) b)) (addOf (mulOf (oppositesOf u) c) (mulOf (oppositesOf v) d))
+  products-are = sym (pair _ _ _ _ (pair _ _ _ _ (product-is s a) (product-is t b)) (pair _ _ _ _ (product-is u c) (product-is v d)))

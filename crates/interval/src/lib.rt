@@ -7,7 +7,6 @@ use crate::float::min;
 use crate::float::next_down;
 use crate::float::next_up;
 use crate::step::above;
-use crate::step::above_sizes;
 use crate::step::absolute;
 use crate::step::below;
 use crate::step::least;
@@ -15,11 +14,12 @@ use crate::step::most;
 ghost use mathlib.Core.Path.{_≡_};
 ghost use lib.Ieee.{neg};
 ghost use Rattle.doubles.specs.Neighbour.{nextUp, nextDown};
-ghost use Rattle.interval.specs.Ops.{entire, newOf, pointOf, widthOf, containsOf, hullOf, signOf, checkedOf, sqrOf, addOf, subOf, mulOf, negOf, someNan, oppositesOf, symmetricOf, isSymmetric, reciprocalOf, divideOf};
+ghost use Rattle.interval.specs.Ops.{entire, newOf, pointOf, widthOf, containsOf, hullOf, signOf, checkedOf, sqrOf, addOf, subOf, mulOf, negOf, someNan, symmetricOf, isSymmetric, reciprocalOf, divideOf};
 
 pub mod bits;
 pub mod float;
 pub mod place;
+pub mod spread;
 mod step;
 
 // A closed interval that holds the exact value it stands for.
@@ -186,7 +186,6 @@ impl Interval {
         Interval::outward(self.lo - o.hi, self.hi - o.lo)
     }
 
-    // Where an operand is symmetric about zero, as what rounds to 0 is once stepped outward, two products serve for four.
     pub fn mul(self, o: Interval) -> Interval
         ensures { λ r. ⌜ r ≡ mulOf self o ⌝ }
     {
@@ -212,7 +211,7 @@ impl Interval {
     }
 }
 
-// Intervals [-s, s], of which the high end alone is worked out.
+// Intervals that are symmetric about zero.
 impl Interval {
     // [-|s|, |s|]. NaN gives the whole line.
     pub fn symmetric(s: f64) -> Interval
@@ -231,48 +230,6 @@ impl Interval {
     {
         self.lo == -self.hi
     }
-
-    // The high end of [-s, s] times it: the four products are two and their opposites.
-    pub fn reach(self, s: f64) -> f64
-        ensures { λ r. ⌜ r ≡ mulOf (oppositesOf s) self .hi ⌝ }
-    {
-        let p = s * self.lo;
-        let q = s * self.hi;
-        if is_nan(p) {
-            return infinity();
-        }
-        if is_nan(q) {
-            return infinity();
-        }
-        above_sizes(p, q)
-    }
-
-    // [-s, s] times it: its ends are opposite numbers too.
-    pub fn spread(self, s: f64) -> Interval
-        ensures { λ r. ⌜ r ≡ mulOf (oppositesOf s) self ⌝ }
-    {
-        let m = self.reach(s);
-        Interval { lo: -m, hi: m }
-    }
-}
-
-// The high end of [-a, a] + [-b, b].
-pub fn reach_sum(a: f64, b: f64) -> f64
-    ensures { λ r. ⌜ r ≡ addOf (oppositesOf a) (oppositesOf b) .hi ⌝ }
-{
-    let c = a + b;
-    if is_nan(c) {
-        return infinity();
-    }
-    above(c)
-}
-
-// [-a, a] + [-b, b]: its ends are opposite numbers too.
-pub fn spread_sum(a: f64, b: f64) -> Interval
-    ensures { λ r. ⌜ r ≡ addOf (oppositesOf a) (oppositesOf b) ⌝ }
-{
-    let m = reach_sum(a, b);
-    Interval { lo: -m, hi: m }
 }
 
 // A quotient of two intervals: the first times the outward interval of both reciprocals.

@@ -1,3 +1,4 @@
 pub mod Rows
 pub mod Points
 pub mod Spans
+pub mod Numbers

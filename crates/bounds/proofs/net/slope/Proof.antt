@@ -6,12 +6,12 @@ use Rattle.bounds.proofs.net.slope.Statement.{statement}
 use Rattle.bounds.proofs.net.slope.Tie as tie
 use Rattle.bounds.proofs.net.slope.Reads as reads
 use Rattle.bounds.proofs.net.slope.Lts as lts
-use Rattle.bounds.proofs.net.about_zero.Reads as about-zero-reads
 use Rattle.bounds.proofs.net.all_symmetric.Reads as all-symmetric-reads
 use Rattle.bounds.proofs.net.times.Reads as times-reads
 use Rattle.interval.proofs.Interval.add.Reads as add-reads
 use Rattle.interval.proofs.Interval.hi.Reads as hi-reads
 use Rattle.interval.proofs.Interval.mul.Reads as mul-reads
+use Rattle.interval.proofs.spread.sum_of_products.Reads as sum-of-products-reads
 
 all-symmetric-requires : tie.Need-all-symmetric-requires
 all-symmetric-requires c κs = search needs
@@ -28,11 +28,11 @@ hi-requires-3 c κs = search needs
 hi-requires-4 : tie.Need-hi-requires-4
 hi-requires-4 c κs = search needs
 
-about-zero-requires : tie.Need-about-zero-requires
-about-zero-requires c κs = search needs
+sum-of-products-requires : tie.Need-sum-of-products-requires
+sum-of-products-requires c κs = search needs
 
 returns : tie.Need-returns
-returns c = rw ((c .about-zero .ensures), (c .before .hi4 .ensures), (c .before .before .hi3 .ensures), (c .before .before .before .hi2 .ensures), (c .before .before .before .before .hi .ensures)) (slope-is (c .before .before .before .before .before .before .before .args .b) (c .before .before .before .before .before .before .before .args .bd) (c .before .before .before .before .before .before .before .args .a) (c .before .before .before .before .before .before .before .args .ad) (c .before .before .before .before .before .before .before .args .c) (c .before .before .before .before .before .before .before .args .cd) (c .before .before .before .before .before .before .before .args .d) (c .before .before .before .before .before .before .before .args .dd) (sym (c .before .before .before .before .before .before .all-symmetric .ensures) ∙ c .before .before .before .before .before .if1 .taken))
+returns c = rw ((c .sum-of-products .ensures), (c .before .hi4 .ensures), (c .before .before .hi3 .ensures), (c .before .before .before .hi2 .ensures), (c .before .before .before .before .hi .ensures)) (slope-is (c .before .before .before .before .before .before .before .args .b) (c .before .before .before .before .before .before .before .args .bd) (c .before .before .before .before .before .before .before .args .a) (c .before .before .before .before .before .before .before .args .ad) (c .before .before .before .before .before .before .before .args .c) (c .before .before .before .before .before .before .before .args .cd) (c .before .before .before .before .before .before .before .args .d) (c .before .before .before .before .before .before .before .args .dd) (sym (c .before .before .before .before .before .before .all-symmetric .ensures) ∙ c .before .before .before .before .before .if1 .taken))
 
 mul-requires : tie.Need-mul-requires
 mul-requires c κs = search needs
@@ -68,7 +68,7 @@ slope-spec =
     hi-requires-2
     hi-requires-3
     hi-requires-4
-    about-zero-requires
+    sum-of-products-requires
     returns
     mul-requires
     times-requires

@@ -8,7 +8,7 @@ use Rattle.bounds.proofs.net.times.Lts as lts
 use Rattle.interval.proofs.Interval.hi.Reads as hi-reads
 use Rattle.interval.proofs.Interval.is_symmetric.Reads as is-symmetric-reads
 use Rattle.interval.proofs.Interval.mul.Reads as mul-reads
-use Rattle.interval.proofs.Interval.spread.Reads as spread-reads
+use Rattle.interval.proofs.spread.product.Reads as product-reads
 
 is-symmetric-requires : tie.Need-is-symmetric-requires
 is-symmetric-requires c κs = search needs
@@ -16,11 +16,11 @@ is-symmetric-requires c κs = search needs
 hi-requires : tie.Need-hi-requires
 hi-requires c κs = search needs
 
-spread-requires : tie.Need-spread-requires
-spread-requires c κs = search needs
+product-requires : tie.Need-product-requires
+product-requires c κs = search needs
 
 returns : tie.Need-returns
-returns c = rw ((c .spread .ensures), (c .before .hi .ensures)) (symmetric-right (c .before .before .before .before .args .d) (c .before .before .before .before .args .a) (sym (c .before .before .before .is-symmetric .ensures) ∙ c .before .before .if1 .taken))
+returns c = rw ((c .product .ensures), (c .before .hi .ensures)) (symmetric-right (c .before .before .before .before .args .d) (c .before .before .before .before .args .a) (sym (c .before .before .before .is-symmetric .ensures) ∙ c .before .before .if1 .taken))
 
 mul-requires : tie.Need-mul-requires
 mul-requires c κs = search needs
@@ -34,7 +34,7 @@ times-spec =
     (tie.spec
     is-symmetric-requires
     hi-requires
-    spread-requires
+    product-requires
     returns
     mul-requires
     returns-2)

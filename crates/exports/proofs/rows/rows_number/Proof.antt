@@ -2,6 +2,7 @@
 -- Assumes nothing.
 use mathlib.Core.Path.{sym, _∙_, ap}
 use Rattle.exports.specs.Rows.{rowsNumber}
+use Rattle.exports.specs.Tables.{packedOf}
 use borrow.Author.Needs.{needs}
 use Rattle.exports.proofs.rows.rows_number.Statement.{statement}
 use Rattle.exports.proofs.rows.rows_number.Tie as tie
@@ -16,7 +17,8 @@ packed-requires : tie.Need-packed-requires
 packed-requires c κs = search needs
 
 returns : tie.Need-returns
-returns c = search needs
+unfolding packedOf
+returns c = ap rowsNumber (sym (c .before .a .given .1))
 
 returns-2 : tie.Need-returns-2
 returns-2 c = c .packed .ensures ∙ ap rowsNumber (sym (c .before .before .a2 .given .1))

@@ -3,10 +3,10 @@ use mathlib.Core.Bool.{true, false}
 use Rattle.interval.specs.declared.Interval.{Interval}
 use Rattle.interval.proofs.Symmetric.{sum-box}
 use borrow.Author.Needs.{needs}
-use Rattle.interval.proofs.reach_sum.Statement.{statement}
-use Rattle.interval.proofs.reach_sum.Tie as tie
-use Rattle.interval.proofs.reach_sum.Reads as reads
-use Rattle.interval.proofs.reach_sum.Lts as lts
+use Rattle.interval.proofs.spread.reach_sum.Statement.{statement}
+use Rattle.interval.proofs.spread.reach_sum.Tie as tie
+use Rattle.interval.proofs.spread.reach_sum.Reads as reads
+use Rattle.interval.proofs.spread.reach_sum.Lts as lts
 use Rattle.interval.proofs.float.infinity.Reads as infinity-reads
 use Rattle.interval.proofs.float.is_nan.Reads as is-nan-reads
 use Rattle.interval.proofs.step.above.Reads as above-reads
