@@ -14,7 +14,7 @@ are left out, the record has no field of them. A decimal is the double that is n
 digits is a double by its bits, as the listers print it: an infinity or a NaN can be written in no other way. Whether
 the table is valid is not judged here; the last point may have fewer than three coordinates, as in a record.
 
-Exit status: 0 done; 2 bad usage; 5 the input cannot be read, is no such JSON or no record, or the output failed.
+Exit status: 0 done; 2 bad usage; 4 the input is no such JSON or no record; 5 it cannot be read, or the output failed.
 """
 import json
 import math
@@ -236,7 +236,10 @@ def command(words):
 def main():
     try:
         return command(sys.argv[1:])
-    except (Malformed, OSError, UnicodeDecodeError, RecursionError) as wrong:
+    except (Malformed, UnicodeDecodeError, RecursionError) as wrong:
+        say(f"record.py: {wrong}\n")
+        return 4
+    except OSError as wrong:
         say(f"record.py: {wrong}\n")
         return 5
 

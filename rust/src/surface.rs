@@ -63,7 +63,7 @@ impl Surface<'_> {
         Ok(point_of(&out))
     }
 
-    /// The curve where the parameter of one direction stays `t`; it has weights, all 1 where the surface has none.
+    /// The curve where the parameter of one direction stays `t`; it has weights always: where the surface has none, sums of basis functions, 1 up to rounding.
     ///
     /// ```
     /// # use tasulogi::{Direction, Surface};
