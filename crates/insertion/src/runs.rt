@@ -25,10 +25,10 @@ pub fn clear_from(xs: &mut [f64], from: usize)
     requires { ⌜ from ≤ length (now xs) ⌝ }
     ensures { λ _. ⌜ now (xs .exit) ≡ take from (now (xs .entry)) ++ zeros (length (now (xs .entry)) - from) ⌝ }
 {
-    let mut i = from;
-    while i < xs.len() {
-        xs[i] = 0.0;
-        i += 1;
+    let mut j = from;
+    while j < xs.len() {
+        xs[j] = 0.0;
+        j += 1;
     }
 }
 

@@ -12,10 +12,10 @@ use Rattle.insertion.proofs.runs.clear_from.Statement.{statement}
 use Rattle.insertion.proofs.runs.clear_from.Tie as tie
 
 abbrev Inv-loop : tie.InvT-loop
-Inv-loop xs₀ from i₀ xs i = InCut from xs₀ xs i
+Inv-loop xs₀ from j₀ xs j = InCut from xs₀ xs j
 
 abbrev μ-loop : tie.MeasureT-loop
-μ-loop xs₀ from i₀ xs i = length xs₀ - i
+μ-loop xs₀ from j₀ xs j = length xs₀ - j
 
 loop-holds : tie.Need-loop-holds Inv-loop μ-loop
 loop-holds c = cut-start (c .args .from) (now (c .args .xs)) (c .pre)
@@ -27,8 +27,8 @@ slice-write-xs : tie.Need-slice-write-xs Inv-loop μ-loop
 slice-write-xs c = let L = c .before .loop .inv .long in
     search needs
 
-add-i : tie.Need-add-i Inv-loop μ-loop
-add-i c = search needs
+add-j : tie.Need-add-j Inv-loop μ-loop
+add-j c = search needs
 
 loop-less : tie.Need-loop-less Inv-loop μ-loop
 loop-less c = search needs
@@ -36,14 +36,14 @@ loop-less c = search needs
 loop-again : tie.Need-loop-again Inv-loop μ-loop
 unfolding ofBits
 loop-again c = let L = c .before .loop .inv .long in
-    cut-more (c .before .before .args .from) (now (c .before .before .args .xs)) (c .before .loop .xs) (c .before .loop .i) (c .before .loop .inv) (omega arith) (length-set (c .before .loop .xs) (c .before .loop .i) _ ∙ L)
+    cut-more (c .before .before .args .from) (now (c .before .before .args .xs)) (c .before .loop .xs) (c .before .loop .j) (c .before .loop .inv) (omega arith) (length-set (c .before .loop .xs) (c .before .loop .j) _ ∙ L)
 
 same-length : tie.Need-same-length Inv-loop μ-loop
 same-length c = c .before .loop .inv .long
 
 returns : tie.Need-returns Inv-loop μ-loop
 returns c = let L = c .before .loop .inv .long in
-    cut-end (c .before .before .args .from) (now (c .before .before .args .xs)) (c .before .loop .xs) (c .before .loop .i) (c .before .loop .inv) (omega arith) (c .before .before .pre)
+    cut-end (c .before .before .args .from) (now (c .before .before .args .xs)) (c .before .loop .xs) (c .before .loop .j) (c .before .loop .inv) (omega arith) (c .before .before .pre)
 
 pub clear-from-spec : {M : Type 1} → statement M
 clear-from-spec =
@@ -54,7 +54,7 @@ clear-from-spec =
     loop-holds
     mul-xs
     slice-write-xs
-    add-i
+    add-j
     loop-less
     loop-again
     same-length
