@@ -1,6 +1,6 @@
 use Prim.Native.Nat.{_<_}
 use mathlib.Core.Path.{sym, _∙_, subst}
-use native.Mathlib.Nat.{zero-add, add-zero}
+use native.Mathlib.Nat.{zero-add}
 use native.Mathlib.Omega.{arith}
 use Rattle.insertion.specs.declared.answer.EditAnswer.{EditAnswer}
 use Rattle.exports.specs.Tables.{packedOf}
@@ -26,7 +26,7 @@ cast-result c = search needs
 
 returns : tie.Need-returns
 unfolding packedOf
-returns c = rw (c .before .a .given .1) (sym (add-zero _))
+returns c = rw (c .before .a .given .1) (omega arith)
 
 returns-2 : tie.Need-returns-2
 returns-2 c = rw (c .before .before .a2 .given .1) (c .packed .ensures ∙ sym (zero-add _))
