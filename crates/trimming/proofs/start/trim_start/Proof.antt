@@ -1,4 +1,5 @@
 use mathlib.Core.Path.{sym, _∙_, ap}
+use native.Mathlib.Omega.{arith}
 use denote.Ref.{now}
 use Rattle.knots.specs.declared.refusal.Refusal.{Refusal}
 use Rattle.knots.proofs.Refusals.{stop, skip}
@@ -13,14 +14,14 @@ edit-start-requires c κs = search needs
 
 returns : tie.Need-returns
 unfolding trimStart
-returns c = simp (stop (c .before .before .edit-start .ensures) (c .if1 .taken)) (c .before .before .edit-start .ensures)
+returns c = simp (stop (c .before .before .edit-start .ensures) (λ z. omega arith)) (c .before .before .edit-start .ensures)
 
 range-refusal-requires : tie.Need-range-refusal-requires
-range-refusal-requires c κs = let o = edit-open (c .before .before .before .before .before .before .args .degree) (now (c .before .before .before .before .before .before .args .knots)) (now (c .before .before .before .before .before .before .args .points)) (c .before .before .before .before .before .before .args .rational) (now (c .before .before .before .before .before .before .args .weights)) (sym (ap (λ (r : Refusal). r .number) (c .before .before .edit-start .ensures)) ∙ c .if1 .left) .0 in (o .knots, o .short .knots)
+range-refusal-requires c κs = let o = edit-open (c .before .before .before .before .before .before .args .degree) (now (c .before .before .before .before .before .before .args .knots)) (now (c .before .before .before .before .before .before .args .points)) (c .before .before .before .before .before .before .args .rational) (now (c .before .before .before .before .before .before .args .weights)) (sym (ap (λ (r : Refusal). r .number) (c .before .before .edit-start .ensures)) ∙ omega arith) .0 in (o .knots, o .short .knots)
 
 returns-2 : tie.Need-returns-2
 unfolding trimStart
-returns-2 c = simp (skip (c .before .before .before .edit-start .ensures) (c .before .if1 .left)) (c .range-refusal .ensures)
+returns-2 c = simp (skip (c .before .before .before .edit-start .ensures) (omega arith)) (c .range-refusal .ensures)
 
 pub trim-start-spec : {M : Type 1} → statement M
 trim-start-spec = tie.close (tie.spec edit-start-requires returns range-refusal-requires returns-2)
