@@ -3,9 +3,9 @@ use crate::answer::EditAnswer;
 use crate::lay::lay_into;
 use crate::lay::store_curve;
 use crate::list::insert_all;
+use crate::runs::clear_from;
 use crate::start::insert_start;
 use crate::work::clear_all;
-use knots::clear::clear;
 use knots::refusal::Refusal;
 ghost use Prim.Native.Nat.{_+_, _*_, _/_, _≤_};
 ghost use lib.ListN.{length};
@@ -108,7 +108,7 @@ pub fn insert_knots(
         clear_all(out_knots, out_points, out_weights, scratch);
         return EditAnswer::Refused(refusal);
     }
-    clear(scratch);
+    clear_from(scratch, 0);
     let count = points.len() / 3 + inserted.len();
     EditAnswer::Formed { degree, count }
 }
