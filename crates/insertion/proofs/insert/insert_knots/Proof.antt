@@ -14,7 +14,7 @@ use Rattle.knots.specs.declared.refusal.Refusal.{Refusal}
 use Rattle.insertion.proofs.insert.insert_knots.Statement.{statement}
 use Rattle.insertion.proofs.insert.insert_knots.Tie as tie
 
--- numbers that are taken from 0 on
+-- what is cleared from place 0 on is cleared whole, however the 0 is written
 ruleset plain = (sub-zero, mod-one)
 
 insert-start-requires : tie.Need-insert-start-requires
