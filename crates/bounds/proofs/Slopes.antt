@@ -1,6 +1,6 @@
 -- Four symmetric derivatives give a symmetric slope, which its high end tells. Assumes nothing.
 use mathlib.Core.Path.{_≡_, ap₂}
-use mathlib.Core.Bool.{Bool, true, _&&_}
+use mathlib.Core.Bool.{true, _&&_}
 use Rattle.interval.specs.declared.Interval.{Interval}
 use Rattle.interval.specs.Ops.{addOf, mulOf, oppositesOf, isSymmetric}
 use Rattle.interval.proofs.Symmetric.{symmetric-left, symmetric-right}

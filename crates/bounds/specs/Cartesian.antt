@@ -1,5 +1,4 @@
 -- From the homogeneous net to Cartesian bounds. Definitions only.
-use Prim.Native.Nat.{ℕ, zero, suc}
 use lib.Ieee.{Float}
 use Rattle.doubles.specs.Neighbour.{fmin, fmax}
 use Rattle.interval.specs.Ops.{pointOf, addOf, subOf, mulOf, newOf, reciprocalOf}
@@ -14,7 +13,6 @@ use Rattle.bounds.specs.declared.net.Control.{Control}
 use Rattle.bounds.specs.declared.net.NetAnswer.{NetAnswer}
 use Rattle.bounds.specs.declared.net.NetAnswer.the-variants as N
 use Rattle.bounds.specs.declared.start.Point.{Point}
-use Rattle.bounds.specs.declared.cartesian.Bounds.{Bounds}
 use Rattle.bounds.specs.declared.cartesian.BoundAnswer.{BoundAnswer}
 use Rattle.bounds.specs.declared.cartesian.BoundAnswer.the-variants as B
 

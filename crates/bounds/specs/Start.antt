@@ -1,6 +1,6 @@
 -- Weights over the largest, points relative to the first: the net that a bound starts with. Definitions only.
 use Prim.Native.Nat.{ℕ, zero, suc, _+_, _*_}
-use mathlib.Core.Bool.{Bool, true, false, cond}
+use mathlib.Core.Bool.{Bool, false, cond}
 use mathlib.Core.List.{List}
 use lib.Ieee.{Float, inf, le}
 use Rattle.doubles.specs.Neighbour.{fmin, fmax}

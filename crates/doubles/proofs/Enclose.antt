@@ -1,7 +1,7 @@
 -- Rounding to nearest and then a step outward encloses the exact value: said once, for `round`, of any m that is not below (above) the rounded value. Assumes nothing.
 use mathlib.Core.Path.{_≡_, refl, sym, ap, _∙_, subst}
-use mathlib.Core.Logic.{_⊎_, inl, inr}
-use Prim.Native.Nat.{ℕ, zero, suc, _+_, _*_, _^_, pred, _≤_, _<_}
+use mathlib.Core.Logic.{inl, inr}
+use Prim.Native.Nat.{ℕ, zero, suc, _+_, _*_, _^_, _≤_, _<_}
 use native.Mathlib.Nat.{zero-lt-suc, mul-pos, eq-zero-or-pos}
 use native.Mathlib.Omega.{arith}
 use mathlib.Core.Bool.{Bool, true, false, not, cond, true≢false}
@@ -11,12 +11,11 @@ use lib.Ieee.{Float, nan, inf, fin, Format, prec, emax, low, up, down, odd, unit
 use lib.Ieee.Fits.{down-pos, round-fits, round-is, neg-fits}
 use lib.Ieee.Order.{round-mono}
 use lib.Ieee.Scale.{round-same}
-use Rattle.exact.specs.Rational.{ℚ, negq, _≤q_, _<q_}
-use Rattle.exact.proofs.Laws.{frac-neg}
+use Rattle.exact.specs.Rational.{ℚ, negq, _≤q_}
 use Rattle.exact.proofs.Field.{≤-trans, le-or-lt, lt→le, neg-le}
-use Rattle.doubles.specs.Value.{signed, ratio, val, Lower, Upper, Number, _⊑_}
+use Rattle.doubles.specs.Value.{ratio, val, Lower, Upper, Number, _⊑_}
 use Rattle.doubles.specs.Neighbour.{upFrom, downFrom}
-use Rattle.doubles.proofs.Tests.{yes-or-no, neg-neg}
+use Rattle.doubles.proofs.Tests.{yes-or-no}
 use Rattle.doubles.proofs.Value.{le-ratio, ratio-neg, val-is, val-neg}
 use Rattle.doubles.proofs.Order.{lt-⊑, lt-irrefl, le-not}
 use Rattle.doubles.proofs.Place.{up-number}

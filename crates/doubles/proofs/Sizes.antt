@@ -1,5 +1,5 @@
 -- A double without its sign. Its pattern is the double's without the sign, and patterns without signs are in the order of sizes, so that integers find the larger of two. Assumes nothing.
-use mathlib.Core.Path.{_≡_, refl, sym, ap, _∙_, subst}
+use mathlib.Core.Path.{_≡_, sym, ap, _∙_, subst}
 use Prim.Native.Nat.{ℕ, _+_, _%_, _≤_, _<_}
 use native.Mathlib.Nat.{le-of-lt, lt-trans, not-le-of-lt, mod-eq-of-lt, add-mod-left}
 use mathlib.Core.Bool.{Bool, true, false, not, cond}

@@ -1,6 +1,6 @@
 -- Facts on values that the functions' proofs cite. Assumes nothing.
 use mathlib.Core.Path.{_≡_, refl, sym, ap, _∙_, subst}
-use mathlib.Core.Bool.{Bool, true, false, not, _&&_, _||_, cond}
+use mathlib.Core.Bool.{Bool, true, false, _||_, cond}
 use lib.IntN.{pos}
 use lib.Dec.{T}
 use lib.Ieee.{Float, nan, inf, fin, binary64, ofBits, neg, lt, isNan, fits}
@@ -8,7 +8,6 @@ use lib.Ieee.Scale.{finite}
 use Rattle.doubles.proofs.Extremes.{Four}
 use Rattle.doubles.proofs.Stepping.{up-nan, down-nan}
 use Rattle.doubles.specs.Neighbour.{nextUp, nextDown}
-use Rattle.interval.specs.declared.Interval.{Interval}
 use Rattle.interval.specs.Ops.{entire, checkedOf, someNan}
 
 pub zero-bits : ofBits binary64 0 ≡ fin false 0 (pos 0)

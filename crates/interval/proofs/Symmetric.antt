@@ -2,9 +2,9 @@
 use mathlib.Core.Path.{_≡_, refl, sym, ap, ap₂, _∙_, subst}
 use mathlib.Core.Bool.{Bool, true, false, not, _||_, cond}
 use lib.Dec.{T}
-use lib.Ieee.{Float, inf, binary64, neg, lt, eq, isNan, fits, add, mul}
+use lib.Ieee.{Float, binary64, neg, lt, isNan, fits, add, mul}
 use lib.Ieee.Fits.{neg-fits, add-fits, mul-fits}
-use Rattle.doubles.specs.Neighbour.{nextUp, nextDown, fmax, least4, greatest4}
+use Rattle.doubles.specs.Neighbour.{nextUp, nextDown, least4, greatest4}
 use Rattle.doubles.specs.Value.{Number}
 use Rattle.doubles.proofs.Tests.{T-of, Tn-of, neg-neg}
 use Rattle.doubles.proofs.Neighbour.{neg-nan, neg-lt}

@@ -28,12 +28,12 @@ abbrev pub each : (Interval → List ℕ) → Triple → List ℕ
 each text t = text (t .x) ++ (text (t .y) ++ text (t .z))
 
 -- x, y and z, by the first six of a bound's values
-abbrev pub pointOf : List Float → Triple
-pointOf vs = record { x = record { lo = at vs 0; hi = at vs 1 }; y = record { lo = at vs 2; hi = at vs 3 }; z = record { lo = at vs 4; hi = at vs 5 } }
+abbrev pub pointBy : List Float → Triple
+pointBy vs = record { x = record { lo = at vs 0; hi = at vs 1 }; y = record { lo = at vs 2; hi = at vs 3 }; z = record { lo = at vs 4; hi = at vs 5 } }
 
 -- the point's coordinates by their bits, then as decimals; or, where it is refused and has no values, ` refused ` and the number
 unfoldable pub outcome : Bounded → List ℕ
-outcome a = let vs = boundedValues a in let t = pointOf vs in cond (eqb (length vs) 0) (32 ∷ (refusedWord ++ decimal (boundedRefusal a .number))) (each spacedEnds t ++ each spacedDecimals t)
+outcome a = let vs = boundedValues a in let t = pointBy vs in cond (eqb (length vs) 0) (32 ∷ (refusedWord ++ decimal (boundedRefusal a .number))) (each spacedEnds t ++ each spacedDecimals t)
 
 -- the line of the span s between two knots
 unfoldable pub boxLine : ℕ → Float → Float → Bounded → List ℕ

@@ -22,7 +22,7 @@ use Rattle.listing.specs.Ascii.{ascii}
 use Rattle.listing.specs.Text.{decimal}
 use Rattle.listing.specs.Fixed.{fixed}
 use Rattle.listing.specs.Listing.{listing}
-use Rattle.listing.specs.Boxes.{pointOf}
+use Rattle.listing.specs.Boxes.{pointBy}
 use Rattle.listing.specs.declared.drawing.View.{View}
 
 -- ---- what is in view
@@ -106,7 +106,7 @@ unboundedText s j = partText "<!-- span " s j ++ ascii " unbounded -->\n"
 
 -- a path, or, where there is none to draw, why: a bound that is refused has no values
 abbrev pub boxText : ℕ → ℕ → Bounded → List ℕ
-boxText s j a = let vs = boundedValues a in let t = pointOf vs in cond (eqb (length vs) 0) (refusedText s j (boundedRefusal a .number)) (cond (bothFinite (t .x) (t .y)) (pathText s j (t .x) (t .y)) (unboundedText s j))
+boxText s j a = let vs = boundedValues a in let t = pointBy vs in cond (eqb (length vs) 0) (refusedText s j (boundedRefusal a .number)) (cond (bothFinite (t .x) (t .y)) (pathText s j (t .x) (t .y)) (unboundedText s j))
 
 -- ---- the parts of a span: bounds over a whole span are wide
 

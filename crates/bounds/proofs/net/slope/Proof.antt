@@ -1,4 +1,4 @@
-use mathlib.Core.Path.{_≡_, refl, sym, ap, _∙_, subst}
+use mathlib.Core.Path.{sym, _∙_}
 use Rattle.bounds.specs.Net.{slopeOf}
 use Rattle.bounds.proofs.Slopes.{slope-is}
 use borrow.Author.Needs.{needs}

@@ -1,4 +1,4 @@
-use mathlib.Core.Path.{_≡_, refl, sym, ap, _∙_, subst}
+use mathlib.Core.Path.{sym, _∙_}
 use Rattle.interval.proofs.Symmetric.{symmetric-right}
 use borrow.Author.Needs.{needs}
 use Rattle.bounds.proofs.net.times.Statement.{statement}

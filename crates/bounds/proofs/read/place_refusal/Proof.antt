@@ -14,42 +14,33 @@ use Rattle.bounds.proofs.range.range_refusal.Reads as range-refusal-rea
 use Rattle.bounds.proofs.range.taken_span.Reads as taken-span-reads
 use Rattle.bounds.proofs.read.read_refusal.Reads as read-refusal-reads
 
--- src/read.rt:72:9
 range-refusal-requires : tie.Need-range-refusal-requires
 range-refusal-requires c κs = search needs
 
--- src/read.rt:72:9
 returns : tie.Need-returns
 unfolding placeRefusal
 returns c = c .range-refusal .ensures ∙ simp (lt-leb (c .before .before .before .before .before .args .degree) (c .before .before .before .before .before .args .s) (c .before .if1 .taken))
 
--- src/read.rt:75:9
 range-refusal-requires-2 : tie.Need-range-refusal-requires-2
 range-refusal-requires-2 c κs = search needs
 
--- src/read.rt:75:9
 returns-2 : tie.Need-returns-2
 unfolding placeRefusal
 returns-2 c = c .range-refusal2 .ensures ∙ simp (le-leb (c .before .before .before .before .before .before .args .degree) (c .before .before .before .before .before .before .args .s) (let h = c .before .before .if1 .left in omega arith), le-ltb (c .before .before .before .before .before .before .args .s) (countOf (now (c .before .before .before .before .before .before .args .points))) (let h = c .before .if2 .taken in omega arith))
 
--- src/read.rt:77:9
 read-refusal-requires : tie.Need-read-refusal-requires
 read-refusal-requires c κs = let a = c .before .before .before .before .before .pre in let f = c .before .if1 .left in let g = c .if2 .left in (omega arith, (omega arith, (omega arith, (a .1 .0, λ e. let w = a .1 .1 e in omega arith))))
 
--- src/read.rt:79:9
 returns-3 : tie.Need-returns-3
 unfolding placeRefusal
 returns-3 c = c .before .before .read-refusal .ensures ∙ sym (simp (le-leb (c .before .before .before .before .before .before .before .before .args .degree) (c .before .before .before .before .before .before .before .before .args .s) (let h = c .before .before .before .before .if1 .left in omega arith), lt-ltb (c .before .before .before .before .before .before .before .before .args .s) (countOf (now (c .before .before .before .before .before .before .before .before .args .points))) (let h = c .before .before .before .if2 .left in omega arith), stop (c .before .before .read-refusal .ensures) (c .if3 .taken)))
 
--- src/read.rt:81:9
 taken-span-requires : tie.Need-taken-span-requires
 taken-span-requires c κs = search needs
 
--- src/read.rt:82:5
 range-refusal-requires-3 : tie.Need-range-refusal-requires-3
 range-refusal-requires-3 c κs = search needs
 
--- src/read.rt:55:1
 returns-4 : tie.Need-returns-4
 unfolding placeRefusal
 returns-4 c = c .range-refusal3 .ensures ∙ simp (c .before .taken-span .ensures) (sym (simp (le-leb (c .before .before .before .before .before .before .before .before .before .before .args .degree) (c .before .before .before .before .before .before .before .before .before .before .args .s) (let h = c .before .before .before .before .before .before .if1 .left in omega arith), lt-ltb (c .before .before .before .before .before .before .before .before .before .before .args .s) (countOf (now (c .before .before .before .before .before .before .before .before .before .before .args .points))) (let h = c .before .before .before .before .before .if2 .left in omega arith), skip (c .before .before .before .before .read-refusal .ensures) (c .before .before .if3 .left))))

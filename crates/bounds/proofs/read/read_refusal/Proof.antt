@@ -12,139 +12,106 @@ use Rattle.knots.proofs.knots.all_finite.Reads as all-finite-reads
 use Rattle.knots.proofs.knots.is_ordered.Reads as is-ordered-reads
 use Rattle.knots.proofs.refusal.refuse.Reads as refuse-reads
 
--- src/read.rt:33:17
 sub-first : tie.Need-sub-first
 sub-first c = search needs
 
--- src/read.rt:34:16
 add-from : tie.Need-add-from
 add-from c = search needs
 
--- src/read.rt:35:16
 add-upto : tie.Need-add-upto
 add-upto c = search needs
 
--- src/read.rt:35:16
 add-upto-2 : tie.Need-add-upto-2
 add-upto-2 c = search needs
 
--- src/read.rt:36:20
 mul-is-ordered : tie.Need-mul-is-ordered
 mul-is-ordered c = search needs
 
--- src/read.rt:36:20
 sub-is-ordered : tie.Need-sub-is-ordered
 sub-is-ordered c = search needs
 
--- src/read.rt:36:20
 part-is-ordered-start : tie.Need-part-is-ordered-start
 part-is-ordered-start c = search needs
 
--- src/read.rt:36:20
 part-is-ordered-end : tie.Need-part-is-ordered-end
 part-is-ordered-end c = search needs
 
--- src/read.rt:36:9
 is-ordered-requires : tie.Need-is-ordered-requires
 is-ordered-requires c κs = search needs
 
--- src/read.rt:37:9
 refuse-requires : tie.Need-refuse-requires
 refuse-requires c κs = search needs
 
--- src/read.rt:37:9
 returns : tie.Need-returns
 unfolding readRefusal
 returns c = c .refuse .ensures ∙ simp (sym (c .before .before .is-ordered .ensures) ∙ not-true _ (c .before .if1 .taken))
 
--- src/read.rt:39:14
 mul-at : tie.Need-mul-at
 mul-at c = search needs
 
--- src/read.rt:40:15
 mul-end : tie.Need-mul-end
 mul-end c = search needs
 
--- src/read.rt:40:15
 add-end : tie.Need-add-end
 add-end c = search needs
 
--- src/read.rt:41:20
 mul-all-finite : tie.Need-mul-all-finite
 mul-all-finite c = search needs
 
--- src/read.rt:41:20
 sub-all-finite : tie.Need-sub-all-finite
 sub-all-finite c = search needs
 
--- src/read.rt:41:20
 part-all-finite-start : tie.Need-part-all-finite-start
 part-all-finite-start c = search needs
 
--- src/read.rt:41:20
 part-all-finite-end : tie.Need-part-all-finite-end
 part-all-finite-end c = search needs
 
--- src/read.rt:41:9
 all-finite-requires : tie.Need-all-finite-requires
 all-finite-requires c κs = search needs
 
--- src/read.rt:42:9
 refuse-requires-2 : tie.Need-refuse-requires-2
 refuse-requires-2 c κs = search needs
 
--- src/read.rt:42:9
 returns-2 : tie.Need-returns-2
 unfolding readRefusal
 returns-2 c = c .refuse2 .ensures ∙ simp (sym (c .before .before .before .before .before .is-ordered .ensures) ∙ not-false _ (c .before .before .before .before .if1 .left), sym (c .before .before .all-finite .ensures) ∙ not-true _ (c .before .if2 .taken))
 
--- src/read.rt:45:9
 refuse-requires-3 : tie.Need-refuse-requires-3
 refuse-requires-3 c κs = search needs
 
--- src/read.rt:45:9
 returns-3 : tie.Need-returns-3
 unfolding readRefusal
 returns-3 c = c .refuse3 .ensures ∙ simp (sym (c .before .before .before .before .before .before .is-ordered .ensures) ∙ not-false _ (c .before .before .before .before .before .if1 .left), sym (c .before .before .before .all-finite .ensures) ∙ not-false _ (c .before .before .if2 .left), not-true (c .before .before .before .before .before .before .before .before .before .before .before .args .rational) (c .before .if3 .taken))
 
--- src/read.rt:47:16
 add-next : tie.Need-add-next
 add-next c = search needs
 
--- src/read.rt:48:21
 mul-all-weights : tie.Need-mul-all-weights
 mul-all-weights c = search needs
 
--- src/read.rt:48:21
 sub-all-weights : tie.Need-sub-all-weights
 sub-all-weights c = search needs
 
--- src/read.rt:48:21
 part-all-weights-start : tie.Need-part-all-weights-start
 part-all-weights-start c = search needs
 
--- src/read.rt:48:21
 part-all-weights-end : tie.Need-part-all-weights-end
 part-all-weights-end c = let h = c .before .before .before .before .before .before .before .before .before .before .pre .1 .1 .1 .1 (not-false (c .before .before .before .before .before .before .before .before .before .before .args .rational) (c .if3 .left)) in omega arith
 
--- src/read.rt:48:9
 all-weights-requires : tie.Need-all-weights-requires
 all-weights-requires c κs = search needs
 
--- src/read.rt:49:9
 refuse-requires-4 : tie.Need-refuse-requires-4
 refuse-requires-4 c κs = search needs
 
--- src/read.rt:49:9
 returns-4 : tie.Need-returns-4
 unfolding readRefusal
 returns-4 c = c .refuse4 .ensures ∙ simp (sym (c .before .before .before .before .before .before .before .before .before .is-ordered .ensures) ∙ not-false _ (c .before .before .before .before .before .before .before .before .if1 .left), sym (c .before .before .before .before .before .before .all-finite .ensures) ∙ not-false _ (c .before .before .before .before .before .if2 .left), not-false (c .before .before .before .before .before .before .before .before .before .before .before .before .before .before .args .rational) (c .before .before .before .before .if3 .left), sym (c .before .before .all-weights .ensures) ∙ not-true _ (c .before .if4 .taken))
 
--- src/read.rt:51:5
 refuse-requires-5 : tie.Need-refuse-requires-5
 refuse-requires-5 c κs = search needs
 
--- src/read.rt:18:1
 returns-5 : tie.Need-returns-5
 unfolding readRefusal
 returns-5 c = c .refuse5 .ensures ∙ simp (sym (c .before .before .before .before .before .before .before .before .before .is-ordered .ensures) ∙ not-false _ (c .before .before .before .before .before .before .before .before .if1 .left), sym (c .before .before .before .before .before .before .all-finite .ensures) ∙ not-false _ (c .before .before .before .before .before .if2 .left), not-false (c .before .before .before .before .before .before .before .before .before .before .before .before .before .before .args .rational) (c .before .before .before .before .if3 .left), sym (c .before .before .all-weights .ensures) ∙ not-false _ (c .before .if4 .left))

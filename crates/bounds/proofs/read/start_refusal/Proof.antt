@@ -15,33 +15,26 @@ use Rattle.knots.proofs.curve.any_long.Reads as any-long-reads
 use Rattle.knots.proofs.refusal.refuse.Reads as refuse-reads
 use Rattle.knots.proofs.shape.curve_shape.Reads as curve-shape-reads
 
--- src/read.rt:98:8
 any-long-requires : tie.Need-any-long-requires
 any-long-requires c κs = search needs
 
--- src/read.rt:99:9
 refuse-requires : tie.Need-refuse-requires
 refuse-requires c κs = search needs
 
--- src/read.rt:99:9
 returns : tie.Need-returns
 unfolding startRefusal
 returns c = c .refuse .ensures ∙ sym (simp (sym (c .before .before .any-long .ensures) ∙ c .before .if1 .taken))
 
--- src/read.rt:101:9
 curve-shape-requires : tie.Need-curve-shape-requires
 curve-shape-requires c κs = search needs
 
--- src/read.rt:103:9
 returns-2 : tie.Need-returns-2
 unfolding startRefusal
 returns-2 c = c .before .before .curve-shape .ensures ∙ sym (simp (sym (c .before .before .before .before .any-long .ensures) ∙ c .before .before .before .if1 .left, stop (c .before .before .curve-shape .ensures) (c .if2 .taken)))
 
--- src/read.rt:105:5
 place-refusal-requires : tie.Need-place-refusal-requires
 place-refusal-requires c κs = let a = c .before .before .before .before .before .before .before .before .args in let k = shaped (a .degree) (now (a .knots)) (now (a .points)) (a .rational) (now (a .weights)) (ap (λ (r : Refusal). r .number) (sym (c .before .before .curve-shape .ensures)) ∙ c .if2 .left) in (k .knots .long, (short (now (a .knots)) (now (a .points)) (a .rational) (now (a .weights)) (sym (c .before .before .before .before .any-long .ensures) ∙ c .before .before .before .if1 .left) .points, k .weights))
 
--- src/read.rt:86:1
 returns-3 : tie.Need-returns-3
 unfolding startRefusal
 returns-3 c = c .place-refusal .ensures ∙ sym (simp (sym (c .before .before .before .before .before .any-long .ensures) ∙ c .before .before .before .before .if1 .left, skip (c .before .before .before .curve-shape .ensures) (c .before .if2 .left)))

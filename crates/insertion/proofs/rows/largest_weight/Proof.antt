@@ -17,6 +17,7 @@ Inv-loop n rows a₀ i₀ a i = (a ≡ largestFrom zero+ (λ k. at rows (k * 4 +
 abbrev μ-loop : tie.MeasureT-loop
 μ-loop n rows a₀ i₀ a i = n - i
 
+-- `sub` is open so that a start which is a difference computes, as in the edit `scaled_once`
 loop-holds : tie.Need-loop-holds Inv-loop μ-loop
 unfolding ofBits sub
 loop-holds c = (largest-none zero+ _, omega arith)

@@ -8,11 +8,9 @@ use Rattle.interval.proofs.spread.product.Reads as reads
 use Rattle.interval.proofs.spread.product.Lts as lts
 use Rattle.interval.proofs.spread.reach.Reads as reach-reads
 
--- src/spread.rt:40:9
 reach-requires : tie.Need-reach-requires
 reach-requires c κs = search needs
 
--- src/spread.rt:37:1
 returns : tie.Need-returns
 returns c = ap oppositesOf (c .reach .ensures) ∙ sym (product-is (c .before .args .s) (c .before .args .a))
 

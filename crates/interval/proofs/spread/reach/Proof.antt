@@ -1,5 +1,4 @@
-use mathlib.Core.Path.{_≡_, refl, sym, ap, _∙_, subst}
-use mathlib.Core.Bool.{true, false}
+use mathlib.Core.Path.{sym, ap, _∙_}
 use Rattle.interval.specs.declared.Interval.{Interval}
 use Rattle.interval.proofs.Symmetric.{about-zero}
 use borrow.Author.Needs.{needs}

@@ -7,35 +7,27 @@ use Rattle.interval.proofs.spread.sum_of_products.Lts as lts
 use Rattle.interval.proofs.spread.reach.Reads as reach-reads
 use Rattle.interval.proofs.spread.reach_sum.Reads as reach-sum-reads
 
--- src/spread.rt:57:23
 reach-requires : tie.Need-reach-requires
 reach-requires c κs = search needs
 
--- src/spread.rt:57:36
 reach-requires-2 : tie.Need-reach-requires-2
 reach-requires-2 c κs = search needs
 
--- src/spread.rt:57:9
 reach-sum-requires : tie.Need-reach-sum-requires
 reach-sum-requires c κs = search needs
 
--- src/spread.rt:58:23
 reach-requires-3 : tie.Need-reach-requires-3
 reach-requires-3 c κs = search needs
 
--- src/spread.rt:58:36
 reach-requires-4 : tie.Need-reach-requires-4
 reach-requires-4 c κs = search needs
 
--- src/spread.rt:58:9
 reach-sum-requires-2 : tie.Need-reach-sum-requires-2
 reach-sum-requires-2 c κs = search needs
 
--- src/spread.rt:59:9
 reach-sum-requires-3 : tie.Need-reach-sum-requires-3
 reach-sum-requires-3 c κs = search needs
 
--- src/spread.rt:45:1
 returns : tie.Need-returns
 returns c = let a = c .before .before .before .before .before .before .before .args in rw ((c .reach-sum3 .ensures), (c .before .reach-sum2 .ensures), (c .before .before .reach4 .ensures), (c .before .before .before .reach3 .ensures), (c .before .before .before .before .reach-sum .ensures), (c .before .before .before .before .before .reach2 .ensures), (c .before .before .before .before .before .before .reach .ensures)) (products-are (a .a) (a .s) (a .b) (a .t) (a .c) (a .u) (a .d) (a .v))
 
