@@ -233,7 +233,7 @@ uint32_t tasulogi_reversed(
 
 /* The curve at u = t where constant_u, else at v = t; its knots are the surface's other ones. Refusals: those of the
  * surface, 31, 22, 30 for a lent run, 23, 1 to 10 of the curve that is made. Its points are as many as the surface has
- * along the other direction, and it has a weight for each also where the surface has none: there is room for both. */
+ * along the other direction, and it has a weight for each also where the surface has none: lend room for both, or it is 30. */
 uint32_t tasulogi_iso_curve(
     size_t u_degree, size_t v_degree, const double *u_knots, size_t u_knots_n, const double *v_knots, size_t v_knots_n,
     size_t u_count, size_t v_count, const double *points, size_t points_n, bool rational, const double *weights,

@@ -9,7 +9,7 @@ from importlib.util import module_from_spec, spec_from_loader
 TOP = os.path.dirname(os.path.dirname(os.path.abspath(__file__)))
 TABLES = os.path.join(TOP, "tables")
 LAUNCHER = os.path.join(TOP, "tasulogi")
-# exit statuses of the launcher
+# exit statuses of the launcher; tables/record.py has them but UNBUILT
 DONE, UNBUILT, USAGE, REFUSED, FAILED = 0, 1, 2, 4, 5
 
 sys.path.insert(0, TABLES)

@@ -63,7 +63,8 @@ impl Surface<'_> {
         Ok(point_of(&out))
     }
 
-    /// The curve where the parameter of one direction stays `t`; it has weights always: where the surface has none, sums of basis functions, 1 up to rounding.
+    /// The curve where the parameter of one direction stays `t`; it always has weights. Where the surface has
+    /// none they are sums of basis functions, 1 up to rounding.
     ///
     /// ```
     /// # use tasulogi::{Direction, Surface};
