@@ -1,5 +1,6 @@
 // Several knots inserted into a curve that stands in a lent run.
 use crate::one::insert_one;
+use crate::rows::scale_of;
 use knots::refusal::Refusal;
 use knots::refusal::refuse;
 ghost use Prim.Native.Nat.{_+_, _*_, _≤_};
@@ -25,7 +26,8 @@ pub fn insert_all(
     let mut i = 0usize;
     while i < inserted.len() {
         let t = inserted[i];
-        let refusal = insert_one(p, n + i, rational, t, a, work);
+        let scale = scale_of(n + i, rational, work);
+        let refusal = insert_one(p, n + i, scale, rational, t, a, work);
         if refusal.number != 0 {
             return refusal;
         }
@@ -50,7 +52,8 @@ pub fn insert_many(
 {
     let mut j = 0usize;
     while j < m {
-        let refusal = insert_one(p, n + j, rational, t, a, work);
+        let scale = scale_of(n + j, rational, work);
+        let refusal = insert_one(p, n + j, scale, rational, t, a, work);
         if refusal.number != 0 {
             return refusal;
         }

@@ -16,6 +16,7 @@ ghost use lib.ListN.{length};
 ghost use Rattle.knots.specs.Knots.{ValidKnots};
 ghost use Rattle.insertion.specs.Insert.{moreKnots, inside, spotRefusal};
 ghost use Rattle.insertion.specs.Work.{knotsFrom, pointsFrom, weightsFrom};
+ghost use Rattle.insertion.specs.Rows.{scaleOf};
 ghost use Rattle.insertion.specs.Passes.{Formed, Inserted};
 
 // Finite, and strictly inside the domain.
@@ -45,14 +46,22 @@ fn spot_refusal(lo: f64, hi: f64, t: f64, p: usize, s: usize) -> Refusal
 }
 
 // The knot is inserted where it goes: 19, 20, and 8 of the curve that is formed. Nothing else of 1 to 10 can be: valid knots with a knot more are valid, and what 20 lets pass has a weight.
-fn insert_at(spot: Spot, n: usize, rational: bool, a: usize, work: &mut [f64]) -> Refusal
+fn insert_at(
+    spot: Spot,
+    n: usize,
+    scale: f64,
+    rational: bool,
+    a: usize,
+    work: &mut [f64],
+) -> Refusal
     requires { ⌜ (spot .s ≤ spot .p) × (spot .p ≤ spot .k) × (spot .k < n) ⌝ }
     requires { ⌜ ((n + 1) * 4 ≤ a) × (a + (n + spot .p + 1) < length (now work)) ⌝ }
     requires { ⌜ ValidKnots (spot .p) (n + 1) (moreKnots (spot .k) (spot .t) (knotsFrom a (spot .p) n (now work))) ⌝ }
+    requires { ⌜ scale ≡ scaleOf rational (weightsFrom rational n (now work)) ⌝ }
     ensures { λ r. ⌜ Formed a (spot .p) n (spot .k) (spot .s) (spot .t) (knotsFrom a (spot .p) n (now (work .entry))) (pointsFrom n (now (work .entry))) rational (weightsFrom rational n (now (work .entry))) (now (work .entry)) (now (work .exit)) r ⌝ }
 {
     let o = vector_of(row_at(rational, work, 0));
-    if !lift_rows(n, o, rational, work) {
+    if !lift_rows(n, o, scale, rational, work) {
         return refuse(19);
     }
     let late = lower_rows(spot, n, a, o, rational, work);
@@ -66,9 +75,18 @@ fn insert_at(spot: Spot, n: usize, rational: bool, a: usize, work: &mut [f64]) -
 }
 
 // The knot t is inserted: 13, 14, 19, 20, and 1 to 10 of the curve that is formed. What the run holds after a refusal is not said.
-pub fn insert_one(p: usize, n: usize, rational: bool, t: f64, a: usize, work: &mut [f64]) -> Refusal
+pub fn insert_one(
+    p: usize,
+    n: usize,
+    scale: f64,
+    rational: bool,
+    t: f64,
+    a: usize,
+    work: &mut [f64],
+) -> Refusal
     requires { ⌜ ValidKnots p n (knotsFrom a p n (now work)) ⌝ }
     requires { ⌜ ((n + 1) * 4 ≤ a) × (a + (n + p + 1) < length (now work)) ⌝ }
+    requires { ⌜ scale ≡ scaleOf rational (weightsFrom rational n (now work)) ⌝ }
     ensures { λ r. ⌜ Inserted a p n (knotsFrom a p n (now (work .entry))) (pointsFrom n (now (work .entry))) rational (weightsFrom rational n (now (work .entry))) t (now (work .entry)) (now (work .exit)) r ⌝ }
 {
     let end = a + (n + p + 1);
@@ -80,5 +98,5 @@ pub fn insert_one(p: usize, n: usize, rational: bool, t: f64, a: usize, work: &m
     }
     let k = span_of(p, n, t, ks);
     let spot = Spot { p, k, s, t };
-    insert_at(spot, n, rational, a, work)
+    insert_at(spot, n, scale, rational, a, work)
 }

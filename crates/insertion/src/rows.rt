@@ -91,7 +91,7 @@ fn largest_weight(n: usize, rows: &[f64]) -> f64
 }
 
 // What the weights are divided by.
-fn scale_of(n: usize, rational: bool, rows: &[f64]) -> f64
+pub fn scale_of(n: usize, rational: bool, rows: &[f64]) -> f64
     requires { ⌜ n * 4 ≤ length (now rows) ⌝ }
     ensures { λ r. ⌜ r ≡ scaleOf rational (weightsFrom rational n (now (rows .entry))) ⌝ }
 {
@@ -112,11 +112,11 @@ fn lift_row(scale: f64, o: Vector, rational: bool, q: Control) -> Control
 }
 
 // n rows become controls, up to the first that refusal 19 is for; false where there is one.
-pub fn lift_rows(n: usize, o: Vector, rational: bool, rows: &mut [f64]) -> bool
+pub fn lift_rows(n: usize, o: Vector, scale: f64, rational: bool, rows: &mut [f64]) -> bool
     requires { ⌜ n * 4 ≤ length (now rows) ⌝ }
+    requires { ⌜ scale ≡ scaleOf rational (weightsFrom rational n (now rows)) ⌝ }
     ensures { λ r. ⌜ LiftDone rational (liftAll o (pointsFrom n (now (rows .entry))) rational (weightsFrom rational n (now (rows .entry)))) n (now (rows .entry)) (now (rows .exit)) r ⌝ }
 {
-    let scale = scale_of(n, rational, rows);
     let mut i = 0usize;
     while i < n {
         let q = lift_row(scale, o, rational, row_at(rational, rows, i));

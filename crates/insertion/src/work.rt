@@ -5,6 +5,7 @@ use crate::lay::store_curve;
 use crate::list::insert_many;
 use crate::rows::lift_rows;
 use crate::rows::row_at;
+use crate::rows::scale_of;
 use crate::rows::vector_of;
 use crate::start::out_room;
 use knots::clear::clear;
@@ -136,7 +137,8 @@ pub fn lift_in(n: usize, rational: bool, work: &mut [f64]) -> Refusal
         return refuse(0);
     }
     let o = vector_of(row_at(rational, work, 0));
-    if !lift_rows(n, o, rational, work) {
+    let scale = scale_of(n, rational, work);
+    if !lift_rows(n, o, scale, rational, work) {
         clear(work);
         return refuse(19);
     }

@@ -1,13 +1,19 @@
+use native.Mathlib.Omega.{arith}
 use mathlib.Core.Path.{refl, _∙_, ap}
 use mathlib.Core.Path.{_∙_, ap}
 use Prim.Native.Nat.{_-_}
 use denote.Ref.{now}
 use lib.ListN.{length, drop}
 use Rattle.knots.specs.declared.refusal.Refusal.{Refusal}
-use borrow.Author.Needs.{needs}
 use Rattle.insertion.proofs.Folds.{InTurns, turns-start, turns-room, turns-stop, turns-more, turns-end, drop-next, drop-last}
+use borrow.Author.Needs.{needs}
 use Rattle.insertion.proofs.list.insert_all.Statement.{statement}
 use Rattle.insertion.proofs.list.insert_all.Tie as tie
+use Rattle.insertion.proofs.list.insert_all.Reads as reads
+use Rattle.insertion.proofs.list.insert_all.Lts as lts
+use Rattle.insertion.proofs.one.insert_one.Reads as insert-one-reads
+use Rattle.insertion.proofs.rows.scale_of.Reads as scale-of-reads
+use Rattle.knots.proofs.refusal.refuse.Reads as refuse-reads
 
 abbrev Inv-loop : tie.InvT-loop
 Inv-loop p n rational inserted a work₀ i₀ work i = InTurns a p rational n (length inserted) inserted (λ k. drop k inserted) work₀ work i
@@ -24,17 +30,23 @@ mul-t c = search needs
 shared-slice-read-t : tie.Need-shared-slice-read-t Inv-loop μ-loop
 shared-slice-read-t c = c .before .loop-test .taken
 
+add-scale-of : tie.Need-add-scale-of Inv-loop μ-loop
+add-scale-of c = let q = c .before .before .before .before .before .pre .1 .1 in let t = c .before .loop-test .taken in let g = c .before .before .before .before .before .good in let f = c .before .before .before .before .before .fits in search needs
+
+scale-of-requires : tie.Need-scale-of-requires Inv-loop μ-loop
+scale-of-requires c κs = let r = turns-room (c .before .before .before .before .before .before .args .a) (c .before .before .before .before .before .before .args .p) (c .before .before .before .before .before .before .args .rational) (c .before .before .before .before .before .before .args .n) (length (now (c .before .before .before .before .before .before .args .inserted))) (now (c .before .before .before .before .before .before .args .inserted)) (λ k. drop k (now (c .before .before .before .before .before .before .args .inserted))) (now (c .before .before .before .before .before .before .args .work)) _ (c .before .before .before .loop .i) (c .before .before .before .loop .inv) (c .before .before .loop-test .taken) (c .before .before .before .before .before .before .pre .1 .0) (c .before .before .before .before .before .before .pre .1 .1) .1 in let x = r .0 in let y = r .1 in omega arith
+
 add-insert-one : tie.Need-add-insert-one Inv-loop μ-loop
-add-insert-one c = let q = c .before .before .before .before .before .pre .1 .1 in let t = c .before .loop-test .taken in let g = c .before .before .before .before .before .good in let f = c .before .before .before .before .before .fits in search needs
+add-insert-one c = let q = c .before .before .before .before .before .before .before .pre .1 .1 in let t = c .before .before .before .loop-test .taken in let g = c .before .before .before .before .before .before .before .good in let f = c .before .before .before .before .before .before .before .fits in search needs
 
 insert-one-requires : tie.Need-insert-one-requires Inv-loop μ-loop
-insert-one-requires c κs = turns-room (c .before .before .before .before .before .before .args .a) (c .before .before .before .before .before .before .args .p) (c .before .before .before .before .before .before .args .rational) (c .before .before .before .before .before .before .args .n) (length (now (c .before .before .before .before .before .before .args .inserted))) (now (c .before .before .before .before .before .before .args .inserted)) (λ k. drop k (now (c .before .before .before .before .before .before .args .inserted))) (now (c .before .before .before .before .before .before .args .work)) _ (c .before .before .before .loop .i) (c .before .before .before .loop .inv) (c .before .before .loop-test .taken) (c .before .before .before .before .before .before .pre .1 .0) (c .before .before .before .before .before .before .pre .1 .1)
+insert-one-requires c κs = let r = turns-room (c .before .before .before .before .before .before .before .before .args .a) (c .before .before .before .before .before .before .before .before .args .p) (c .before .before .before .before .before .before .before .before .args .rational) (c .before .before .before .before .before .before .before .before .args .n) (length (now (c .before .before .before .before .before .before .before .before .args .inserted))) (now (c .before .before .before .before .before .before .before .before .args .inserted)) (λ k. drop k (now (c .before .before .before .before .before .before .before .before .args .inserted))) (now (c .before .before .before .before .before .before .before .before .args .work)) _ (c .before .before .before .before .before .loop .i) (c .before .before .before .before .before .loop .inv) (c .before .before .before .before .loop-test .taken) (c .before .before .before .before .before .before .before .before .pre .1 .0) (c .before .before .before .before .before .before .before .before .pre .1 .1) in (r .0, (r .1, c .before .scale-of .ensures))
 
 same-length : tie.Need-same-length Inv-loop μ-loop
-same-length c = c .before .before .before .work .given ∙ c .before .before .before .before .before .before .before .before .loop .inv .long
+same-length c = c .before .before .before .work .given ∙ c .before .before .before .before .before .before .before .before .before .before .loop .inv .long
 
 returns : tie.Need-returns Inv-loop μ-loop
-returns c = turns-stop (c .before .before .before .before .before .before .before .before .before .before .before .args .a) (c .before .before .before .before .before .before .before .before .before .before .before .args .p) (c .before .before .before .before .before .before .before .before .before .before .before .args .rational) (c .before .before .before .before .before .before .before .before .before .before .before .args .n) (length (now (c .before .before .before .before .before .before .before .before .before .before .before .args .inserted))) (now (c .before .before .before .before .before .before .before .before .before .before .before .args .inserted)) (λ k. drop k (now (c .before .before .before .before .before .before .before .before .before .before .before .args .inserted))) (now (c .before .before .before .before .before .before .before .before .before .before .before .args .work)) _ (c .before .before .before .before .before .before .before .before .loop .i) (c .before .before .before .before .before .before .before .before .loop .inv) (c .before .before .before .before .before .before .before .loop-test .taken) _ (drop-next (now (c .before .before .before .before .before .before .before .before .before .before .before .args .inserted)) (c .before .before .before .before .before .before .before .before .loop .i) (c .before .before .before .before .before .before .before .loop-test .taken)) _ _ (c .before .before .before .before .insert-one .ensures) (c .if1 .taken)
+returns c = turns-stop (c .before .before .before .before .before .before .before .before .before .before .before .before .before .args .a) (c .before .before .before .before .before .before .before .before .before .before .before .before .before .args .p) (c .before .before .before .before .before .before .before .before .before .before .before .before .before .args .rational) (c .before .before .before .before .before .before .before .before .before .before .before .before .before .args .n) (length (now (c .before .before .before .before .before .before .before .before .before .before .before .before .before .args .inserted))) (now (c .before .before .before .before .before .before .before .before .before .before .before .before .before .args .inserted)) (λ k. drop k (now (c .before .before .before .before .before .before .before .before .before .before .before .before .before .args .inserted))) (now (c .before .before .before .before .before .before .before .before .before .before .before .before .before .args .work)) _ (c .before .before .before .before .before .before .before .before .before .before .loop .i) (c .before .before .before .before .before .before .before .before .before .before .loop .inv) (c .before .before .before .before .before .before .before .before .before .loop-test .taken) _ (drop-next (now (c .before .before .before .before .before .before .before .before .before .before .before .before .before .args .inserted)) (c .before .before .before .before .before .before .before .before .before .before .loop .i) (c .before .before .before .before .before .before .before .before .before .loop-test .taken)) _ _ (c .before .before .before .before .insert-one .ensures) (c .if1 .taken)
 
 add-i : tie.Need-add-i Inv-loop μ-loop
 add-i c = search needs
@@ -43,7 +55,7 @@ loop-less : tie.Need-loop-less Inv-loop μ-loop
 loop-less c = search needs
 
 loop-again : tie.Need-loop-again Inv-loop μ-loop
-loop-again c = turns-more (c .before .before .before .before .before .before .before .before .before .before .before .args .a) (c .before .before .before .before .before .before .before .before .before .before .before .args .p) (c .before .before .before .before .before .before .before .before .before .before .before .args .rational) (c .before .before .before .before .before .before .before .before .before .before .before .args .n) (length (now (c .before .before .before .before .before .before .before .before .before .before .before .args .inserted))) (now (c .before .before .before .before .before .before .before .before .before .before .before .args .inserted)) (λ k. drop k (now (c .before .before .before .before .before .before .before .before .before .before .before .args .inserted))) (now (c .before .before .before .before .before .before .before .before .before .before .before .args .work)) _ (c .before .before .before .before .before .before .before .before .loop .i) (c .before .before .before .before .before .before .before .before .loop .inv) (c .before .before .before .before .before .before .before .loop-test .taken) _ (drop-next (now (c .before .before .before .before .before .before .before .before .before .before .before .args .inserted)) (c .before .before .before .before .before .before .before .before .loop .i) (c .before .before .before .before .before .before .before .loop-test .taken)) _ _ (c .before .before .before .before .insert-one .ensures) (c .if1 .left) (c .before .before .before .work .given)
+loop-again c = turns-more (c .before .before .before .before .before .before .before .before .before .before .before .before .before .args .a) (c .before .before .before .before .before .before .before .before .before .before .before .before .before .args .p) (c .before .before .before .before .before .before .before .before .before .before .before .before .before .args .rational) (c .before .before .before .before .before .before .before .before .before .before .before .before .before .args .n) (length (now (c .before .before .before .before .before .before .before .before .before .before .before .before .before .args .inserted))) (now (c .before .before .before .before .before .before .before .before .before .before .before .before .before .args .inserted)) (λ k. drop k (now (c .before .before .before .before .before .before .before .before .before .before .before .before .before .args .inserted))) (now (c .before .before .before .before .before .before .before .before .before .before .before .before .before .args .work)) _ (c .before .before .before .before .before .before .before .before .before .before .loop .i) (c .before .before .before .before .before .before .before .before .before .before .loop .inv) (c .before .before .before .before .before .before .before .before .before .loop-test .taken) _ (drop-next (now (c .before .before .before .before .before .before .before .before .before .before .before .before .before .args .inserted)) (c .before .before .before .before .before .before .before .before .before .before .loop .i) (c .before .before .before .before .before .before .before .before .before .loop-test .taken)) _ _ (c .before .before .before .before .insert-one .ensures) (c .if1 .left) (c .before .before .before .work .given)
 
 refuse-requires : tie.Need-refuse-requires Inv-loop μ-loop
 refuse-requires c κs = search needs
@@ -63,6 +75,8 @@ insert-all-spec =
     loop-holds
     mul-t
     shared-slice-read-t
+    add-scale-of
+    scale-of-requires
     add-insert-one
     insert-one-requires
     same-length

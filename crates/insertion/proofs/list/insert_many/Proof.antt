@@ -1,14 +1,19 @@
-use mathlib.Core.Path.{_∙_, ap}
+use native.Mathlib.Omega.{arith}
 use Rattle.insertion.proofs.Folds.{InTurns, turns-start, turns-room, turns-stop, turns-more, turns-end, more-first, more-next, more-last}
 use mathlib.Core.Path.{_∙_, ap}
 use Prim.Native.Nat.{_-_}
 use denote.Ref.{now}
 use lib.ListN.{replicate}
 use Rattle.knots.specs.declared.refusal.Refusal.{Refusal}
-use borrow.Author.Needs.{needs}
 use Rattle.insertion.proofs.Folds.{InTurns, turns-start, turns-room, turns-stop, turns-more, turns-end, more-next, more-last}
+use borrow.Author.Needs.{needs}
 use Rattle.insertion.proofs.list.insert_many.Statement.{statement}
 use Rattle.insertion.proofs.list.insert_many.Tie as tie
+use Rattle.insertion.proofs.list.insert_many.Reads as reads
+use Rattle.insertion.proofs.list.insert_many.Lts as lts
+use Rattle.insertion.proofs.one.insert_one.Reads as insert-one-reads
+use Rattle.insertion.proofs.rows.scale_of.Reads as scale-of-reads
+use Rattle.knots.proofs.refusal.refuse.Reads as refuse-reads
 
 abbrev Inv-loop : tie.InvT-loop
 Inv-loop p n rational t m a work₀ j₀ work j = InTurns a p rational n m (replicate m t) (λ k. replicate (m - k) t) work₀ work j
@@ -19,17 +24,23 @@ abbrev μ-loop : tie.MeasureT-loop
 loop-holds : tie.Need-loop-holds Inv-loop μ-loop
 loop-holds c = turns-start (c .before .args .a) (c .before .args .p) (c .before .args .rational) (c .before .args .n) (c .before .args .m) (replicate (c .before .args .m) (c .before .args .t)) (λ k. replicate (c .before .args .m - k) (c .before .args .t)) (now (c .before .args .work)) (more-first (c .before .args .t) (c .before .args .m)) (c .before .pre .0)
 
+add-scale-of : tie.Need-add-scale-of Inv-loop μ-loop
+add-scale-of c = let q = c .before .before .before .pre .1 .1 in let t = c .loop-test .taken in let g = c .before .before .before .good in let f = c .before .before .before .fits in search needs
+
+scale-of-requires : tie.Need-scale-of-requires Inv-loop μ-loop
+scale-of-requires c κs = let r = turns-room (c .before .before .before .before .args .a) (c .before .before .before .before .args .p) (c .before .before .before .before .args .rational) (c .before .before .before .before .args .n) (c .before .before .before .before .args .m) (replicate (c .before .before .before .before .args .m) (c .before .before .before .before .args .t)) (λ k. replicate (c .before .before .before .before .args .m - k) (c .before .before .before .before .args .t)) (now (c .before .before .before .before .args .work)) _ (c .before .before .loop .j) (c .before .before .loop .inv) (c .before .loop-test .taken) (c .before .before .before .before .pre .1 .0) (c .before .before .before .before .pre .1 .1) .1 in let x = r .0 in let y = r .1 in omega arith
+
 add-insert-one : tie.Need-add-insert-one Inv-loop μ-loop
-add-insert-one c = let q = c .before .before .before .pre .1 .1 in let t = c .loop-test .taken in let g = c .before .before .before .good in let f = c .before .before .before .fits in search needs
+add-insert-one c = let q = c .before .before .before .before .before .pre .1 .1 in let t = c .before .before .loop-test .taken in let g = c .before .before .before .before .before .good in let f = c .before .before .before .before .before .fits in search needs
 
 insert-one-requires : tie.Need-insert-one-requires Inv-loop μ-loop
-insert-one-requires c κs = turns-room (c .before .before .before .before .args .a) (c .before .before .before .before .args .p) (c .before .before .before .before .args .rational) (c .before .before .before .before .args .n) (c .before .before .before .before .args .m) (replicate (c .before .before .before .before .args .m) (c .before .before .before .before .args .t)) (λ k. replicate (c .before .before .before .before .args .m - k) (c .before .before .before .before .args .t)) (now (c .before .before .before .before .args .work)) _ (c .before .before .loop .j) (c .before .before .loop .inv) (c .before .loop-test .taken) (c .before .before .before .before .pre .1 .0) (c .before .before .before .before .pre .1 .1)
+insert-one-requires c κs = let r = turns-room (c .before .before .before .before .before .before .args .a) (c .before .before .before .before .before .before .args .p) (c .before .before .before .before .before .before .args .rational) (c .before .before .before .before .before .before .args .n) (c .before .before .before .before .before .before .args .m) (replicate (c .before .before .before .before .before .before .args .m) (c .before .before .before .before .before .before .args .t)) (λ k. replicate (c .before .before .before .before .before .before .args .m - k) (c .before .before .before .before .before .before .args .t)) (now (c .before .before .before .before .before .before .args .work)) _ (c .before .before .before .before .loop .j) (c .before .before .before .before .loop .inv) (c .before .before .before .loop-test .taken) (c .before .before .before .before .before .before .pre .1 .0) (c .before .before .before .before .before .before .pre .1 .1) in (r .0, (r .1, c .before .scale-of .ensures))
 
 same-length : tie.Need-same-length Inv-loop μ-loop
-same-length c = c .before .before .before .work .given ∙ c .before .before .before .before .before .before .before .loop .inv .long
+same-length c = c .before .before .before .work .given ∙ c .before .before .before .before .before .before .before .before .before .loop .inv .long
 
 returns : tie.Need-returns Inv-loop μ-loop
-returns c = turns-stop (c .before .before .before .before .before .before .before .before .before .args .a) (c .before .before .before .before .before .before .before .before .before .args .p) (c .before .before .before .before .before .before .before .before .before .args .rational) (c .before .before .before .before .before .before .before .before .before .args .n) (c .before .before .before .before .before .before .before .before .before .args .m) (replicate (c .before .before .before .before .before .before .before .before .before .args .m) (c .before .before .before .before .before .before .before .before .before .args .t)) (λ k. replicate (c .before .before .before .before .before .before .before .before .before .args .m - k) (c .before .before .before .before .before .before .before .before .before .args .t)) (now (c .before .before .before .before .before .before .before .before .before .args .work)) _ (c .before .before .before .before .before .before .before .loop .j) (c .before .before .before .before .before .before .before .loop .inv) (c .before .before .before .before .before .before .loop-test .taken) (c .before .before .before .before .before .before .before .before .before .args .t) (more-next (c .before .before .before .before .before .before .before .before .before .args .t) (c .before .before .before .before .before .before .before .before .before .args .m) (c .before .before .before .before .before .before .before .loop .j) (c .before .before .before .before .before .before .loop-test .taken)) _ _ (c .before .before .before .before .insert-one .ensures) (c .if1 .taken)
+returns c = turns-stop (c .before .before .before .before .before .before .before .before .before .before .before .args .a) (c .before .before .before .before .before .before .before .before .before .before .before .args .p) (c .before .before .before .before .before .before .before .before .before .before .before .args .rational) (c .before .before .before .before .before .before .before .before .before .before .before .args .n) (c .before .before .before .before .before .before .before .before .before .before .before .args .m) (replicate (c .before .before .before .before .before .before .before .before .before .before .before .args .m) (c .before .before .before .before .before .before .before .before .before .before .before .args .t)) (λ k. replicate (c .before .before .before .before .before .before .before .before .before .before .before .args .m - k) (c .before .before .before .before .before .before .before .before .before .before .before .args .t)) (now (c .before .before .before .before .before .before .before .before .before .before .before .args .work)) _ (c .before .before .before .before .before .before .before .before .before .loop .j) (c .before .before .before .before .before .before .before .before .before .loop .inv) (c .before .before .before .before .before .before .before .before .loop-test .taken) (c .before .before .before .before .before .before .before .before .before .before .before .args .t) (more-next (c .before .before .before .before .before .before .before .before .before .before .before .args .t) (c .before .before .before .before .before .before .before .before .before .before .before .args .m) (c .before .before .before .before .before .before .before .before .before .loop .j) (c .before .before .before .before .before .before .before .before .loop-test .taken)) _ _ (c .before .before .before .before .insert-one .ensures) (c .if1 .taken)
 
 add-j : tie.Need-add-j Inv-loop μ-loop
 add-j c = search needs
@@ -38,7 +49,7 @@ loop-less : tie.Need-loop-less Inv-loop μ-loop
 loop-less c = search needs
 
 loop-again : tie.Need-loop-again Inv-loop μ-loop
-loop-again c = turns-more (c .before .before .before .before .before .before .before .before .before .args .a) (c .before .before .before .before .before .before .before .before .before .args .p) (c .before .before .before .before .before .before .before .before .before .args .rational) (c .before .before .before .before .before .before .before .before .before .args .n) (c .before .before .before .before .before .before .before .before .before .args .m) (replicate (c .before .before .before .before .before .before .before .before .before .args .m) (c .before .before .before .before .before .before .before .before .before .args .t)) (λ k. replicate (c .before .before .before .before .before .before .before .before .before .args .m - k) (c .before .before .before .before .before .before .before .before .before .args .t)) (now (c .before .before .before .before .before .before .before .before .before .args .work)) _ (c .before .before .before .before .before .before .before .loop .j) (c .before .before .before .before .before .before .before .loop .inv) (c .before .before .before .before .before .before .loop-test .taken) (c .before .before .before .before .before .before .before .before .before .args .t) (more-next (c .before .before .before .before .before .before .before .before .before .args .t) (c .before .before .before .before .before .before .before .before .before .args .m) (c .before .before .before .before .before .before .before .loop .j) (c .before .before .before .before .before .before .loop-test .taken)) _ _ (c .before .before .before .before .insert-one .ensures) (c .if1 .left) (c .before .before .before .work .given)
+loop-again c = turns-more (c .before .before .before .before .before .before .before .before .before .before .before .args .a) (c .before .before .before .before .before .before .before .before .before .before .before .args .p) (c .before .before .before .before .before .before .before .before .before .before .before .args .rational) (c .before .before .before .before .before .before .before .before .before .before .before .args .n) (c .before .before .before .before .before .before .before .before .before .before .before .args .m) (replicate (c .before .before .before .before .before .before .before .before .before .before .before .args .m) (c .before .before .before .before .before .before .before .before .before .before .before .args .t)) (λ k. replicate (c .before .before .before .before .before .before .before .before .before .before .before .args .m - k) (c .before .before .before .before .before .before .before .before .before .before .before .args .t)) (now (c .before .before .before .before .before .before .before .before .before .before .before .args .work)) _ (c .before .before .before .before .before .before .before .before .before .loop .j) (c .before .before .before .before .before .before .before .before .before .loop .inv) (c .before .before .before .before .before .before .before .before .loop-test .taken) (c .before .before .before .before .before .before .before .before .before .before .before .args .t) (more-next (c .before .before .before .before .before .before .before .before .before .before .before .args .t) (c .before .before .before .before .before .before .before .before .before .before .before .args .m) (c .before .before .before .before .before .before .before .before .before .loop .j) (c .before .before .before .before .before .before .before .before .loop-test .taken)) _ _ (c .before .before .before .before .insert-one .ensures) (c .if1 .left) (c .before .before .before .work .given)
 
 refuse-requires : tie.Need-refuse-requires Inv-loop μ-loop
 refuse-requires c κs = search needs
@@ -56,6 +67,8 @@ insert-many-spec =
     Inv-loop
     μ-loop
     loop-holds
+    add-scale-of
+    scale-of-requires
     add-insert-one
     insert-one-requires
     same-length

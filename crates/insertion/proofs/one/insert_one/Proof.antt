@@ -1,6 +1,6 @@
 use mathlib.Core.Path.{sym, _∙_, ap}
 use mathlib.Core.List.{List}
-use Prim.Native.Nat.{_+_, _-_}
+use Prim.Native.Nat.{_+_}
 use denote.Ref.{now}
 use lib.Ieee.{Float}
 use Rattle.doubles.specs.Run.{at}
@@ -13,6 +13,12 @@ use Rattle.insertion.proofs.Forming.{spot-open, spot-found, insert-earl
 use borrow.Author.Needs.{needs}
 use Rattle.insertion.proofs.one.insert_one.Statement.{statement}
 use Rattle.insertion.proofs.one.insert_one.Tie as tie
+use Rattle.insertion.proofs.one.insert_one.Reads as reads
+use Rattle.insertion.proofs.one.insert_one.Lts as lts
+use Rattle.insertion.proofs.counts.multiplicity.Reads as multiplicity-reads
+use Rattle.insertion.proofs.one.insert_at.Reads as insert-at-reads
+use Rattle.insertion.proofs.one.spot_refusal.Reads as spot-refusal-reads
+use Rattle.knots.proofs.span.span_of.Reads as span-of-reads
 
 add-end : tie.Need-add-end
 add-end c = search needs
@@ -63,7 +69,7 @@ span-of-requires : tie.Need-span-of-requires
 span-of-requires c κs = search needs
 
 insert-at-requires : tie.Need-insert-at-requires
-insert-at-requires c κs = let o = spot-open (c .before .before .before .before .before .before .before .before .before .before .before .args .p) (c .before .before .before .before .before .before .before .before .before .before .before .args .n) (knotsFrom (c .before .before .before .before .before .before .before .before .before .before .before .args .a) (c .before .before .before .before .before .before .before .before .before .before .before .args .p) (c .before .before .before .before .before .before .before .before .before .before .before .args .n) (now (c .before .before .before .before .before .before .before .before .before .before .before .args .work))) (pointsFrom (c .before .before .before .before .before .before .before .before .before .before .before .args .n) (now (c .before .before .before .before .before .before .before .before .before .before .before .args .work))) (c .before .before .before .before .before .before .before .before .before .before .before .args .rational) (weightsFrom (c .before .before .before .before .before .before .before .before .before .before .before .args .rational) (c .before .before .before .before .before .before .before .before .before .before .before .args .n) (now (c .before .before .before .before .before .before .before .before .before .before .before .args .work))) (c .before .before .before .before .before .before .before .before .before .before .before .args .t) _ (c .before .before .before .before .before .before .before .before .before .before .before .pre .0) (sym (ap (λ (r : Refusal). r .number) (c .before .before .before .before .spot-refusal .ensures ∙ ap (λ (ks : List Float). spotRefusal (at ks (c .before .before .before .before .before .before .before .before .before .before .before .args .p)) (at ks (c .before .before .before .before .before .before .before .before .before .before .before .args .n)) (c .before .before .before .before .before .before .before .before .before .before .before .args .t) (c .before .before .before .before .before .before .before .before .before .before .before .args .p) (c .before .before .before .before .before .before .before .multiplicity .result)) (slice-is (c .before .before .before .before .before .before .before .before .before .before .before .args .a) (c .before .before .before .before .before .before .before .before .before .before .before .args .n + c .before .before .before .before .before .before .before .before .before .before .before .args .p + 1) (now (c .before .before .before .before .before .before .before .before .before .before .before .args .work))))) ∙ c .before .before .if1 .left) in let s = spot-found (c .before .before .before .before .before .before .before .before .before .before .before .args .p) (c .before .before .before .before .before .before .before .before .before .before .before .args .n) (knotsFrom (c .before .before .before .before .before .before .before .before .before .before .before .args .a) (c .before .before .before .before .before .before .before .before .before .before .before .args .p) (c .before .before .before .before .before .before .before .before .before .before .before .args .n) (now (c .before .before .before .before .before .before .before .before .before .before .before .args .work))) (pointsFrom (c .before .before .before .before .before .before .before .before .before .before .before .args .n) (now (c .before .before .before .before .before .before .before .before .before .before .before .args .work))) (c .before .before .before .before .before .before .before .before .before .before .before .args .rational) (weightsFrom (c .before .before .before .before .before .before .before .before .before .before .before .args .rational) (c .before .before .before .before .before .before .before .before .before .before .before .args .n) (now (c .before .before .before .before .before .before .before .before .before .before .before .args .work))) (c .before .before .before .before .before .before .before .before .before .before .before .args .t) _ _ (c .before .before .before .before .before .before .before .multiplicity .ensures ∙ ap (λ (ks : List Float). multiplicityOf ks (c .before .before .before .before .before .before .before .before .before .before .before .args .t)) (slice-is (c .before .before .before .before .before .before .before .before .before .before .before .args .a) (c .before .before .before .before .before .before .before .before .before .before .before .args .n + c .before .before .before .before .before .before .before .before .before .before .before .args .p + 1) (now (c .before .before .before .before .before .before .before .before .before .before .before .args .work)))) (c .before .before .before .before .before .before .before .before .before .before .before .pre .0) o (moved-span (slice-is (c .before .before .before .before .before .before .before .before .before .before .before .args .a) (c .before .before .before .before .before .before .before .before .before .before .before .args .n + c .before .before .before .before .before .before .before .before .before .before .before .args .p + 1) (now (c .before .before .before .before .before .before .before .before .before .before .before .args .work))) (c .before .span-of .ensures)) in ((o .room, s .0 .from, s .0 .below), (c .before .before .before .before .before .before .before .before .before .before .before .pre .1, s .2))
+insert-at-requires c κs = let o = spot-open (c .before .before .before .before .before .before .before .before .before .before .before .args .p) (c .before .before .before .before .before .before .before .before .before .before .before .args .n) (knotsFrom (c .before .before .before .before .before .before .before .before .before .before .before .args .a) (c .before .before .before .before .before .before .before .before .before .before .before .args .p) (c .before .before .before .before .before .before .before .before .before .before .before .args .n) (now (c .before .before .before .before .before .before .before .before .before .before .before .args .work))) (pointsFrom (c .before .before .before .before .before .before .before .before .before .before .before .args .n) (now (c .before .before .before .before .before .before .before .before .before .before .before .args .work))) (c .before .before .before .before .before .before .before .before .before .before .before .args .rational) (weightsFrom (c .before .before .before .before .before .before .before .before .before .before .before .args .rational) (c .before .before .before .before .before .before .before .before .before .before .before .args .n) (now (c .before .before .before .before .before .before .before .before .before .before .before .args .work))) (c .before .before .before .before .before .before .before .before .before .before .before .args .t) _ (c .before .before .before .before .before .before .before .before .before .before .before .pre .0) (sym (ap (λ (r : Refusal). r .number) (c .before .before .before .before .spot-refusal .ensures ∙ ap (λ (ks : List Float). spotRefusal (at ks (c .before .before .before .before .before .before .before .before .before .before .before .args .p)) (at ks (c .before .before .before .before .before .before .before .before .before .before .before .args .n)) (c .before .before .before .before .before .before .before .before .before .before .before .args .t) (c .before .before .before .before .before .before .before .before .before .before .before .args .p) (c .before .before .before .before .before .before .before .multiplicity .result)) (slice-is (c .before .before .before .before .before .before .before .before .before .before .before .args .a) (c .before .before .before .before .before .before .before .before .before .before .before .args .n + c .before .before .before .before .before .before .before .before .before .before .before .args .p + 1) (now (c .before .before .before .before .before .before .before .before .before .before .before .args .work))))) ∙ c .before .before .if1 .left) in let s = spot-found (c .before .before .before .before .before .before .before .before .before .before .before .args .p) (c .before .before .before .before .before .before .before .before .before .before .before .args .n) (knotsFrom (c .before .before .before .before .before .before .before .before .before .before .before .args .a) (c .before .before .before .before .before .before .before .before .before .before .before .args .p) (c .before .before .before .before .before .before .before .before .before .before .before .args .n) (now (c .before .before .before .before .before .before .before .before .before .before .before .args .work))) (pointsFrom (c .before .before .before .before .before .before .before .before .before .before .before .args .n) (now (c .before .before .before .before .before .before .before .before .before .before .before .args .work))) (c .before .before .before .before .before .before .before .before .before .before .before .args .rational) (weightsFrom (c .before .before .before .before .before .before .before .before .before .before .before .args .rational) (c .before .before .before .before .before .before .before .before .before .before .before .args .n) (now (c .before .before .before .before .before .before .before .before .before .before .before .args .work))) (c .before .before .before .before .before .before .before .before .before .before .before .args .t) _ _ (c .before .before .before .before .before .before .before .multiplicity .ensures ∙ ap (λ (ks : List Float). multiplicityOf ks (c .before .before .before .before .before .before .before .before .before .before .before .args .t)) (slice-is (c .before .before .before .before .before .before .before .before .before .before .before .args .a) (c .before .before .before .before .before .before .before .before .before .before .before .args .n + c .before .before .before .before .before .before .before .before .before .before .before .args .p + 1) (now (c .before .before .before .before .before .before .before .before .before .before .before .args .work)))) (c .before .before .before .before .before .before .before .before .before .before .before .pre .0) o (moved-span (slice-is (c .before .before .before .before .before .before .before .before .before .before .before .args .a) (c .before .before .before .before .before .before .before .before .before .before .before .args .n + c .before .before .before .before .before .before .before .before .before .before .before .args .p + 1) (now (c .before .before .before .before .before .before .before .before .before .before .before .args .work))) (c .before .span-of .ensures)) in ((o .room, s .0 .from, s .0 .below), (c .before .before .before .before .before .before .before .before .before .before .before .pre .1 .0, (s .2, c .before .before .before .before .before .before .before .before .before .before .before .pre .1 .1)))
 
 same-length-2 : tie.Need-same-length-2
 same-length-2 c = search needs

@@ -6,7 +6,7 @@ use Rattle.doubles.specs.Run.{at}
 use Rattle.doubles.specs.Value.{zero+}
 use Rattle.evaluate.specs.Controls.{largestFrom}
 use Rattle.evaluate.proofs.Sums.{largest-none, largest-more}
-use lib.Ieee.{ofBits, sub}
+use lib.Ieee.{ofBits}
 use borrow.Author.Needs.{needs}
 use Rattle.insertion.proofs.rows.largest_weight.Statement.{statement}
 use Rattle.insertion.proofs.rows.largest_weight.Tie as tie
@@ -17,10 +17,9 @@ Inv-loop n rows a₀ i₀ a i = (a ≡ largestFrom zero+ (λ k. at rows (k * 4 +
 abbrev μ-loop : tie.MeasureT-loop
 μ-loop n rows a₀ i₀ a i = n - i
 
--- `sub` is open so that a start which is a difference computes, as in the edit `scaled_once`
 loop-holds : tie.Need-loop-holds Inv-loop μ-loop
-unfolding ofBits sub
-loop-holds c = (largest-none zero+ _, omega arith)
+unfolding ofBits
+loop-holds c = (largest-none _ _, omega arith)
 
 mul-at : tie.Need-mul-at Inv-loop μ-loop
 mul-at c = let l = c .before .before .before .pre in let t = c .loop-test .taken in let g = c .before .before .before .good in search needs
