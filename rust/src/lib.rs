@@ -18,12 +18,14 @@
 //! }
 //! ```
 mod curve;
+mod edits;
 mod face;
 mod interval;
 mod refusal;
 mod surface;
 
-pub use curve::{Curve, CurveBuf, Point, Point2, Span, SpanBound, Spans, TABLE_A};
+pub use curve::{Curve, Point, Point2, Span, SpanBound, Spans, TABLE_A};
+pub use edits::CurveBuf;
 pub use interval::{Interval, Sign};
 pub use refusal::{Class, Direction, Refusal};
 pub use surface::Surface;

@@ -9,7 +9,7 @@ mod steps;
 mod tables;
 mod tally;
 
-use modules::{ALL, Desk, Module, Place, Times};
+use modules::{ALL, Desk, Module, Times};
 use rng::Rng;
 use std::io::{IsTerminal, Write};
 use std::path::{Path, PathBuf};
@@ -17,10 +17,9 @@ use std::process::ExitCode;
 use std::sync::Mutex;
 use std::sync::atomic::{AtomicU64, Ordering};
 use std::time::{Duration, Instant};
-use tally::{Difference, Tally, grouped};
+use tally::{BLOCK, Difference, Place, Tally, grouped};
 
-const USAGE: &str = "usage: compare/run [--cases N] [--seed S] [--only MODULE] | --write-lists | --bench [--rounds K]";
-const BLOCK: u64 = 16_384;
+const USAGE: &str = "usage: compare/run [--cases N] [--seed S] [--only MODULE] | --write-list | --bench [--rounds K]";
 
 struct Options {
     cases: Option<u64>,
@@ -28,13 +27,13 @@ struct Options {
     only: Option<String>,
     rounds: u32,
     bench: bool,
-    lists: Option<PathBuf>,
+    list: Option<PathBuf>,
     /// What was passed and failed before, from C and by the Rust crate.
     and: (u64, u64),
 }
 
 fn options() -> Option<Options> {
-    let mut o = Options { cases: None, seed: 1, only: None, rounds: 100, bench: false, lists: None, and: (0, 0) };
+    let mut o = Options { cases: None, seed: 1, only: None, rounds: 100, bench: false, list: None, and: (0, 0) };
     let mut words = std::env::args().skip(1);
     while let Some(word) = words.next() {
         match word.as_str() {
@@ -43,7 +42,7 @@ fn options() -> Option<Options> {
             "--only" => o.only = Some(words.next()?),
             "--rounds" => o.rounds = words.next()?.parse().ok()?,
             "--bench" => o.bench = true,
-            "--lists" => o.lists = Some(words.next()?.into()),
+            "--list" => o.list = Some(words.next()?.into()),
             "--and" => o.and = (words.next()?.parse().ok()?, words.next()?.parse().ok()?),
             _ => return None,
         }
@@ -62,8 +61,8 @@ fn main() -> ExitCode {
         eprintln!("no such module; there are: {}", names.join(" "));
         return ExitCode::from(2);
     }
-    if let Some(crates) = &o.lists {
-        return picked.iter().map(|m| write_list(m, crates)).find(|c| *c != ExitCode::SUCCESS).unwrap_or(ExitCode::SUCCESS);
+    if let Some(folder) = &o.list {
+        return write_list(folder);
     }
     if o.bench {
         bench(&picked, o.rounds);
@@ -83,21 +82,22 @@ fn bench(picked: &[Module], rounds: u32) {
     lines.iter().for_each(|line| println!("{line}"));
 }
 
-/// Writes stdin and stdout of the program crate replay_NAME.
-fn write_list(m: &Module, crates: &Path) -> ExitCode {
-    let Some(list) = m.list else { return ExitCode::SUCCESS };
-    let folder = crates.join(format!("replay_{}", m.name));
+/// Writes stdin and stdout of the program crate replay: the modules' parts one after the other.
+fn write_list(folder: &Path) -> ExitCode {
     let (mut stdin, mut stdout) = (Vec::new(), Vec::new());
-    let done = list(&mut stdin, &mut stdout)
+    let done = ALL
+        .iter()
+        .filter_map(|m| m.list)
+        .try_for_each(|part| part(&mut stdin, &mut stdout))
         .and_then(|()| std::fs::write(folder.join("stdin"), &stdin))
         .and_then(|()| std::fs::write(folder.join("stdout"), &stdout));
     match done {
         Ok(()) => {
-            println!("wrote stdin ({} bytes) and stdout of replay_{}", stdin.len(), m.name);
+            println!("wrote stdin ({} bytes) and stdout of replay", stdin.len());
             ExitCode::SUCCESS
         }
         Err(e) => {
-            eprintln!("replay_{}: {e}", m.name);
+            eprintln!("replay: {e}");
             ExitCode::FAILURE
         }
     }

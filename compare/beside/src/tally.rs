@@ -1,7 +1,16 @@
 //! What a run has seen: a row per call, the kinds of doubles, and the first case that differs.
 use crate::doubles::{KINDS, kind};
-use crate::modules::Place;
 use std::fmt::Write;
+
+/// How many cases a block has; all have the block's random numbers.
+pub const BLOCK: u64 = 16_384;
+
+/// Where a case stands in a run.
+#[derive(Clone, Copy, PartialEq, Eq, PartialOrd, Ord)]
+pub struct Place {
+    pub block: u64,
+    pub case: u64,
+}
 
 /// A call of a module, as a row of the table.
 pub struct Call {

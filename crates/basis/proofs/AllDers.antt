@@ -12,7 +12,7 @@ use lib.Seq.{getD-set-same}
 use lib.Ieee.{Float, nan}
 use Rattle.basis.specs.Basis.{cell, TableDone}
 use Rattle.basis.specs.Ders.{FunctionDers, RawDers}
-use Rattle.basis.proofs.Cases.{lt-or-ge}
+use Rattle.runs.proofs.Cases.{lt-or-ge}
 use Rattle.basis.proofs.Cells.{put-row, put-col}
 use Rattle.basis.proofs.Congs.{SameTable, derivative-cong}
 use Rattle.exact.specs.Scheme.{derivativeOf, tableOf}

@@ -7,7 +7,7 @@ use native.Mathlib.Omega.{arith}
 use native.Mathlib.Nat.{eq-or-lt-of-le}
 use borrow.Author.Tests.{eq-eqb, ne-eqb, le-leb, lt-leb}
 use lib.Ieee.{Float, binary64, add, sub, mul, div, neg}
-use Rattle.basis.proofs.Cases.{lt-or-ge, eq-zero}
+use Rattle.runs.proofs.Cases.{lt-or-ge, eq-zero}
 use Rattle.exact.specs.Scheme.{numOf, coefOf, termOf, sumOf, startOf, derOf, rowOf, derivativeOf}
 use Rattle.basis.specs.Floats.{floats}
 
@@ -72,7 +72,9 @@ module _ (p r : ℕ) (R : r ≤ p) (c c' : ℕ → ℕ → Float) (table : SameT
 
     pub der-cong : derOf floats c p r f k ≡ derOf floats c' p r g k
     unfolding derOf
-    der-cong = sum-cong (startOf floats c p r f k) (startOf floats c' p r g k) start-cong (max 1 (k - r)) (min k (p - r)) (min k (p - r) + 1 - max 1 (k - r)) (omega arith) (omega arith) (omega arith) (omega arith)
+    der-cong =
+        sum-cong
+        (startOf floats c p r f k) (startOf floats c' p r g k) start-cong (max 1 (k - r)) (min k (p - r)) (min k (p - r) + 1 - max 1 (k - r)) (omega arith) (omega arith) (omega arith) (omega arith)
 
   -- row k of the coefficients, at the places that it holds
   pub row-cong : (k : ℕ) → k ≤ p → (j : ℕ) → k ≤ r + j → j ≤ k → j ≤ p - r → rowOf floats c p r k j ≡ rowOf floats c' p r k j

@@ -1,4 +1,3 @@
-pub mod Cases
 pub mod Cells
 pub mod Columns
 pub mod Tables

@@ -15,7 +15,7 @@ use Rattle.doubles.specs.Run.{at}
 use Rattle.basis.specs.Ders.{firstOf, endOf, RowDone, MiddleDone}
 use Rattle.exact.specs.Scheme.{numOf, coefOf, termOf, sumOf, startOf, derOf}
 use Rattle.basis.specs.Floats.{floats}
-use Rattle.basis.proofs.Cases.{eq-zero}
+use Rattle.runs.proofs.Cases.{eq-zero}
 
 -- the places between the ends of a row: from J up to E, in sums alone
 pub record Places (p r k J E : ℕ) : Type 0 where

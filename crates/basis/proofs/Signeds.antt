@@ -12,7 +12,7 @@ use mir.Syntax.{w64}
 use mir.Val.{Fits, SFits, ofZ, toZ}
 use mir.Facts.{toZ-ofZ, toZ-pos}
 use borrow.Author.Tests.{lt-ltb, le-ltb, leb-true, leb-false}
-use Rattle.basis.proofs.Cases.{lt-or-ge}
+use Rattle.runs.proofs.Cases.{lt-or-ge}
 
 pub diff-pos : (a b : ℕ) → b ≤ a → pos a -ℤ pos b ≡ pos (a - b)
 diff-pos a zero l = ap pos (omega arith)

@@ -64,7 +64,10 @@ module _ (l r : ℕ → Float) where
       subst (λ (m : ℕ). carryOf floats l r (basisOf floats l r m) (suc j) (suc j) ≡ basisOf floats l r (suc j) (suc j)) (sym e) step
     where
       step : carryOf floats l r (basisOf floats l r j) (suc j) (suc j) ≡ basisOf floats l r (suc j) (suc j)
-      step = unfold basisOf nextOf in sym (ap (λ (t : Bool). cond t (partOf floats l r (basisOf floats l r j) (suc j) (suc j)) (carryOf floats l r (basisOf floats l r j) (suc j) (suc j))) (le-ltb (suc j) (suc j) (omega arith)))
+      step =
+          unfold
+          basisOf nextOf in sym
+          (ap (λ (t : Bool). cond t (partOf floats l r (basisOf floats l r j) (suc j) (suc j)) (carryOf floats l r (basisOf floats l r j) (suc j) (suc j))) (le-ltb (suc j) (suc j) (omega arith)))
 
   pub table-start : (t : List Float) → 0 < length t → TableDone 1 l r (set t 0 (floats .one))
   unfolding basisOf

@@ -18,18 +18,11 @@ use Rattle.doubles.specs.Value.{zero+}
 use Rattle.knots.specs.Clear.{zeros}
 use Rattle.knots.proofs.Below.{and-left, and-right}
 use Rattle.basis.specs.Floats.{floats}
-use Rattle.basis.specs.Basis.{tabulate, cell, leftOf, rightOf}
+use Rattle.basis.specs.Basis.{cell, leftOf, rightOf}
+use Rattle.runs.specs.Tabulate.{tabulate}
+use Rattle.runs.proofs.Tabulated.{length-tabulate, at-tabulate}
 use Rattle.basis.specs.Ders.{inReach, dersAt, dersTable, basisTable, DersDone}
-use Rattle.basis.proofs.Cases.{lt-or-ge}
-
-pub length-tabulate : (n : ℕ) (f : ℕ → Float) → length (tabulate n f) ≡ n
-length-tabulate zero f = refl
-length-tabulate (suc n) f = ap suc (length-tabulate n (λ k. f (suc k)))
-
-pub at-tabulate : (n : ℕ) (f : ℕ → Float) (i : ℕ) → i < n → at (tabulate n f) i ≡ f i
-at-tabulate zero f i h = absurd (omega arith)
-at-tabulate (suc n) f zero h = refl
-at-tabulate (suc n) f (suc i) h = at-tabulate n (λ k. f (suc k)) i (omega arith)
+use Rattle.runs.proofs.Cases.{lt-or-ge}
 
 -- the tests, one by one
 pub record Reach (m p n : ℕ) (ks : List Float) (s : ℕ) : Type 0 where

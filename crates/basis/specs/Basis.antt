@@ -9,11 +9,6 @@ use Rattle.exact.specs.Scheme.{widthOf, carryOf, partOf, basisOf}
 use Rattle.doubles.specs.Run.{at}
 use Rattle.basis.specs.Floats.{floats}
 
--- the run of f 0, f 1, .., of n numbers
-abbrev pub tabulate : ℕ → (ℕ → Float) → List Float
-tabulate zero f = []
-tabulate (suc n) f = f zero ∷ tabulate n (λ k. f (suc k))
-
 -- left[k] and right[k] of a parameter u in span s
 unfoldable pub leftOf : List Float → ℕ → Float → ℕ → Float
 leftOf ks s u k = sub binary64 u (at ks (s + 1 - k))

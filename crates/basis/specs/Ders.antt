@@ -14,7 +14,8 @@ use Rattle.doubles.specs.Run.{at}
 use Rattle.doubles.specs.Value.{zero+}
 use Rattle.knots.specs.Clear.{zeros}
 use Rattle.basis.specs.Floats.{floats}
-use Rattle.basis.specs.Basis.{tabulate, leftOf, rightOf, cell}
+use Rattle.basis.specs.Basis.{leftOf, rightOf, cell}
+use Rattle.runs.specs.Tabulate.{tabulate}
 
 -- ---- the answer
 -- the degree is from 1 to 64, the orders are up to 2, the span has p knots to each side, and the table has m = 195 places

@@ -1,4 +1,5 @@
 // The basis functions of a span and their derivatives.
 mod basis;
 pub mod ders;
+mod row;
 mod signed;

@@ -1,18 +1,18 @@
 -- The numbers that a bound on a span reads: what its refusals leave of them, and that a valid curve has them. Assumes nothing.
 use mathlib.Core.Path.{_≡_, refl, sym, _∙_, ap, subst}
-use mathlib.Core.Bool.{Bool, true, false, not, _&&_, cond, true≢false}
-use mathlib.Core.Logic.{_⊎_, inl, inr}
+use mathlib.Core.Bool.{Bool, true, false, not, _&&_, cond}
+use mathlib.Core.Logic.{inl, inr}
 use mathlib.Core.List.{List}
-use Prim.Native.Nat.{ℕ, zero, suc, _+_, _-_, _*_, _/_, _≤_, _<_}
+use Prim.Native.Nat.{ℕ, suc, _+_, _-_, _*_, _≤_, _<_}
 use native.Mathlib.Nat.{add-suc}
 use native.Mathlib.Numerals.{add-one}
 use native.Mathlib.Omega.{arith}
-use lib.Dec.{T, ltb, leb, eqb}
-use lib.ListN.{length, take, drop, length-drop}
+use lib.Dec.{T, ltb, leb}
+use lib.ListN.{length, drop, length-drop}
 use lib.Seq.{length-take-le, getD-take, getD-drop}
 use lib.Ieee.{Float, nan, lt}
 use lib.Ieee.Scale.{finite}
-use borrow.Author.Tests.{lt-ltb, ltb-true, le-ltb, le-leb, leb-true, lt-leb, not-true, not-false}
+use borrow.Author.Tests.{lt-ltb, ltb-true, le-leb, leb-true, not-true, not-false}
 use Rattle.exact.specs.Rational.{ℚ, _≤q_}
 use Rattle.exact.specs.Spline.{Knots}
 use Rattle.exact.proofs.Local.{Near}
@@ -25,20 +25,20 @@ use Rattle.interval.specs.Inside.{Inside}
 use Rattle.interval.specs.Ops.{pointOf}
 use Rattle.interval.proofs.Contain.{point-inside}
 use Rattle.knots.specs.Below.{allBelow}
-use Rattle.knots.specs.Refusal.{refuse, accepted, orElse, knots-unordered, point-not-finite, weight-bad, too-long}
+use Rattle.knots.specs.Refusal.{refuse, accepted, orElse, knots-unordered, point-not-finite, weight-bad, length-bad}
 use Rattle.knots.specs.Knots.{allFinite, inOrder, ordered}
 use Rattle.knots.specs.Curve.{countOf, isWeight, allWeights, anyLong, Short, ValidCurve}
 use Rattle.knots.specs.Shape.{curveShape}
-use Rattle.knots.specs.declared.refusal.Refusal.{Refusal}
 use Rattle.knots.proofs.Below.{and-true, and-left, and-right, all-at, all-in}
 use Rattle.knots.proofs.Refusals.{passed, orElse-none}
 use Rattle.knots.proofs.Curves.{short, none-long, given, not-given}
 use Rattle.knots.proofs.Shapes.{Shaped, shaped, shape-none}
-use Rattle.bounds.specs.Range.{inSpan, firstFrom, spanOver, takenSpan, rangeRefusal}
-use Rattle.bounds.specs.Read.{part, readRefusal, placeRefusal, startRefusal}
-use Rattle.bounds.specs.Start.{pointAt}
-use Rattle.bounds.proofs.WeightIn.{FinitePoint, point-finite}
-use Rattle.bounds.proofs.SpanIn.{Taken, first-is, RangeValid, range-valid, Heavy, heavy-of, heavy-valid}
+use Rattle.jets.proofs.CartesianIn.{FinitePoint}
+use Rattle.ranges.specs.Range.{inSpan, firstFrom, spanOver, takenSpan, rangeRefusal}
+use Rattle.ranges.specs.Read.{part, readRefusal, placeRefusal, startRefusal}
+use Rattle.runs.specs.Point as P
+use Rattle.bounds.proofs.WeightIn.{point-finite}
+use Rattle.ranges.proofs.SpanIn.{first-is, RangeValid, range-valid, Heavy, heavy-of, heavy-valid}
 
 -- ---- a test at each place of a part
 module _ (xs : List Float) (a b : ℕ) (l : b ≤ length xs) where
@@ -85,7 +85,7 @@ pub record Active (p s : ℕ) (ks ps : List Float) (r : Bool) (ws : List Float) 
   pub room : s + p < length ks
   pub finites : (i : ℕ) → s < i + p → i ≤ s + p → T (finite (at ks i))
   pub rises : (i : ℕ) → s < i + p → i < s + p → lt (at ks (i + 1)) (at ks i) ≡ false
-  pub points : (i : ℕ) → i ≤ p → FinitePoint (pointAt ps (s - p + i))
+  pub points : (i : ℕ) → i ≤ p → FinitePoint (P.pointOf ps (s - p + i))
   pub heavy : (i : ℕ) → i ≤ p → Heavy r ws (s - p + i)
 
 -- a range of finite ends in order that the span contains
@@ -142,7 +142,7 @@ module _ {p s : ℕ} {ks ps : List Float} {r : Bool} {ws : List Float} (A : Acti
 module _ (p s : ℕ) (ks ps : List Float) (r : Bool) (ws : List Float) where
   module _ (Sh : Shaped p ks ps r ws) (h : p ≤ s) (l : s < countOf ps) where
     reads : readRefusal p s ks ps r ws .number ≡ 0 → Active p s ks ps r ws
-    unfolding readRefusal allFinite allWeights pointAt
+    unfolding readRefusal allFinite allWeights
     reads k =
         let d = Sh .knots .degree in
         let L = Sh .knots .long in
@@ -160,11 +160,13 @@ module _ (p s : ℕ) (ks ps : List Float) (r : Bool) (ws : List Float) where
           finites = λ i g m. T-of _ (o .0 i (omega arith) (omega arith));
           rises = λ i g m. o .1 i (omega arith) (omega arith);
           points = λ i m. record {
-            x = T-of _ (f ((s - p + i) * 3) (omega arith) (omega arith));
+            x = T-of _ (f ((s - p + i) * 3 + 0) (omega arith) (omega arith));
             y = T-of _ (f ((s - p + i) * 3 + 1) (omega arith) (omega arith));
             z = T-of _ (f ((s - p + i) * 3 + 2) (omega arith) (omega arith));
           };
-          heavy = λ i m. heavy-of r ws (s - p + i) (λ e. let W = Sh .weights e in part-all ws (s - p) (s + 1) (omega arith) isWeight (given r (allWeights (part (s - p) (s + 1) ws)) (c .0) e) (s - p + i) (omega arith) (omega arith));
+          heavy =
+              λ i m. heavy-of r ws (s - p + i)
+              (λ e. let W = Sh .weights e in part-all ws (s - p) (s + 1) (omega arith) isWeight (given r (allWeights (part (s - p) (s + 1) ws)) (c .0) e) (s - p + i) (omega arith) (omega arith));
         }
 
   read-valid : ValidCurve p ks ps r ws → p ≤ s → s < countOf ps → readRefusal p s ks ps r ws ≡ accepted
@@ -172,9 +174,12 @@ module _ (p s : ℕ) (ks ps : List Float) (r : Bool) (ws : List Float) where
   read-valid Va h l =
       let L = Va .knots .long in
       let t = Va .triples in
-      let a : ordered (part (s - p + 1) (s + p + 1) ks) ≡ true = ordered-part ks (s - p + 1) (s + p + 1) (omega arith) (λ i g m. Va .knots .finites i (omega arith)) (λ i g m. Va .knots .rises i (omega arith)) in
+      let a : ordered (part (s - p + 1) (s + p + 1) ks) ≡ true =
+      ordered-part ks (s - p + 1) (s + p + 1) (omega arith) (λ i g m. Va .knots .finites i (omega arith)) (λ i g m. Va .knots .rises i (omega arith)) in
       let b : allFinite (part ((s - p) * 3) (s * 3 + 3) ps) ≡ true = all-part ps ((s - p) * 3) (s * 3 + 3) (omega arith) finite (λ i g m. Va .controls .coordinates i (omega arith)) in
-      let c : (r && not (allWeights (part (s - p) (s + 1) ws))) ≡ false = not-given r (allWeights (part (s - p) (s + 1) ws)) (λ e. let W = Va .controls .weights e in all-part ws (s - p) (s + 1) (omega arith) isWeight (λ i g m. Va .controls .positive e i (omega arith))) in
+      let c : (r && not (allWeights (part (s - p) (s + 1) ws))) ≡ false =
+      not-given r (allWeights (part (s - p) (s + 1) ws))
+      (λ e. let W = Va .controls .weights e in all-part ws (s - p) (s + 1) (omega arith) isWeight (λ i g m. Va .controls .positive e i (omega arith))) in
       simp (a, b, c)
 
   module _ (lo hi : Float) where
@@ -192,12 +197,13 @@ module _ (p s : ℕ) (ks ps : List Float) (r : Bool) (ws : List Float) where
     pub started : startRefusal p s ks ps r ws lo hi .number ≡ 0 → Started
     unfolding startRefusal placeRefusal takenSpan
     started k =
-        let a = passed (anyLong ks ps r ws) (refuse too-long) _ (λ e. omega arith) k in
+        let a = passed (anyLong ks ps r ws) (refuse length-bad) _ (λ e. omega arith) k in
         let b = orElse-none (curveShape p ks ps r ws) (placeRefusal p s ks ps r ws lo hi) (a .1) in
         go (shaped p ks ps r ws (b .0)) (short ks ps r ws (a .0)) (leb p s && ltb s (countOf ps)) refl (b .1)
       where
         go : Shaped p ks ps r ws → Short ks ps r ws → (x : Bool) → (leb p s && ltb s (countOf ps)) ≡ x
-            → cond x (orElse (readRefusal p s ks ps r ws) (rangeRefusal p (countOf ps) (cond (inSpan ks lo hi s) s (countOf ps)) lo hi)) (rangeRefusal p (countOf ps) (countOf ps) lo hi) .number ≡ 0 → Started
+            → cond x (orElse (readRefusal p s ks ps r ws) (rangeRefusal p (countOf ps) (cond (inSpan ks lo hi s) s (countOf ps)) lo hi))
+            (rangeRefusal p (countOf ps) (countOf ps) lo hi) .number ≡ 0 → Started
         go Sh So true e m =
             let f = orElse-none (readRefusal p s ks ps r ws) (rangeRefusal p (countOf ps) (cond (inSpan ks lo hi s) s (countOf ps)) lo hi) m in
             let v = range-valid p (countOf ps) (cond (inSpan ks lo hi s) s (countOf ps)) lo hi (f .1) in

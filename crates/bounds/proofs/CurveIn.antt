@@ -1,21 +1,18 @@
 -- THE THEOREM. Where bound_curve answers with bounds, each coordinate's interval holds the exact coordinate of the curve at every fraction of the range, and the derivative's interval the exact derivative. Assumes nothing.
 use mathlib.Core.Path.{_≡_, refl, sym, _∙_, subst}
-use mathlib.Core.Bool.{Bool, true, false, _&&_, _||_, cond}
-use mathlib.Core.Logic.{_≢_, _⊎_}
+use mathlib.Core.Bool.{Bool, true, false, _&&_, cond}
+use mathlib.Core.Logic.{_≢_}
 use mathlib.Core.List.{List, [], _∷_}
-use Prim.Native.Nat.{ℕ, zero, suc, _+_, _-_, _*_, _/_, _%_, _≤_, _<_}
+use Prim.Native.Nat.{ℕ, zero, suc, _+_, _-_, _*_, _/_, _≤_, _<_}
 use native.Mathlib.Nat.{add-zero}
 use native.Mathlib.Numerals.{add-one}
 use native.Mathlib.Omega.{arith}
-use lib.Dec.{T, eqb, leb, ltb}
-use lib.ListN.{length}
-use lib.Ieee.{Float, nan, inf, fin, le}
-use lib.Ieee.Scale.{finite}
-use borrow.Author.Tests.{eq-eqb, eqb-true}
-use Rattle.doubles.specs.Run.{at}
-use Rattle.doubles.specs.Value.{Lower, Upper, val, zero+, one+}
+use lib.Dec.{leb, ltb}
+use lib.Ieee.{Float, inf, le}
+use borrow.Author.Tests.{eq-eqb}
+use Rattle.doubles.specs.Value.{val, zero+}
 use Rattle.exact.proofs.Curve.{exact-work, divisor-low, divisor-le-1, weight-pos}
-use Rattle.exact.proofs.Field.{qring, q-ring, ≤-refl, ≤-trans, <-≤-trans, pos-ne}
+use Rattle.exact.proofs.Field.{qring, q-ring, ≤-trans, <-≤-trans, pos-ne}
 use Rattle.exact.proofs.Jets.{dwork, dexact-work}
 use Rattle.exact.proofs.Source.{work}
 use Rattle.exact.specs.Rational.{ℚ, _+q_, _-q_, _*q_, _/q_, inv, q0, q1, _≤q_, _<q_}
@@ -27,55 +24,39 @@ use Rattle.interval.specs.declared.Interval.{Interval}
 use Rattle.interval.specs.declared.Quotient.{Quotient}
 use Rattle.interval.specs.declared.Quotient.the-variants as Q
 use Rattle.interval.specs.declared.New.the-variants.{Made, Nothing}
-use Rattle.bounds.specs.declared.jet.Jet.{Jet}
-use Rattle.bounds.specs.declared.net.Control.{Control}
-use Rattle.bounds.specs.declared.net.NetAnswer.the-variants as N
+use Rattle.jets.specs.declared.jet.Jet.{Jet}
+use Rattle.jets.specs.declared.net.Control.{Control}
 use Rattle.bounds.specs.declared.start.Weights.{Weights}
 use Rattle.bounds.specs.declared.start.Weights.the-variants as W
-use Rattle.bounds.specs.declared.cartesian.BoundAnswer.{BoundAnswer}
-use Rattle.bounds.specs.declared.cartesian.BoundAnswer.the-variants as B
-use Rattle.bounds.specs.Net.{mixJet, mixOf, netOf, refusalLevels, lastBy, deboorOf}
-use Rattle.bounds.specs.Start.{weightsOf, maxFrom, minFrom, startAt, pointAt, rowBy, rowOf}
-use Rattle.bounds.specs.Cartesian.{cartesianOf, netBy}
-use Rattle.bounds.specs.Range.{weightAt, spanOver, takenSpan, rangeRefusal}
-use Rattle.bounds.specs.Read.{startRefusal}
-use Rattle.bounds.specs.Enclosed.{Three, Boxed, X, Y, Z, at-t}
-use Rattle.bounds.proofs.Active.{Active, Ranged, around, around-is, around-held, around-knots, around-near, valid-active, Started, started, start-valid, taken-first}
+use Rattle.jets.specs.declared.cartesian.BoundAnswer.{BoundAnswer}
+use Rattle.jets.specs.Net.{mixJet, mixOf, netOf, refusalLevels, lastBy, deboorOf}
+use Rattle.bounds.specs.Start.{weightsOf, maxFrom, minFrom, startAt, rowBy, rowOf}
+use Rattle.runs.specs.Point as P
+use Rattle.jets.specs.Cartesian.{cartesianOf, netBy}
+use Rattle.ranges.specs.Range.{spanOver, takenSpan, rangeRefusal}
+use Rattle.runs.specs.Weight.{weightAt}
+use Rattle.ranges.specs.Read.{startRefusal}
+use Rattle.jets.specs.Three.{Three}
+use Rattle.bounds.specs.Enclosed.{Boxed, X, Y, Z, at-t}
+use Rattle.bounds.proofs.Active.{Active, Ranged, around, around-is, around-held, around-knots, around-near, valid-active, started, start-valid, taken-first}
 use Rattle.exact.proofs.Local.{Near, exact-local}
 use Rattle.exact.proofs.Window.{dexact-local}
-use Rattle.bounds.specs.Curve.{rangeIs, weightsAre, spanBound, boundOf, boundAt}
-use Rattle.bounds.specs.Jet.{parameterOf}
-use Rattle.bounds.proofs.JetIn.{JetIn, in-one, in-zero}
-use Rattle.bounds.proofs.NetIn.{Given, levels-given, none, along, nowhere, net-in}
-use Rattle.bounds.proofs.WeightIn.{Cut, Cuts, Largest, Least, largest, least, range-in, scale-in, bound-in, ControlIn, FinitePoint, control-in}
-use Rattle.bounds.proofs.CartesianIn.{Boxes, over, cartesian-in, boxes-eq, three-eq}
-use Rattle.bounds.proofs.SpanIn.{span-valid, in-parts, t-above, t-below, heavy-pos}
-use Rattle.bounds.specs.Answer.{boundsOf, boundedOf}
+use Rattle.bounds.specs.Curve.{rangeIs, weightsAre, spanBound, boundOf, boundAt, unless}
+use Rattle.jets.specs.Jet.{parameterOf}
+use Rattle.jets.proofs.JetIn.{JetIn, param-in}
+use Rattle.bounds.proofs.Boxes.{boxed, unless-in}
+use Rattle.jets.proofs.NetIn.{Given, levels-given, none, along, nowhere, net-in}
+use Rattle.bounds.proofs.WeightIn.{Cut, Cuts, Largest, Least, largest, least, range-in, scale-in, bound-in, ControlIn, control-in}
+use Rattle.jets.proofs.CartesianIn.{FinitePoint, Boxes, over, cartesian-in, boxes-eq, three-eq}
+use Rattle.ranges.proofs.SpanIn.{span-valid, in-parts, t-above, t-below, heavy-pos}
+use Rattle.bounds.specs.Answer.{boundedOf}
 use Rattle.bounds.specs.Holds.{weight, Holding, HoldsOn, Holds}
 use Rattle.bounds.specs.declared.answer.NurbsBounds.{NurbsBounds}
 use Rattle.bounds.specs.declared.answer.Bounded.{Bounded}
 use Rattle.bounds.specs.declared.answer.Bounded.the-variants as C
-use Rattle.knots.specs.declared.refusal.Refusal.{Refusal}
 use Rattle.knots.specs.Curve.{countOf, curveRefusal, ValidCurve}
 use Rattle.knots.proofs.Curves.{valid-curve}
 use Rattle.doubles.specs.Run.{valAt}
-use Rattle.bounds.specs.Curve.{unless}
-
--- ---- helpers
-
-pub low-of : (x : Float) (t : ℚ) → T (finite x) → val x ≤q t → Lower x t
-low-of nan t f h = absurd f
-low-of (inf s) t f h = absurd f
-low-of (fin s m e) t f h = h
-
-pub high-of : (x : Float) (t : ℚ) → T (finite x) → t ≤q val x → Upper x t
-high-of nan t f h = absurd f
-high-of (inf s) t f h = absurd f
-high-of (fin s m e) t f h = h
-
-pub param-in : (lo hi : Float) (t : ℚ) → T (finite lo) → T (finite hi) → val lo ≤q t → t ≤q val hi → JetIn (parameterOf (record { lo = lo; hi = hi })) t q1 q0
-unfolding parameterOf
-param-in lo hi t f g a b = record { value = record { low = low-of lo t f a; high = high-of hi t g b }; du = in-one; dv = in-zero }
 
 -- ---- on one span
 
@@ -103,10 +84,14 @@ module _ (p s : ℕ) (ks ps ws : List Float) (r : Bool) (lo hi : Float) (A : Act
   knots = around-knots A (in-parts ks lo hi s (Rv .taken) .0)
 
   above : U s ≤q t
-  above = let h = A .degree in subst (λ x. x ≤q t) (sym (around-is A s (omega arith) (omega arith))) (t-above ks lo hi s (Rv .taken) (Rv .lo-finite) (Rv .hi-finite) (A .finites s (omega arith) (omega arith)) (A .finites (s + 1) (omega arith) (omega arith)) t from upto)
+  above =
+      let h = A .degree in subst (λ x. x ≤q t) (sym (around-is A s (omega arith) (omega arith)))
+      (t-above ks lo hi s (Rv .taken) (Rv .lo-finite) (Rv .hi-finite) (A .finites s (omega arith) (omega arith)) (A .finites (s + 1) (omega arith) (omega arith)) t from upto)
 
   below : t ≤q U (suc s)
-  below = let h = A .degree in subst (λ x. t ≤q x) (sym (around-is A (suc s) (omega arith) (omega arith))) (t-below ks lo hi s (Rv .taken) (Rv .lo-finite) (Rv .hi-finite) (A .finites s (omega arith) (omega arith)) (A .finites (s + 1) (omega arith) (omega arith)) t from upto)
+  below =
+      let h = A .degree in subst (λ x. t ≤q x) (sym (around-is A (suc s) (omega arith) (omega arith)))
+      (t-below ks lo hi s (Rv .taken) (Rv .lo-finite) (Rv .hi-finite) (A .finites s (omega arith) (omega arith)) (A .finites (s + 1) (omega arith) (omega arith)) t from upto)
 
   near : Near U (valAt ks) p (s - p) (s - p)
   near = around-near A
@@ -139,8 +124,8 @@ module _ (p s : ℕ) (ks ps ws : List Float) (r : Bool) (lo hi : Float) (A : Act
   σ-pos : q0 <q σ
   σ-pos = <-≤-trans a-pos (≤-trans (lows 0 (omega arith)) (highs 0 (omega arith)))
 
-  first-finite : FinitePoint (pointAt ps (s - p))
-  first-finite = subst (λ i. FinitePoint (pointAt ps i)) (add-zero (s - p)) (A .points 0 (omega arith))
+  first-finite : FinitePoint (P.pointOf ps (s - p))
+  first-finite = subst (λ i. FinitePoint (P.pointOf ps i)) (add-zero (s - p)) (A .points 0 (omega arith))
 
   -- the exact homogeneous net
   abbrev H : (ℕ → ℚ) → ℕ → ℚ
@@ -162,10 +147,14 @@ module _ (p s : ℕ) (ks ps ws : List Float) (r : Bool) (lo hi : Float) (A : Act
   sum-ne = pos-ne (weight-pos knots p b n base fits room above below (weight r ws) a a-pos lows)
 
   point-eq : (P : ℕ → ℚ) → work U t p s (H P) p p /q wh +q P b ≡ exact (valAt ks) t s p n (weight r ws) P
-  point-eq P = sym (exact-work knots p b n base fits room t (weight r ws) P (P b) σ (pos-ne σ-pos) sum-ne) ∙ exact-local near base base fits fits t (weight r ws) P (weight r ws) P (λ i m. refl) (λ i m. refl)
+  point-eq P =
+      sym (exact-work knots p b n base fits room t (weight r ws) P (P b) σ (pos-ne σ-pos) sum-ne) ∙ exact-local near base base fits fits t (weight r ws) P (weight r ws) P (λ i m. refl)
+      (λ i m. refl)
 
   deriv-eq : (P : ℕ → ℚ) → quotient (work U t p s (H P) p p) (dwork U t p s (H P) (λ m. q0) p p) wh (dwork U t p s HW (λ m. q0) p p) ≡ dexact (valAt ks) t s p n (weight r ws) P
-  deriv-eq P = sym (dexact-work knots p b n base fits room t (weight r ws) P (P b) σ (pos-ne σ-pos) sum-ne) ∙ dexact-local near base base fits fits t (weight r ws) P (weight r ws) P (λ i m. refl) (λ i m. refl)
+  deriv-eq P =
+      sym (dexact-work knots p b n base fits room t (weight r ws) P (P b) σ (pos-ne σ-pos) sum-ne) ∙ dexact-local near base base fits fits t (weight r ws) P (weight r ws) P (λ i m. refl)
+      (λ i m. refl)
 
   no-dv : (A B : ℚ) → quotient A q0 B q0 ≡ q0
   unfolding quotient
@@ -188,12 +177,12 @@ module _ (p s : ℕ) (ks ps ws : List Float) (r : Bool) (lo hi : Float) (A : Act
     -- the levels on the row, weighed by the scale's reciprocal
     module _ (q : Interval) (k : Inside q (inv σ)) where
       abbrev net : ℕ → Control
-      net = startAt ps ws r (s - p) (pointAt ps (s - p)) q
+      net = startAt ps ws r (s - p) (P.pointOf ps (s - p)) q
 
       start-in : (m : ℕ) → m ≤ p → ControlIn (net m) (H (X ps) m) (H (Y ps) m) (H (Z ps) m) (HW m)
-      unfolding startAt pointAt
+      unfolding startAt
       start-in m l =
-          control-in (pointAt ps (s - p + m)) (pointAt ps (s - p)) (weightAt r ws (s - p + m)) q σ (A .points m l) first-finite (A .heavy m l .held) k
+          control-in (P.pointOf ps (s - p + m)) (P.pointOf ps (s - p)) (weightAt r ws (s - p + m)) q σ (A .points m l) first-finite (A .heavy m l .held) k
 
       run : (j : Jet) → JetIn j t q1 q0 → refusalLevels ks p s j 1 p ≡ 0 → (sel : Control → Jet) → ((α : Jet) (a b : Control) → sel (mixOf α a b) ≡ mixJet α (sel a) (sel b))
           → (C : ℕ → ℚ) → ((m : ℕ) → m ≤ p → JetIn (sel (net m)) (C m) q0 q0) → JetIn (sel (netOf ks p s j net p p)) (work U t p s C p p) (dwork U t p s C (λ m. q0) p p) q0
@@ -201,20 +190,21 @@ module _ (p s : ℕ) (ks ps ws : List Float) (r : Bool) (lo hi : Float) (A : Act
       run j h e sel mixes C start = net-in ks p s j knots (A .first) room (around-held A) t q1 q0 h sel mixes net C (dwork U t p s C (λ m. q0)) (λ l j. q0)
           (along U t p s C (λ m. q0)) (nowhere U t p s C) start (none ks p s j e) p p (omega arith)
 
-      levels-in : (j : Jet) → JetIn j t q1 q0 → (k : ℕ) → refusalLevels ks p s j 1 p ≡ k → Good (netBy (pointAt ps (s - p)) bound (lastBy k (netOf ks p s j net p p)))
-      unfolding lastBy pointAt mixOf
+      levels-in : (j : Jet) → JetIn j t q1 q0 → (k : ℕ) → refusalLevels ks p s j 1 p ≡ k → Good (netBy (P.pointOf ps (s - p)) bound (lastBy k (netOf ks p s j net p p)))
+      unfolding lastBy mixOf
       levels-in j h (suc k) e = subst Given e (levels-given ks p s j knots (A .first) room (around-held A) t q1 q0 h 0 p (omega arith))
       levels-in j h zero e =
-          boxes-eq (cartesianOf (netOf ks p s j net p p) (pointAt ps (s - p)) bound) (over (HT (H (X ps))) (HT HW) (X ps b)) (over (HT (H (Y ps))) (HT HW) (Y ps b)) (over (HT (H (Z ps))) (HT HW) (Z ps b))
+          boxes-eq (cartesianOf (netOf ks p s j net p p) (P.pointOf ps (s - p)) bound) (over (HT (H (X ps))) (HT HW) (X ps b)) (over (HT (H (Y ps))) (HT HW) (Y ps b))
+          (over (HT (H (Z ps))) (HT HW) (Z ps b))
           (EX (X ps)) (EX (Y ps)) (EX (Z ps)) (exact-eq (X ps)) (exact-eq (Y ps)) (exact-eq (Z ps))
-          (cartesian-in (netOf ks p s j net p p) (pointAt ps (s - p)) bound (HT (H (X ps))) (HT (H (Y ps))) (HT (H (Z ps))) (HT HW)
+          (cartesian-in (netOf ks p s j net p p) (P.pointOf ps (s - p)) bound (HT (H (X ps))) (HT (H (Y ps))) (HT (H (Z ps))) (HT HW)
           (run j h e (λ c. c .x) (λ α a b. refl) (H (X ps)) (λ m l. start-in m l .x))
           (run j h e (λ c. c .y) (λ α a b. refl) (H (Y ps)) (λ m l. start-in m l .y))
           (run j h e (λ c. c .z) (λ α a b. refl) (H (Z ps)) (λ m l. start-in m l .z))
           (run j h e (λ c. c .w) (λ α a b. refl) HW (λ m l. start-in m l .w))
           (bound-in cut wh wh-low wh-high) first-finite)
 
-    row-in : (j : Jet) → JetIn j t q1 q0 → (a : Quotient) → Formed a (inv σ) → Good (netBy (pointAt ps (s - p)) bound (rowBy ps ws r (s - p) (pointAt ps (s - p)) ks p s j a))
+    row-in : (j : Jet) → JetIn j t q1 q0 → (a : Quotient) → Formed a (inv σ) → Good (netBy (P.pointOf ps (s - p)) bound (rowBy ps ws r (s - p) (P.pointOf ps (s - p)) ks p s j a))
     unfolding deboorOf
     row-in j h (Q.Is q) k = levels-in q k j h (refusalLevels ks p s j 1 p) refl
     row-in j h Q.HoldsZero k = tt
@@ -230,29 +220,16 @@ module _ (p s : ℕ) (ks ps ws : List Float) (r : Bool) (lo hi : Float) (A : Act
 
   pub span-bound-in : Good (spanBound p s ks ps ws r lo hi)
   unfolding spanBound weightsOf
-  span-bound-in = go (weightsOf w (p + 1)) (subst (λ k. Cuts (minFrom (inf false) w (suc p)) (maxFrom zero+ w (suc p)) (weightsOf w k)) (sym (add-one p)) (range-in (minFrom (inf false) w (suc p)) (maxFrom zero+ w (suc p)) (least-is .held) (most-is .held) (≤-trans wh-low wh-high)))
+  span-bound-in =
+      go (weightsOf w (p + 1))
+      (subst (λ k. Cuts (minFrom (inf false) w (suc p)) (maxFrom zero+ w (suc p)) (weightsOf w k)) (sym (add-one p))
+      (range-in (minFrom (inf false) w (suc p)) (maxFrom zero+ w (suc p)) (least-is .held) (most-is .held) (≤-trans wh-low wh-high)))
     where
       go : (A : Weights) → Cuts (minFrom (inf false) w (suc p)) (maxFrom zero+ w (suc p)) A → Good (weightsAre p s ks ps ws r lo hi A)
       go (W.Are scale bound) c = range-is-in scale bound c
       go (W.Refused k) c = c
 
 -- ---- the whole answer
-
-pub boxed : (A : BoundAnswer) (X Y Z : Three) → Boxes A X Y Z → Boxed (boundedOf A) X Y Z
-unfolding boundsOf
-boxed (B.Are b) X Y Z h = (
-  record { x = h .x .value; y = h .y .value; z = h .z .value },
-  record { x = h .x .du; y = h .y .du; z = h .z .du },
-  record { x = h .x .dv; y = h .y .dv; z = h .z .dv },
-)
-boxed (B.Refused n) X Y Z h = tt
-
-pub unless-in : (f : Refusal) (A : Bounded) (X Y Z : Three) → (f .number ≡ 0 → Boxed A X Y Z) → Boxed (unless f A) X Y Z
-unless-in f A X Y Z h = go (eqb (f .number) 0) (eqb-true (f .number) 0)
-  where
-    go : (b : Bool) → (b ≡ true → f .number ≡ 0) → Boxed (cond b A (C.Refused f)) X Y Z
-    go true e = h (e refl)
-    go false e = tt
 
 -- bounds hold the exact point and its derivatives at each t of the range
 pub bound-holds : (p : ℕ) (ks ps ws : List Float) (r : Bool) (lo hi : Float) (t : ℚ) → val lo ≤q t → t ≤q val hi →
@@ -268,7 +245,9 @@ bound-holds p ks ps ws r lo hi t from upto =
     unless-in (rangeRefusal p (countOf ps) s lo hi) (boundedOf A) (e (X ps)) (e (Y ps)) (e (Z ps))
     (λ k. let l = Va .knots .count in
     let v = span-valid p (countOf ps) ks lo hi (omega arith) k in
-    boxed A (e (X ps)) (e (Y ps)) (e (Z ps)) (span-bound-in p s ks ps ws r lo hi (valid-active Va (v .span .first) (v .span .last)) (record { lo-finite = v .lo-finite; hi-finite = v .hi-finite; forward = v .forward; taken = v .span .taken }) t from upto)))
+    boxed A (e (X ps)) (e (Y ps)) (e (Z ps))
+    (span-bound-in p s ks ps ws r lo hi (valid-active Va (v .span .first) (v .span .last))
+    (record { lo-finite = v .lo-finite; hi-finite = v .hi-finite; forward = v .forward; taken = v .span .taken }) t from upto)))
 
 -- the promise on a span, from the boxes of the answer
 pub holds-on : (p s : ℕ) (ks ps ws : List Float) (r : Bool) (lo hi : Float) (A B : Bounded) → A ≡ B
@@ -302,12 +281,14 @@ step-both p s ks ps ws r lo hi A e = (e, holds-on p s ks ps ws r lo hi A _ e (st
 
 -- on a span of a valid curve that contains the range, the step's answer is the bounds on it
 pub step-is : (p s : ℕ) (ks ps ws : List Float) (r : Bool) (lo hi : Float) → ValidCurve p ks ps r ws
-    → boundAt p s ks ps r ws lo hi ≡ unless (rangeRefusal p (countOf ps) (cond (leb p s && ltb s (countOf ps)) (takenSpan s (countOf ps) ks lo hi) (countOf ps)) lo hi) (boundedOf (spanBound p s ks ps ws r lo hi))
+    → boundAt p s ks ps r ws lo hi ≡ unless (rangeRefusal p (countOf ps) (cond (leb p s && ltb s (countOf ps)) (takenSpan s (countOf ps) ks lo hi) (countOf ps)) lo hi)
+    (boundedOf (spanBound p s ks ps ws r lo hi))
 unfolding boundAt
 step-is p s ks ps ws r lo hi Va = rw (start-valid p s ks ps r ws lo hi Va)
 
 -- on the span that bound_curve takes, the step's answer for a valid curve is bound_curve's
-pub step-is-bound : (p : ℕ) (ks ps ws : List Float) (r : Bool) (lo hi : Float) → curveRefusal p ks ps r ws .number ≡ 0 → boundAt p (spanOver p (countOf ps) ks lo hi) ks ps r ws lo hi ≡ boundOf p ks ps r ws lo hi
+pub step-is-bound : (p : ℕ) (ks ps ws : List Float) (r : Bool) (lo hi : Float) → curveRefusal p ks ps r ws .number ≡ 0
+    → boundAt p (spanOver p (countOf ps) ks lo hi) ks ps r ws lo hi ≡ boundOf p ks ps r ws lo hi
 unfolding boundOf
 step-is-bound p ks ps ws r lo hi h =
     let Va = valid-curve p ks ps r ws h in

@@ -12,7 +12,7 @@ use borrow.Author.Tests.{eqb-true}
 use Rattle.exact.proofs.Field.{≤-refl}
 use Rattle.doubles.specs.Run.{at}
 use Rattle.doubles.specs.Value.{val}
-use Rattle.knots.specs.Refusal.{refuse, accepted, orElse, along, degree-zero, few-points, knot-count, knots-unordered, domain-empty, domain-wide, knot-repeated, point-not-finite, weight-count, weight-bad, net-size, range-bad, range-in-no-span, too-long, degree-high, points-uneven}
+use Rattle.knots.specs.Refusal.{refuse, accepted, orElse, along, degree-zero, few-points, knot-count, knots-unordered, domain-empty, domain-wide, knot-repeated, point-not-finite, weight-count, weight-bad, net-size, range-bad, range-in-no-span, length-bad, degree-high, points-uneven}
 use Rattle.knots.specs.Knots.{allFinite, ordered, apart, orderRefusal, knotRefusal}
 use Rattle.knots.specs.Curve.{countOf, overLong, anyLong, allWeights, controlRefusal, formedRefusal, curveRefusal}
 use Rattle.knots.specs.Shape.{weightShape, knotShape, curveShape}
@@ -22,21 +22,22 @@ use Rattle.knots.proofs.Curves.{valid-curve}
 use Rattle.knots.proofs.Surfaces.{valid-surface}
 use Rattle.bounds.specs.Answer.{boundedOf}
 use Rattle.bounds.specs.Numbers.{boundedRefusal, Idle}
-use Rattle.bounds.specs.Range.{spanOver, takenSpan, rangeRefusal}
-use Rattle.bounds.specs.Read.{readRefusal, placeRefusal, startRefusal}
-use Rattle.bounds.specs.Enclosed.{Three}
+use Rattle.ranges.specs.Range.{spanOver, takenSpan, rangeRefusal}
+use Rattle.ranges.specs.Read.{readRefusal, placeRefusal, startRefusal}
+use Rattle.jets.specs.Three.{Three}
 use Rattle.bounds.specs.Curve.{spanBound, unless, boundOf, boundAt}
 use Rattle.bounds.specs.Surface.{rangesRefusal, spansBound, boundedBy, surfaceOf}
-use Rattle.bounds.specs.declared.cartesian.BoundAnswer.{BoundAnswer}
-use Rattle.bounds.specs.declared.cartesian.BoundAnswer.the-variants as B
+use Rattle.jets.specs.declared.cartesian.BoundAnswer.{BoundAnswer}
+use Rattle.jets.specs.declared.cartesian.BoundAnswer.the-variants as B
 use Rattle.bounds.specs.declared.answer.Bounded.{Bounded}
 use Rattle.bounds.specs.declared.answer.Bounded.the-variants as C
-use Rattle.bounds.proofs.NetIn.{Given}
-use Rattle.bounds.proofs.CartesianIn.{Boxes}
-use Rattle.bounds.proofs.SpanIn.{span-valid}
+use Rattle.jets.proofs.NetIn.{Given}
+use Rattle.jets.proofs.CartesianIn.{Boxes}
+use Rattle.ranges.proofs.SpanIn.{span-valid}
 use Rattle.bounds.proofs.Active.{valid-active, started}
 use Rattle.bounds.proofs.CurveIn.{span-bound-in}
-use Rattle.bounds.proofs.SurfaceIn.{ranges-valid, spans-bound-in}
+use Rattle.bounds.proofs.SpansIn.{ranges-valid}
+use Rattle.bounds.proofs.SurfaceIn.{spans-bound-in}
 
 -- ---- what is refused before the steps
 
@@ -82,7 +83,7 @@ start-other : (p s : ℕ) (ks ps : List Float) (g : Bool) (ws : List Float) (lo 
 unfolding startRefusal placeRefusal
 start-other p s ks ps g ws lo hi =
     let n = countOf ps in
-    cond-other (anyLong ks ps g ws) (refuse too-long) _ tt
+    cond-other (anyLong ks ps g ws) (refuse length-bad) _ tt
     (orElse-other (curveShape p ks ps g ws) (placeRefusal p s ks ps g ws lo hi) (shape-other p ks ps g ws)
     (cond-other (leb p s && ltb s n) (orElse (readRefusal p s ks ps g ws) (rangeRefusal p n (takenSpan s n ks lo hi) lo hi)) (rangeRefusal p n n lo hi)
     (orElse-other (readRefusal p s ks ps g ws) (rangeRefusal p n (takenSpan s n ks lo hi) lo hi) (read-other p s ks ps g ws) (range-other p n (takenSpan s n ks lo hi) lo hi))
@@ -110,7 +111,7 @@ controls-other n ps g ws =
 curve-other : (p : ℕ) (ks ps : List Float) (g : Bool) (ws : List Float) → Other (curveRefusal p ks ps g ws)
 unfolding curveRefusal formedRefusal
 curve-other p ks ps g ws =
-    cond-other (anyLong ks ps g ws) (refuse too-long) _ tt
+    cond-other (anyLong ks ps g ws) (refuse length-bad) _ tt
     (cond-other (not (eqb (length ps % 3) 0)) (refuse points-uneven) _ tt
     (orElse-other (knotRefusal p (countOf ps) ks) (controlRefusal (countOf ps) ps g ws) (knots-other p (countOf ps) ks) (controls-other (countOf ps) ps g ws)))
 
@@ -119,7 +120,7 @@ surface-other : (p q : ℕ) (us vs : List Float) (m n : ℕ) (ps : List Float) (
 unfolding surfaceRefusal netRefusal
 surface-other p q us vs m n ps g ws =
     orElse-other (netRefusal us vs m n ps g ws) _
-    (cond-other (overLong true us || anyLong vs ps g ws) (refuse too-long) _ tt
+    (cond-other (overLong true us || anyLong vs ps g ws) (refuse length-bad) _ tt
     (cond-other (not (eqb (length ps % 3) 0)) (refuse points-uneven) _ tt
     (cond-other (not (eqb (countOf ps) (m * n))) (refuse net-size) accepted tt tt)))
     (orElse-other (along 0 (knotRefusal p m us)) _ (knots-other p m us)
@@ -167,7 +168,8 @@ bound-idle p ks ps ws r lo hi =
     unless-other range (boundedOf A) (range-other p (countOf ps) s lo hi)
     (λ k. let l = Va .knots .count in
     let v = span-valid p (countOf ps) ks lo hi (omega arith) k in
-    steps-other A _ _ _ (span-bound-in p s ks ps ws r lo hi (valid-active Va (v .span .first) (v .span .last)) (record { lo-finite = v .lo-finite; hi-finite = v .hi-finite; forward = v .forward; taken = v .span .taken }) (val lo) (≤-refl (val lo)) (v .forward)))))
+    steps-other A _ _ _ (span-bound-in p s ks ps ws r lo hi (valid-active Va (v .span .first) (v .span .last))
+    (record { lo-finite = v .lo-finite; hi-finite = v .hi-finite; forward = v .forward; taken = v .span .taken }) (val lo) (≤-refl (val lo)) (v .forward)))))
 
 pub surface-idle : (p q : ℕ) (uk vk : List Float) (nu nv : ℕ) (ps ws : List Float) (r : Bool) (ulo uhi vlo vhi : Float) → Idle (surfaceOf p q uk vk nu nv ps r ws ulo uhi vlo vhi)
 unfolding surfaceOf boundedBy

@@ -1,11 +1,9 @@
 pub mod Steps
-pub mod Slopes
-pub mod JetIn
-pub mod NetIn
 pub mod WeightIn
-pub mod CartesianIn
-pub mod SpanIn
+pub mod NetWeight
 pub mod Active
+pub mod Boxes
 pub mod CurveIn
+pub mod SpansIn
 pub mod SurfaceIn
 pub mod Idle

@@ -1,145 +1,58 @@
 -- THE THEOREM for surfaces. Where the answer is bounds, they hold the exact point and its two derivatives at every pair of parameters of the ranges. Assumes nothing.
-use mathlib.Core.Path.{_≡_, refl, sym, _∙_, subst}
-use mathlib.Core.Bool.{Bool, true, false, not, _&&_, cond}
-use mathlib.Core.Logic.{_≢_, _⊎_, inl, inr}
-use mathlib.Core.List.{List, [], _∷_}
-use Prim.Native.Nat.{ℕ, zero, suc, _+_, _-_, _*_, _/_, _%_, _≤_, _<_}
-use native.Mathlib.Nat.{eq-or-lt-of-le, le-of-suc-le-suc, mul-le-mul-right, suc-mul}
+use mathlib.Core.Path.{_≡_, refl, sym, subst}
+use mathlib.Core.Bool.{Bool, true, false, cond}
+use mathlib.Core.Logic.{_≢_}
+use mathlib.Core.List.{List}
+use Prim.Native.Nat.{ℕ, zero, suc, _+_, _-_, _*_, _/_, _≤_, _<_}
 use native.Mathlib.Numerals.{add-one}
 use native.Mathlib.Omega.{arith}
-use lib.Dec.{T, ltb}
-use lib.ListN.{length}
-use lib.Ieee.{Float, inf, le}
+use lib.Dec.{T}
+use lib.Ieee.{Float, le}
 use lib.Ieee.Scale.{finite}
-use Rattle.doubles.specs.Run.{at, valAt}
-use Rattle.doubles.specs.Value.{val, zero+, one+}
-use Rattle.exact.proofs.Field.{≤-refl, ≤-trans, <-≤-trans, pos-ne}
+use Rattle.doubles.specs.Run.{valAt}
+use Rattle.doubles.specs.Value.{val}
+use Rattle.exact.proofs.Field.{≤-trans, <-≤-trans, pos-ne}
 use Rattle.exact.proofs.Jets.{dwork}
 use Rattle.exact.proofs.Source.{work}
 use Rattle.exact.proofs.Surface.{net, net-du, net-dv, exact₂-net, exact₂-du, exact₂-dv, weight₂-pos, weight₂-low, weight₂-le-1}
-use Rattle.exact.specs.Rational.{ℚ, _+q_, _-q_, _*q_, _/q_, inv, q0, q1, _≤q_, _<q_}
-use Rattle.exact.specs.Surface.{whole₂, exact₂, dexact₂u, dexact₂v}
+use Rattle.exact.specs.Rational.{ℚ, _-q_, _*q_, _/q_, inv, q0, q1, _≤q_, _<q_}
+use Rattle.exact.specs.Surface.{whole₂}
 use Rattle.interval.proofs.Contain.{Formed}
 use Rattle.interval.specs.Inside.{Inside}
 use Rattle.interval.specs.Ops.{pointOf, newOf, reciprocalOf}
-use Rattle.knots.specs.Knots.{ValidKnots}
 use Rattle.interval.specs.declared.Interval.{Interval}
 use Rattle.interval.specs.declared.Quotient.{Quotient}
 use Rattle.interval.specs.declared.Quotient.the-variants as Q
 use Rattle.interval.specs.declared.New.the-variants.{Made, Nothing}
-use Rattle.bounds.specs.declared.jet.Jet.{Jet}
-use Rattle.bounds.specs.declared.net.Control.{Control}
-use Rattle.bounds.specs.declared.net.NetAnswer.{NetAnswer}
-use Rattle.bounds.specs.declared.net.NetAnswer.the-variants as N
-use Rattle.bounds.specs.declared.start.Point.{Point}
+use Rattle.jets.specs.declared.jet.Jet.{Jet}
+use Rattle.jets.specs.declared.net.Control.{Control}
+use Rattle.jets.specs.declared.net.NetAnswer.{NetAnswer}
 use Rattle.bounds.specs.declared.start.Weights.{Weights}
 use Rattle.bounds.specs.declared.start.Weights.the-variants as W
-use Rattle.bounds.specs.declared.cartesian.BoundAnswer.{BoundAnswer}
-use Rattle.bounds.specs.declared.cartesian.BoundAnswer.the-variants as B
-use Rattle.bounds.specs.Net.{mixJet, mixOf, netOf, refusalLevels, lastBy, deboorOf, netRefused, netControl, refusalUp, refuseNet, filledOf}
-use Rattle.bounds.specs.Start.{maxFrom, minFrom, rangeOf, pointAt, startAt, rowBy, rowOf}
-use Rattle.bounds.specs.Cartesian.{cartesianOf, netBy}
-use Rattle.bounds.specs.Range.{weightAt, spanOver, rangeRefusal}
+use Rattle.jets.specs.declared.cartesian.BoundAnswer.{BoundAnswer}
+use Rattle.jets.specs.Net.{mixJet, mixOf, netOf, refusalLevels, lastBy, deboorOf, netRefused, netControl, refusalUp, filledOf}
+use Rattle.bounds.specs.Start.{rangeOf, startAt, rowBy, rowOf}
+use Rattle.runs.specs.Point as P
+use Rattle.jets.specs.Cartesian.{cartesianOf, netBy}
+use Rattle.ranges.specs.Range.{spanOver}
+use Rattle.runs.specs.Weight.{weightAt}
 use Rattle.bounds.specs.Curve.{unless}
-use Rattle.bounds.specs.Jet.{parameterOf}
-use Rattle.bounds.specs.Enclosed.{Three, Boxed, X, Y, Z, grid, at-uv}
-use Rattle.bounds.specs.Surface.{rangesRefusal, maxRows, minRows, secondOf, rowAt, rangesAre, weightsBy, spansBound, boundedBy, surfaceOf, SpansFit}
-use Rattle.bounds.proofs.JetIn.{JetIn, in-one, in-zero}
-use Rattle.bounds.proofs.NetIn.{Given, levels-given, none, along, across, nowhere, net-in}
-use Rattle.bounds.proofs.WeightIn.{max-from, min-from, least, Cut, Cuts, range-in, scale-in, bound-in, ControlIn, FinitePoint, point-finite, control-in, up-0, up-given}
-use Rattle.bounds.proofs.CartesianIn.{Boxes, over, cartesian-in, boxes-eq, three-eq}
-use Rattle.bounds.proofs.CurveIn.{low-of, high-of, param-in, boxed, unless-in}
-use Rattle.bounds.proofs.SpanIn.{SpanValid, span-valid, InSpan, in-span, heavy-valid, heavy-pos}
+use Rattle.jets.specs.Jet.{parameterOf, secondOf}
+use Rattle.jets.specs.Three.{Three}
+use Rattle.bounds.specs.Enclosed.{Boxed, X, Y, Z, grid, at-uv}
+use Rattle.bounds.specs.Surface.{rangesRefusal, maxRows, minRows, rowAt, rangesAre, weightsBy, spansBound, boundedBy, surfaceOf}
+use Rattle.jets.proofs.JetIn.{JetIn, param-in, second-in}
+use Rattle.jets.proofs.NetIn.{Given, levels-given, none, along, across, nowhere, net-in, last-0, last-given, up-0, up-given}
+use Rattle.bounds.proofs.WeightIn.{Cut, Cuts, range-in, scale-in, bound-in, ControlIn, point-finite, control-in}
+use Rattle.jets.proofs.CartesianIn.{FinitePoint, Boxes, refuse-in, over, cartesian-in, boxes-eq, three-eq}
+use Rattle.bounds.proofs.Boxes.{boxed, unless-in}
+use Rattle.bounds.proofs.NetWeight.{Largest₂, Least₂, largest₂, least₂}
+use Rattle.bounds.proofs.SpansIn.{below-product, ranges-valid}
+use Rattle.ranges.proofs.SpanIn.{SpanValid, InSpan, in-span, heavy-valid, heavy-pos}
 use Rattle.bounds.specs.Holds.{weight}
 use Rattle.bounds.specs.Answer.{boundedOf}
-use Rattle.knots.specs.Refusal as R
-use Rattle.knots.specs.Refusal.{degree-high}
 use Rattle.knots.specs.Surface.{surfaceRefusal, ValidSurface}
-use Rattle.knots.proofs.Refusals.{passed, orElse-none}
 use Rattle.knots.proofs.Surfaces.{valid-surface}
-
--- ---- the least and the largest weight of a net
-
-pub record Largest₂ (w : ℕ → ℕ → Float) (k m : ℕ) (x : Float) : Type 0 where
-  pub held : T (finite x)
-  pub all : (i j : ℕ) → i < m → j < k → val (w i j) ≤q val x
-
-pub record Least₂ (w : ℕ → ℕ → Float) (k m : ℕ) (x : Float) : Type 0 where
-  pub held : T (finite x)
-  pub all : (i j : ℕ) → i < m → j < k → val x ≤q val (w i j)
-  pub positive : q0 <q val x
-
-pub largest₂ : (w : ℕ → ℕ → Float) (k m : ℕ) → ((i j : ℕ) → i < m → j < k → T (finite (w i j))) → Largest₂ w k m (maxRows w k m)
-unfolding maxRows
-largest₂ w k zero f = record { held = tt; all = λ i j l h. absurd (omega arith) }
-largest₂ w k (suc m) f = go (largest₂ w k m (λ i j l h. f i j (omega arith) h))
-  where
-    go : Largest₂ w k m (maxRows w k m) → Largest₂ w k (suc m) (maxFrom (maxRows w k m) (w m) k)
-    go r =
-        let x = max-from (maxRows w k m) (w m) k (r .held) (λ j l. f m j (omega arith) l) in
-        record {
-          held = x .held;
-          all = λ i j l h. elim (eq-or-lt-of-le (le-of-suc-le-suc l)) [ inl e ↦ subst (λ a. val (w a j) ≤q val (maxFrom (maxRows w k m) (w m) k)) (sym e) (x .all j h) | inr g ↦ ≤-trans (r .all i j g h) (x .first) ];
-        }
-
-pub least₂ : (w : ℕ → ℕ → Float) (k m : ℕ) → ((i j : ℕ) → i < suc m → j < suc k → T (finite (w i j))) → ((i j : ℕ) → i < suc m → j < suc k → q0 <q val (w i j)) → Least₂ w (suc k) (suc m) (minRows w (suc k) (suc m))
-unfolding minRows
-least₂ w k zero f p =
-    let x = least (w 0) k (λ j l. f 0 j (omega arith) l) (λ j l. p 0 j (omega arith) l) in
-    record {
-      held = x .held;
-      all = λ i j l h. let e : 0 ≡ i = omega arith in subst (λ a. val (minFrom (inf false) (w 0) (suc k)) ≤q val (w a j)) e (x .all j h);
-      positive = x .positive;
-    }
-least₂ w k (suc m) f p = go (least₂ w k m (λ i j l h. f i j (omega arith) h) (λ i j l h. p i j (omega arith) h))
-  where
-    go : Least₂ w (suc k) (suc m) (minRows w (suc k) (suc m)) → Least₂ w (suc k) (suc (suc m)) (minFrom (minRows w (suc k) (suc m)) (w (suc m)) (suc k))
-    go r =
-        let x = min-from (minRows w (suc k) (suc m)) (w (suc m)) (suc k) (r .held) (λ j l. f (suc m) j (omega arith) l) (λ j l. p (suc m) j (omega arith) l) in
-        record {
-          held = x .held;
-          all = λ i j l h. elim (eq-or-lt-of-le (le-of-suc-le-suc l)) [ inl e ↦ subst (λ a. val (minFrom (minRows w (suc k) (suc m)) (w (suc m)) (suc k)) ≤q val (w a j)) (sym e) (x .all j h) | inr g ↦ ≤-trans (x .first) (r .all i j g h) ];
-          positive = x .positive (r .positive);
-        }
-
--- ---- helpers
-
--- a net that is not refused, and what it stands on
-last-0 : (L : ℕ) (x : Control) → netRefused (lastBy L x) ≡ 0 → (L ≡ 0) × (netControl (lastBy L x) ≡ x)
-unfolding lastBy
-last-0 zero x h = (refl, refl)
-last-0 (suc L) x h = absurd (omega arith)
-
-last-given : (L : ℕ) (x : Control) → Given L → Given (netRefused (lastBy L x))
-unfolding lastBy
-last-given zero x h = tt
-last-given (suc L) x h = h
-
-refuse-in : (o : Point) (bound : Interval) (n : ℕ) (a : NetAnswer) (X Y Z : Three) → Given n → (n ≡ 0 → Boxes (netBy o bound a) X Y Z) → Boxes (netBy o bound (refuseNet n a)) X Y Z
-refuse-in o bound zero a X Y Z g h = h refl
-refuse-in o bound (suc n) a X Y Z g h = g
-
-below-product : (i j nu nv : ℕ) → i < nu → j < nv → i * nv + j < nu * nv
-below-product i j nu nv h k =
-    let a : suc i * nv ≤ nu * nv = mul-le-mul-right nv h in
-    let b : suc i * nv ≡ i * nv + nv = suc-mul i nv in
-    omega arith
-
-pub second-in : (lo hi : Float) (t : ℚ) → T (finite lo) → T (finite hi) → val lo ≤q t → t ≤q val hi → JetIn (secondOf (record { lo = lo; hi = hi })) t q0 q1
-unfolding secondOf
-second-in lo hi t f g a b = record { value = record { low = low-of lo t f a; high = high-of hi t g b }; du = in-zero; dv = in-one }
-
--- the two ranges, where nothing is refused
-pub ranges-valid : (p q : ℕ) (uk vk : List Float) (nu nv : ℕ) (ulo uhi vlo vhi : Float) → ValidKnots p nu uk → ValidKnots q nv vk
-    → rangesRefusal p q nu nv (spanOver p nu uk ulo uhi) (spanOver q nv vk vlo vhi) ulo uhi vlo vhi .number ≡ 0
-    → SpanValid p nu uk ulo uhi (spanOver p nu uk ulo uhi) × SpanValid q nv vk vlo vhi (spanOver q nv vk vlo vhi)
-unfolding rangesRefusal
-ranges-valid p q uk vk nu nv ulo uhi vlo vhi Ku Kv k =
-    let a = passed (ltb 64 q) (R.refuse degree-high) _ (λ e. omega arith) k in
-    let b = orElse-none (rangeRefusal p nu (spanOver p nu uk ulo uhi) ulo uhi) (rangeRefusal q nv (spanOver q nv vk vlo vhi) vlo vhi) (a .1) in
-    let m = Ku .count in
-    let n = Kv .count in
-    (span-valid p nu uk ulo uhi (omega arith) (b .0), span-valid q nv vk vlo vhi (omega arith) (b .1))
 
 -- ---- on two spans
 
@@ -166,12 +79,7 @@ module _ (p q us vs : ℕ) (uk vk : List Float) (nu nv : ℕ) (ps ws : List Floa
       (below-product (us - p + m) (vs - q + k) nu nv (omega arith) (omega arith))
 
   first-here : (us - p) * nv + (vs - q) < nu * nv
-  first-here =
-      let a = Iu .base in
-      let b = Iu .fits in
-      let c = Iv .base in
-      let d = Iv .fits in
-      (below-product (us - p) (vs - q) nu nv (omega arith) (omega arith))
+  first-here = below-product (us - p) (vs - q) nu nv (omega (arith, Iu .base, Iu .fits)) (omega (arith, Iv .base, Iv .fits))
 
   abbrev w : ℕ → ℕ → Float
   w m k = weightAt r ws ((us - p + m) * nv + (vs - q) + k)
@@ -206,7 +114,7 @@ module _ (p q us vs : ℕ) (uk vk : List Float) (nu nv : ℕ) (ps ws : List Floa
   σ-pos : q0 <q σ
   σ-pos = <-≤-trans (least-is .positive) (≤-trans (lows 0 0 (omega arith) (omega arith)) (highs 0 0 (omega arith) (omega arith)))
 
-  finite-at : (i : ℕ) → i < nu * nv → FinitePoint (pointAt ps i)
+  finite-at : (i : ℕ) → i < nu * nv → FinitePoint (P.pointOf ps i)
   finite-at = point-finite ps (nu * nv) (Va .triples) (Va .controls .coordinates)
 
   -- the exact homogeneous net
@@ -227,22 +135,31 @@ module _ (p q us vs : ℕ) (uk vk : List Float) (nu nv : ℕ) (ps ws : List Floa
   wh = net (valAt uk) u us p (us - p) (valAt vk) v vs q (vs - q) HW
 
   wh-low : a /q σ ≤q wh
-  wh-low = weight₂-low (Iu .knots) (Iv .knots) p (us - p) nu q (vs - q) nv (Iu .base) (Iu .fits) (Iu .room) (Iv .base) (Iv .fits) (Iv .room) (Iu .above) (Iu .below) (Iv .above) (Iv .below) w₂ a σ (least-is .positive) lows highs
+  wh-low =
+      weight₂-low (Iu .knots) (Iv .knots) p (us - p) nu q (vs - q) nv (Iu .base) (Iu .fits) (Iu .room) (Iv .base) (Iv .fits) (Iv .room) (Iu .above) (Iu .below) (Iv .above) (Iv .below) w₂ a σ
+      (least-is .positive) lows highs
 
   wh-high : wh ≤q q1
-  wh-high = weight₂-le-1 (Iu .knots) (Iv .knots) p (us - p) nu q (vs - q) nv (Iu .base) (Iu .fits) (Iu .room) (Iv .base) (Iv .fits) (Iv .room) (Iu .above) (Iu .below) (Iv .above) (Iv .below) w₂ a σ (least-is .positive) lows highs
+  wh-high =
+      weight₂-le-1 (Iu .knots) (Iv .knots) p (us - p) nu q (vs - q) nv (Iu .base) (Iu .fits) (Iu .room) (Iv .base) (Iv .fits) (Iv .room) (Iu .above) (Iu .below) (Iv .above) (Iv .below) w₂ a σ
+      (least-is .positive) lows highs
 
   sum-ne : whole₂ (valAt uk) u us p nu (valAt vk) v vs q nv w₂ ≢ q0
-  sum-ne = pos-ne (weight₂-pos (Iu .knots) (Iv .knots) p (us - p) nu q (vs - q) nv (Iu .base) (Iu .fits) (Iu .room) (Iv .base) (Iv .fits) (Iv .room) (Iu .above) (Iu .below) (Iv .above) (Iv .below) w₂ a σ (least-is .positive) lows highs)
+  sum-ne =
+      pos-ne (weight₂-pos (Iu .knots) (Iv .knots) p (us - p) nu q (vs - q) nv (Iu .base) (Iu .fits) (Iu .room) (Iv .base) (Iv .fits) (Iv .room) (Iu .above) (Iu .below) (Iv .above)
+      (Iv .below) w₂ a σ (least-is .positive) lows highs)
 
   abbrev EX : (ℕ → ℚ) → Three
   EX P = at-uv p q us vs uk vk nu nv ws r u v P
 
   exact-eq : (P : ℕ → ℚ) → over (HT (H P)) (HT HW) (P ((us - p) * nv + (vs - q))) ≡ EX P
   exact-eq P = three-eq (over (HT (H P)) (HT HW) (P ((us - p) * nv + (vs - q)))) (EX P)
-      (sym (exact₂-net (Iu .knots) (Iv .knots) p (us - p) nu q (vs - q) nv (Iu .base) (Iu .fits) (Iu .room) (Iv .base) (Iv .fits) (Iv .room) w₂ (grid P nv) (P ((us - p) * nv + (vs - q))) σ (pos-ne σ-pos) u v sum-ne))
-      (sym (exact₂-du (Iu .knots) (Iv .knots) p (us - p) nu q (vs - q) nv (Iu .base) (Iu .fits) (Iu .room) (Iv .base) (Iv .fits) (Iv .room) w₂ (grid P nv) (P ((us - p) * nv + (vs - q))) σ (pos-ne σ-pos) u v sum-ne))
-      (sym (exact₂-dv (Iu .knots) (Iv .knots) p (us - p) nu q (vs - q) nv (Iu .base) (Iu .fits) (Iu .room) (Iv .base) (Iv .fits) (Iv .room) w₂ (grid P nv) (P ((us - p) * nv + (vs - q))) σ (pos-ne σ-pos) u v sum-ne))
+      (sym (exact₂-net (Iu .knots) (Iv .knots) p (us - p) nu q (vs - q) nv (Iu .base) (Iu .fits) (Iu .room) (Iv .base) (Iv .fits) (Iv .room) w₂ (grid P nv) (P ((us - p) * nv + (vs - q))) σ
+      (pos-ne σ-pos) u v sum-ne))
+      (sym (exact₂-du (Iu .knots) (Iv .knots) p (us - p) nu q (vs - q) nv (Iu .base) (Iu .fits) (Iu .room) (Iv .base) (Iv .fits) (Iv .room) w₂ (grid P nv) (P ((us - p) * nv + (vs - q))) σ
+      (pos-ne σ-pos) u v sum-ne))
+      (sym (exact₂-dv (Iu .knots) (Iv .knots) p (us - p) nu q (vs - q) nv (Iu .base) (Iu .fits) (Iu .room) (Iv .base) (Iv .fits) (Iv .room) w₂ (grid P nv) (P ((us - p) * nv + (vs - q))) σ
+      (pos-ne σ-pos) u v sum-ne))
 
   abbrev Good : BoundAnswer → Type 0
   Good A = Boxes A (EX (X ps)) (EX (Y ps)) (EX (Z ps))
@@ -258,14 +175,15 @@ module _ (p q us vs : ℕ) (uk vk : List Float) (nu nv : ℕ) (ps ws : List Floa
     row m = rowAt p q us vs uk vk nv ps ws r ulo uhi vlo vhi scale iv m
 
     abbrev start : Interval → ℕ → ℕ → Control
-    start c m = startAt ps ws r ((us - p + m) * nv + (vs - q)) (pointAt ps ((us - p) * nv + (vs - q))) c
+    start c m = startAt ps ws r ((us - p + m) * nv + (vs - q)) (P.pointOf ps ((us - p) * nv + (vs - q))) c
 
     start-in : (c : Interval) → Inside c (inv σ) → (m : ℕ) → m ≤ p → (k : ℕ) → k ≤ q
         → ControlIn (start c m k) (H (X ps) (us - p + m) (vs - q + k)) (H (Y ps) (us - p + m) (vs - q + k)) (H (Z ps) (us - p + m) (vs - q + k)) (HW (us - p + m) (vs - q + k))
-    unfolding startAt pointAt
+    unfolding startAt
     start-in c d m l k h =
-        subst (λ (i : ℕ). ControlIn (start c m k) ((X ps i -q X ps ((us - p) * nv + (vs - q))) *q (weight r ws i /q σ)) ((Y ps i -q Y ps ((us - p) * nv + (vs - q))) *q (weight r ws i /q σ)) ((Z ps i -q Z ps ((us - p) * nv + (vs - q))) *q (weight r ws i /q σ)) (weight r ws i /q σ)) (same-place m k)
-        (control-in (pointAt ps ((us - p + m) * nv + (vs - q) + k)) (pointAt ps ((us - p) * nv + (vs - q))) (weightAt r ws ((us - p + m) * nv + (vs - q) + k)) c σ
+        subst (λ (i : ℕ). ControlIn (start c m k) ((X ps i -q X ps ((us - p) * nv + (vs - q))) *q (weight r ws i /q σ)) ((Y ps i -q Y ps ((us - p) * nv + (vs - q))) *q (weight r ws i /q σ))
+        ((Z ps i -q Z ps ((us - p) * nv + (vs - q))) *q (weight r ws i /q σ)) (weight r ws i /q σ)) (same-place m k)
+        (control-in (P.pointOf ps ((us - p + m) * nv + (vs - q) + k)) (P.pointOf ps ((us - p) * nv + (vs - q))) (weightAt r ws ((us - p + m) * nv + (vs - q) + k)) c σ
         (finite-at ((us - p + m) * nv + (vs - q) + k) (here′ m k l h)) (finite-at ((us - p) * nv + (vs - q)) first-here) (heavy ((us - p + m) * nv + (vs - q) + k) (here′ m k l h)) d)
 
     -- a row along v: what it refuses
@@ -273,7 +191,7 @@ module _ (p q us vs : ℕ) (uk vk : List Float) (nu nv : ℕ) (ps ws : List Floa
     unfolding rowAt rowOf deboorOf
     row-given m h = go (reciprocalOf (pointOf scale)) (scale-in cut (most-is .held))
       where
-        go : (a : Quotient) → Formed a (inv σ) → Given (netRefused (rowBy ps ws r ((us - p + m) * nv + (vs - q)) (pointAt ps ((us - p) * nv + (vs - q))) vk q vs (secondOf iv) a))
+        go : (a : Quotient) → Formed a (inv σ) → Given (netRefused (rowBy ps ws r ((us - p + m) * nv + (vs - q)) (P.pointOf ps ((us - p) * nv + (vs - q))) vk q vs (secondOf iv) a))
         go (Q.Is c) d = last-given (refusalLevels vk q vs (secondOf iv) 1 q) (netOf vk q vs (secondOf iv) (start c m) q q)
             (levels-given vk q vs (secondOf iv) (Iv .knots) (Iv .low) (Iv .room) (Iv .held) v q0 q1 (second-in vlo vhi v (Sv .lo-finite) (Sv .hi-finite) v-from v-upto) 0 q (omega arith))
         go Q.HoldsZero d = tt
@@ -283,15 +201,19 @@ module _ (p q us vs : ℕ) (uk vk : List Float) (nu nv : ℕ) (ps ws : List Floa
     module _ (sel : Control → Jet) (mixes : (α : Jet) (a b : Control) → sel (mixOf α a b) ≡ mixJet α (sel a) (sel b)) (C : ℕ → ℕ → ℚ)
         (holds : (c : Interval) → Inside c (inv σ) → (m : ℕ) → m ≤ p → (k : ℕ) → k ≤ q → JetIn (sel (start c m k)) (C (us - p + m) (vs - q + k)) q0 q0) where
       abbrev RowIn : ℕ → NetAnswer → Type 0
-      RowIn m A = netRefused A ≡ 0 → JetIn (sel (netControl A)) (work (valAt vk) v q vs (λ k. C (us - p + m) (vs - q + k)) q q) q0 (dwork (valAt vk) v q vs (λ k. C (us - p + m) (vs - q + k)) (λ k. q0) q q)
+      RowIn m A =
+          netRefused A ≡ 0 → JetIn (sel (netControl A)) (work (valAt vk) v q vs (λ k. C (us - p + m) (vs - q + k)) q q) q0
+          (dwork (valAt vk) v q vs (λ k. C (us - p + m) (vs - q + k)) (λ k. q0) q q)
 
-      by-scale : (m : ℕ) → m ≤ p → (a : Quotient) → Formed a (inv σ) → RowIn m (rowBy ps ws r ((us - p + m) * nv + (vs - q)) (pointAt ps ((us - p) * nv + (vs - q))) vk q vs (secondOf iv) a)
+      by-scale : (m : ℕ) → m ≤ p → (a : Quotient) → Formed a (inv σ) → RowIn m (rowBy ps ws r ((us - p + m) * nv + (vs - q)) (P.pointOf ps ((us - p) * nv + (vs - q))) vk q vs (secondOf iv) a)
       unfolding deboorOf dwork
       by-scale m h (Q.Is c) d ok =
           let x = last-0 (refusalLevels vk q vs (secondOf iv) 1 q) (netOf vk q vs (secondOf iv) (start c m) q q) ok in
           subst (λ c. JetIn (sel c) (work (valAt vk) v q vs (λ k. C (us - p + m) (vs - q + k)) q q) q0 (dwork (valAt vk) v q vs (λ k. C (us - p + m) (vs - q + k)) (λ k. q0) q q)) (sym (x .1))
-          (net-in vk q vs (secondOf iv) (Iv .knots) (Iv .low) (Iv .room) (Iv .held) v q0 q1 (second-in vlo vhi v (Sv .lo-finite) (Sv .hi-finite) v-from v-upto) sel mixes (start c m) (λ k. C (us - p + m) (vs - q + k)) (λ l j. q0) (dwork (valAt vk) v q vs (λ k. C (us - p + m) (vs - q + k)) (λ k. q0))
-          (nowhere (valAt vk) v q vs (λ k. C (us - p + m) (vs - q + k))) (along (valAt vk) v q vs (λ k. C (us - p + m) (vs - q + k)) (λ k. q0)) (holds c d m h) (none vk q vs (secondOf iv) (x .0)) q q (omega arith))
+          (net-in vk q vs (secondOf iv) (Iv .knots) (Iv .low) (Iv .room) (Iv .held) v q0 q1 (second-in vlo vhi v (Sv .lo-finite) (Sv .hi-finite) v-from v-upto) sel mixes (start c m)
+          (λ k. C (us - p + m) (vs - q + k)) (λ l j. q0) (dwork (valAt vk) v q vs (λ k. C (us - p + m) (vs - q + k)) (λ k. q0))
+          (nowhere (valAt vk) v q vs (λ k. C (us - p + m) (vs - q + k))) (along (valAt vk) v q vs (λ k. C (us - p + m) (vs - q + k)) (λ k. q0)) (holds c d m h)
+          (none vk q vs (secondOf iv) (x .0)) q q (omega arith))
       by-scale m h Q.HoldsZero d ok = absurd (omega arith)
       by-scale m h Q.Unbounded d ok = absurd d
 
@@ -314,15 +236,16 @@ module _ (p q us vs : ℕ) (uk vk : List Float) (nu nv : ℕ) (ps ws : List Floa
           (none uk p us (parameterOf iu) ok) p p (omega arith)
 
     levels-in : refusalUp row (p + 1) 0 ≡ 0 → (k : ℕ) → refusalLevels uk p us (parameterOf iu) 1 p ≡ k
-        → Good (netBy (pointAt ps ((us - p) * nv + (vs - q))) bound (lastBy k (netOf uk p us (parameterOf iu) (λ m. netControl (row m)) p p)))
-    unfolding lastBy pointAt mixOf
+        → Good (netBy (P.pointOf ps ((us - p) * nv + (vs - q))) bound (lastBy k (netOf uk p us (parameterOf iu) (λ m. netControl (row m)) p p)))
+    unfolding lastBy mixOf
     levels-in clear (suc k) e =
         subst Given e (levels-given uk p us (parameterOf iu) (Iu .knots) (Iu .low) (Iu .room) (Iu .held) u q1 q0 (param-in ulo uhi u (Su .lo-finite) (Su .hi-finite) u-from u-upto) 0 p (omega arith))
     levels-in clear zero e =
-        boxes-eq (cartesianOf (netOf uk p us (parameterOf iu) (λ m. netControl (row m)) p p) (pointAt ps ((us - p) * nv + (vs - q))) bound)
-        (over (HT (H (X ps))) (HT HW) (X ps ((us - p) * nv + (vs - q)))) (over (HT (H (Y ps))) (HT HW) (Y ps ((us - p) * nv + (vs - q)))) (over (HT (H (Z ps))) (HT HW) (Z ps ((us - p) * nv + (vs - q))))
+        boxes-eq (cartesianOf (netOf uk p us (parameterOf iu) (λ m. netControl (row m)) p p) (P.pointOf ps ((us - p) * nv + (vs - q))) bound)
+        (over (HT (H (X ps))) (HT HW) (X ps ((us - p) * nv + (vs - q)))) (over (HT (H (Y ps))) (HT HW) (Y ps ((us - p) * nv + (vs - q))))
+        (over (HT (H (Z ps))) (HT HW) (Z ps ((us - p) * nv + (vs - q))))
         (EX (X ps)) (EX (Y ps)) (EX (Z ps)) (exact-eq (X ps)) (exact-eq (Y ps)) (exact-eq (Z ps))
-        (cartesian-in (netOf uk p us (parameterOf iu) (λ m. netControl (row m)) p p) (pointAt ps ((us - p) * nv + (vs - q))) bound (HT (H (X ps))) (HT (H (Y ps))) (HT (H (Z ps))) (HT HW)
+        (cartesian-in (netOf uk p us (parameterOf iu) (λ m. netControl (row m)) p p) (P.pointOf ps ((us - p) * nv + (vs - q))) bound (HT (H (X ps))) (HT (H (Y ps))) (HT (H (Z ps))) (HT HW)
         (column-in (λ c. c .x) (λ α a b. refl) (H (X ps)) (λ c d m l k n. start-in c d m l k n .x) clear e)
         (column-in (λ c. c .y) (λ α a b. refl) (H (Y ps)) (λ c d m l k n. start-in c d m l k n .y) clear e)
         (column-in (λ c. c .z) (λ α a b. refl) (H (Z ps)) (λ c d m l k n. start-in c d m l k n .z) clear e)
@@ -334,7 +257,8 @@ module _ (p q us vs : ℕ) (uk vk : List Float) (nu nv : ℕ) (ps ws : List Floa
     ranges-in = go (le vlo vhi) (le ulo uhi)
       where
         go : (x y : Bool) → Good (rangesAre p q us vs uk vk nv ps ws r ulo uhi vlo vhi scale bound (cond x (Made iv) Nothing) (cond y (Made iu) Nothing))
-        go true true = refuse-in (pointAt ps ((us - p) * nv + (vs - q))) bound (refusalUp row (p + 1) 0) (deboorOf uk p us (parameterOf iu) (λ m. netControl (row m))) (EX (X ps)) (EX (Y ps)) (EX (Z ps))
+        go true true =
+            refuse-in (P.pointOf ps ((us - p) * nv + (vs - q))) bound (refusalUp row (p + 1) 0) (deboorOf uk p us (parameterOf iu) (λ m. netControl (row m))) (EX (X ps)) (EX (Y ps)) (EX (Z ps))
             (up-given row (p + 1) 0 (λ m l. let z : 0 + m ≡ m = omega arith in subst (λ i. Given (netRefused (row i))) (sym z) (row-given m (omega arith))))
             (λ clear. levels-in clear (refusalLevels uk p us (parameterOf iu) 1 p) refl)
         go true false = tt
@@ -371,28 +295,3 @@ surface-holds p q uk vk nu nv ps ws r ulo uhi vlo vhi u v uf ut vf vt =
     (λ k.
     let b = ranges-valid p q uk vk nu nv ulo uhi vlo vhi (Va .u) (Va .v) k in
     boxed inner (e (X ps)) (e (Y ps)) (e (Z ps)) (spans-bound-in p q us vs uk vk nu nv ps ws r ulo uhi vlo vhi Va (b .0) (b .1) u v uf ut vf vt)))
-
--- what `on_spans` asks
-pub spans-fit : (p q : ℕ) (uk vk : List Float) (nu nv : ℕ) (ps ws : List Float) (r : Bool) (ulo uhi vlo vhi : Float) (us vs : ℕ) → ValidSurface p q uk vk nu nv ps r ws → SpanValid p nu uk ulo uhi us → SpanValid q nv vk vlo vhi vs
-    → SpansFit p q us vs (length uk) (length vk) nv (length ps) (length ws) r
-spans-fit p q uk vk nu nv ps ws r ulo uhi vlo vhi us vs Va Su Sv =
-    let a = Su .span .first in
-    let b = Su .span .last in
-    let c = Sv .span .first in
-    let d = Sv .span .last in
-    let e = Va .u .long in
-    let f = Va .v .long in
-    let g = Va .short-u in
-    let h = Va .short .points in
-    let m3 = Va .triples in
-    let here : (m : ℕ) → m < p + 1 → (us - p + m) * nv + (vs - q + q) < nu * nv = λ m l. below-product (us - p + m) (vs - q + q) nu nv (omega arith) (omega arith) in
-    record {
-      p-small = Su .small;
-      q-small = Sv .small;
-      u-low = a;
-      v-low = c;
-      u-room = omega arith;
-      v-room = omega arith;
-      fit = record { few = omega arith; small = λ m l. omega (arith, here m l); inside = λ x m l. omega (arith, here m l, Va .controls .weights x) };
-      inside = λ m l. omega (arith, here m l);
-    }

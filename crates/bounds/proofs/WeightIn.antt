@@ -1,8 +1,8 @@
 -- The least and the largest weight, the enclosure of their quotient, and the points of the first net. Assumes nothing.
-use mathlib.Core.Path.{_≡_, refl, sym, _∙_, subst}
+use mathlib.Core.Path.{_≡_, refl, sym, subst}
 use mathlib.Core.Bool.{Bool, true, false, not, _||_, cond}
 use mathlib.Core.Logic.{_⊎_, inl, inr}
-use mathlib.Core.List.{List, [], _∷_}
+use mathlib.Core.List.{List}
 use Prim.Native.Nat.{ℕ, zero, suc, _+_, _-_, _*_, _≤_, _<_}
 use native.Mathlib.Nat.{eq-or-lt-of-le, le-of-suc-le-suc}
 use native.Mathlib.Omega.{arith}
@@ -16,8 +16,8 @@ use Rattle.doubles.proofs.Value.{val-lt, val-le, val-one}
 use Rattle.doubles.specs.Neighbour.{fmin, fmax}
 use Rattle.doubles.specs.Run.{at}
 use Rattle.doubles.specs.Value.{Lower, Upper, val, zero+, one+}
-use Rattle.exact.proofs.Field.{≤-refl, ≤-trans, <-≤-trans, lt→le, div-is}
-use Rattle.exact.specs.Rational.{ℚ, _+q_, _-q_, _*q_, _/q_, inv, q0, q1, _≤q_, _<q_}
+use Rattle.exact.proofs.Field.{≤-refl, ≤-trans, lt→le, div-is}
+use Rattle.exact.specs.Rational.{ℚ, _-q_, _*q_, _/q_, inv, q0, q1, _≤q_, _<q_}
 use Rattle.interval.proofs.Contain.{point-inside, sub-inside, mul-inside, ends-ordered, Formed, reciprocal-formed, divide-formed}
 use Rattle.interval.specs.Inside.{Inside}
 use Rattle.interval.specs.Ops.{pointOf, mulOf, newOf, reciprocalOf, divideOf}
@@ -25,16 +25,15 @@ use Rattle.interval.specs.declared.Interval.{Interval}
 use Rattle.interval.specs.declared.New.the-variants.{Made, Nothing}
 use Rattle.interval.specs.declared.Quotient.{Quotient}
 use Rattle.interval.specs.declared.Quotient.the-variants as Q
-use Rattle.bounds.specs.declared.net.Control.{Control}
-use Rattle.bounds.specs.declared.start.Point.{Point}
-use Rattle.bounds.specs.declared.net.NetAnswer.{NetAnswer}
-use Rattle.bounds.specs.declared.net.NetAnswer.the-variants as N
+use Rattle.jets.specs.declared.net.Control.{Control}
+use Rattle.runs.specs.declared.vector.Vector.{Vector}
 use Rattle.bounds.specs.declared.start.Weights.{Weights}
 use Rattle.bounds.specs.declared.start.Weights.the-variants as W
-use Rattle.bounds.specs.Net.{netRefused, refusalUp}
-use Rattle.bounds.proofs.NetIn.{Given, orElse-0, orElse-given}
-use Rattle.bounds.specs.Start.{maxFrom, minFrom, areBy, rangeBy, rangeOf, movedOf, pointAt, controlOf}
-use Rattle.bounds.proofs.JetIn.{JetIn, jet-const}
+use Rattle.jets.proofs.NetIn.{Given}
+use Rattle.jets.proofs.CartesianIn.{FinitePoint}
+use Rattle.bounds.specs.Start.{maxFrom, minFrom, areBy, rangeBy, rangeOf, movedOf, controlOf}
+use Rattle.runs.specs.Point as P
+use Rattle.jets.proofs.JetIn.{JetIn, jet-const}
 
 not-left : (x y : Bool) → T (not (x || y)) → T (not x)
 not-left true y h = h
@@ -146,7 +145,9 @@ least w (suc k) f g = go (least w k (λ i l. f i (omega arith)) (λ i l. g i (om
         let m = min-below (minFrom (inf false) w (suc k)) (w (suc k)) (r .held) (f (suc k) (omega arith)) in
         record {
           held = m .held;
-          all = λ i l. elim (eq-or-lt-of-le (le-of-suc-le-suc l)) [ inl e ↦ subst (λ j. val (fmin (minFrom (inf false) w (suc k)) (w (suc k))) ≤q val (w j)) (sym e) (m .second) | inr h ↦ ≤-trans (m .first) (r .all i h) ];
+          all =
+              λ i l. elim (eq-or-lt-of-le (le-of-suc-le-suc l))
+              [ inl e ↦ subst (λ j. val (fmin (minFrom (inf false) w (suc k)) (w (suc k))) ≤q val (w j)) (sym e) (m .second) | inr h ↦ ≤-trans (m .first) (r .all i h) ];
           positive = m .positive (r .positive) (g (suc k) (omega arith));
         }
 
@@ -198,21 +199,15 @@ pub record ControlIn (c : Control) (X Y Z W : ℚ) : Type 0 where
   pub z : JetIn (c .z) Z q0 q0
   pub w : JetIn (c .w) W q0 q0
 
-pub record FinitePoint (p : Point) : Type 0 where
-  pub x : T (finite (p .x))
-  pub y : T (finite (p .y))
-  pub z : T (finite (p .z))
-
 -- each of the n points of a run of finite coordinates
-pub point-finite : (ps : List Float) (n : ℕ) → length ps ≡ 3 * n → ((k : ℕ) → k < length ps → finite (at ps k) ≡ true) → (i : ℕ) → i < n → FinitePoint (pointAt ps i)
-unfolding pointAt
-point-finite ps n e f i l = record { x = T-of _ (f (i * 3) (omega arith)); y = T-of _ (f (i * 3 + 1) (omega arith)); z = T-of _ (f (i * 3 + 2) (omega arith)) }
+pub point-finite : (ps : List Float) (n : ℕ) → length ps ≡ 3 * n → ((k : ℕ) → k < length ps → finite (at ps k) ≡ true) → (i : ℕ) → i < n → FinitePoint (P.pointOf ps i)
+point-finite ps n e f i l = record { x = T-of _ (f (i * 3 + 0) (omega arith)); y = T-of _ (f (i * 3 + 1) (omega arith)); z = T-of _ (f (i * 3 + 2) (omega arith)) }
 
 moved-in : (p o : Float) (q : Interval) (W : ℚ) → T (finite p) → T (finite o) → Inside q W → JetIn (movedOf p o q) ((val p -q val o) *q W) q0 q0
 unfolding movedOf
 moved-in p o q W f g d = jet-const _ (mul-inside _ q _ W (sub-inside _ _ _ _ (point-inside p f) (point-inside o g)) d)
 
-pub control-in : (p o : Point) (w : Float) (r : Interval) (σ : ℚ) → FinitePoint p → FinitePoint o → T (finite w) → Inside r (inv σ)
+pub control-in : (p o : Vector) (w : Float) (r : Interval) (σ : ℚ) → FinitePoint p → FinitePoint o → T (finite w) → Inside r (inv σ)
     → ControlIn (controlOf p o w r) ((val (p .x) -q val (o .x)) *q (val w /q σ)) ((val (p .y) -q val (o .y)) *q (val w /q σ)) ((val (p .z) -q val (o .z)) *q (val w /q σ)) (val w /q σ)
 unfolding controlOf
 control-in p o w r σ f g h k =
@@ -223,19 +218,3 @@ control-in p o w r σ f g h k =
       z = moved-in (p .z) (o .z) (mulOf (pointOf w) r) (val w /q σ) (f .z) (g .z) d;
       w = jet-const (mulOf (pointOf w) r) d;
     }
-
-pub up-0 : (f : ℕ → NetAnswer) (k i : ℕ) → refusalUp f k i ≡ 0 → (m : ℕ) → m < k → netRefused (f (i + m)) ≡ 0
-unfolding refusalUp
-up-0 f zero i h m l = absurd (omega arith)
-up-0 f (suc k) i h zero l = let e : i + 0 ≡ i = omega arith in rw e (orElse-0 _ _ h .0)
-up-0 f (suc k) i h (suc m) l =
-    let e : i + suc m ≡ i + 1 + m = omega arith in
-    rw e (up-0 f k (i + 1) (orElse-0 (netRefused (f i)) _ h .1) m (omega arith))
-
-pub up-given : (f : ℕ → NetAnswer) (k i : ℕ) → ((m : ℕ) → m < k → Given (netRefused (f (i + m)))) → Given (refusalUp f k i)
-unfolding refusalUp
-up-given f zero i h = tt
-up-given f (suc k) i h =
-    let e : i + 0 ≡ i = omega arith in
-    orElse-given (netRefused (f i)) (refusalUp f k (i + 1)) (subst (λ j. Given (netRefused (f j))) e (h 0 (omega arith)))
-    (up-given f k (i + 1) (λ m l. let e : i + suc m ≡ i + 1 + m = omega arith in subst (λ j. Given (netRefused (f j))) e (h (suc m) (omega arith))))

@@ -1,8 +1,8 @@
 -- What a bound answers, case by case.
 use Rattle.knots.specs.Refusal.{numbered}
-use Rattle.bounds.specs.declared.cartesian.Bounds.{Bounds}
-use Rattle.bounds.specs.declared.cartesian.BoundAnswer.{BoundAnswer}
-use Rattle.bounds.specs.declared.cartesian.BoundAnswer.the-variants as B
+use Rattle.jets.specs.declared.cartesian.Bounds.{Bounds}
+use Rattle.jets.specs.declared.cartesian.BoundAnswer.{BoundAnswer}
+use Rattle.jets.specs.declared.cartesian.BoundAnswer.the-variants as B
 use Rattle.interval.specs.declared.Interval.{Interval}
 use Rattle.bounds.specs.declared.answer.Triple.{Triple}
 use Rattle.bounds.specs.declared.answer.NurbsBounds.{NurbsBounds}

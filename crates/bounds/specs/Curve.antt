@@ -1,24 +1,24 @@
 -- The bounds of a curve: the answer of bound_curve. Definitions only.
-use Prim.Native.Nat.{ℕ, zero, suc, _+_, _-_, _*_, _≤_, _<_}
-use mathlib.Core.Bool.{Bool, true, false, cond}
-use mathlib.Core.Path.{_≡_}
+use Prim.Native.Nat.{ℕ, _+_, _-_}
+use mathlib.Core.Bool.{Bool, cond}
 use mathlib.Core.List.{List}
-use lib.ListN.{length}
 use lib.Ieee.{Float}
 use Rattle.interval.specs.declared.Interval.{Interval}
 use Rattle.interval.specs.declared.New.{New}
 use Rattle.interval.specs.declared.New.the-variants.{Made, Nothing}
 use Rattle.interval.specs.Ops.{newOf}
 use Rattle.knots.specs.Refusal.{refuse, range-bad}
-use Rattle.bounds.specs.Jet.{parameterOf}
+use Rattle.jets.specs.Jet.{parameterOf}
 use Rattle.bounds.specs.declared.start.Weights.{Weights}
 use Rattle.bounds.specs.declared.start.Weights.the-variants as W
-use Rattle.bounds.specs.declared.cartesian.BoundAnswer.{BoundAnswer}
-use Rattle.bounds.specs.declared.cartesian.BoundAnswer.the-variants as B
-use Rattle.bounds.specs.Start.{weightsOf, pointAt, rowOf}
-use Rattle.bounds.specs.Cartesian.{netBy}
-use Rattle.bounds.specs.Range.{weightAt, spanOver, rangeRefusal}
-use Rattle.bounds.specs.Read.{startRefusal}
+use Rattle.jets.specs.declared.cartesian.BoundAnswer.{BoundAnswer}
+use Rattle.jets.specs.declared.cartesian.BoundAnswer.the-variants as B
+use Rattle.bounds.specs.Start.{weightsOf, rowOf}
+use Rattle.runs.specs.Point as P
+use Rattle.jets.specs.Cartesian.{netBy}
+use Rattle.ranges.specs.Range.{spanOver, rangeRefusal}
+use Rattle.runs.specs.Weight.{weightAt}
+use Rattle.ranges.specs.Read.{startRefusal}
 use Rattle.bounds.specs.Answer.{boundedOf}
 use Rattle.bounds.specs.declared.answer.Bounded.{Bounded}
 use Rattle.bounds.specs.declared.answer.Bounded.the-variants.{Refused}
@@ -28,7 +28,7 @@ use lib.Dec.{eqb}
 
 module _ (p s : ℕ) (ks ps ws : List Float) (r : Bool) (lo hi : Float) where
   abbrev pub rangeIs : Float → Interval → New → BoundAnswer
-  rangeIs scale bound (Made i) = let o = pointAt ps (s - p) in netBy o bound (rowOf ps ws r (s - p) o scale ks p s (parameterOf i))
+  rangeIs scale bound (Made i) = let o = P.pointOf ps (s - p) in netBy o bound (rowOf ps ws r (s - p) o scale ks p s (parameterOf i))
   rangeIs scale bound Nothing = B.Refused (refuse range-bad .number)
 
   abbrev pub weightsAre : Weights → BoundAnswer

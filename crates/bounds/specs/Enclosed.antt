@@ -7,15 +7,10 @@ use Rattle.exact.specs.Rational.{ℚ, q0}
 use Rattle.exact.specs.Spline.{exact, dexact}
 use Rattle.exact.specs.Surface.{exact₂, dexact₂u, dexact₂v}
 use Rattle.doubles.specs.Run.{valAt}
+use Rattle.jets.specs.Three.{Three}
 use Rattle.bounds.specs.Holds.{coordinate, weight, Holding}
 use Rattle.bounds.specs.declared.answer.Bounded.{Bounded}
 use Rattle.bounds.specs.declared.answer.Bounded.the-variants.{Are, Refused}
-
--- a number with its derivatives along u and v
-pub record Three : Type 0 where
-  pub value : ℚ
-  pub du : ℚ
-  pub dv : ℚ
 
 -- the boxes of an answer hold three such numbers: x, y and z
 abbrev pub Boxed : Bounded → Three → Three → Three → Type 0

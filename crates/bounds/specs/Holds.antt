@@ -2,28 +2,25 @@
 use mathlib.Core.Bool.{Bool}
 use mathlib.Core.List.{List}
 use mathlib.Core.Path.{_≡_}
-use Prim.Native.Nat.{ℕ, zero, suc, _+_, _*_}
+use Prim.Native.Nat.{ℕ}
 use lib.Ieee.{Float}
 use Rattle.exact.specs.Rational.{ℚ, _≤q_}
 use Rattle.exact.specs.Spline.{exact}
 use Rattle.doubles.specs.Value.{val}
-use Rattle.doubles.specs.Run.{at, valAt}
+use Rattle.doubles.specs.Run.{valAt}
+use Rattle.runs.specs.Coordinate as P
 use Rattle.interval.specs.Inside.{Inside}
 use Rattle.knots.specs.Curve.{countOf}
-use Rattle.bounds.specs.Range.{spanOver, weightAt}
+use Rattle.ranges.specs.Range.{spanOver}
+use Rattle.runs.specs.Weight.{weightAt}
 use Rattle.bounds.specs.declared.answer.Triple.{Triple}
 use Rattle.bounds.specs.declared.answer.NurbsBounds.{NurbsBounds}
 use Rattle.bounds.specs.declared.answer.Bounded.{Bounded}
 use Rattle.bounds.specs.declared.answer.Bounded.the-variants.{Are}
 
--- where coordinate k of point i stands
-abbrev pub place : ℕ → ℕ → ℕ
-place i zero = i * 3
-place i (suc k) = i * 3 + suc k
-
 -- coordinate k of point i, and its weight
 abbrev pub coordinate : List Float → ℕ → ℕ → ℚ
-coordinate ps k i = valAt ps (place i k)
+coordinate ps k i = val (P.coordinate ps i k)
 
 abbrev pub weight : Bool → List Float → ℕ → ℚ
 weight r ws i = val (weightAt r ws i)

@@ -1,9 +1,5 @@
-pub mod Jet
-pub mod Net
-pub mod Range
-pub mod Read
+pub mod Levels
 pub mod Start
-pub mod Cartesian
 pub mod Answer
 pub mod Numbers
 pub mod Curve

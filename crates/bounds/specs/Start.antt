@@ -1,11 +1,11 @@
 -- Weights over the largest, points relative to the first: the net that a bound starts with. Definitions only.
-use Prim.Native.Nat.{ℕ, zero, suc, _+_, _*_}
+use Prim.Native.Nat.{ℕ, zero, suc, _+_}
 use mathlib.Core.Bool.{Bool, false, cond}
 use mathlib.Core.List.{List}
 use lib.Ieee.{Float, inf, le}
 use Rattle.doubles.specs.Neighbour.{fmin, fmax}
-use Rattle.doubles.specs.Run.{at}
 use Rattle.doubles.specs.Value.{zero+, one+}
+use Rattle.runs.specs.Point as P
 use Rattle.interval.specs.Ops.{pointOf, subOf, mulOf, newOf, reciprocalOf, divideOf}
 use Rattle.interval.specs.declared.Interval.{Interval}
 use Rattle.interval.specs.declared.New.{New}
@@ -13,16 +13,17 @@ use Rattle.interval.specs.declared.New.the-variants.{Made, Nothing}
 use Rattle.interval.specs.declared.Quotient.{Quotient}
 use Rattle.knots.specs.Refusal.{refuse, quotient-none, weight-ratio-low}
 use Rattle.knots.specs.Numbers.{quotientBy}
-use Rattle.bounds.specs.declared.jet.Jet.{Jet}
-use Rattle.bounds.specs.declared.net.Control.{Control}
-use Rattle.bounds.specs.declared.net.NetAnswer.{NetAnswer}
-use Rattle.bounds.specs.declared.net.NetAnswer.the-variants as N
-use Rattle.bounds.specs.declared.start.Point.{Point}
+use Rattle.jets.specs.declared.jet.Jet.{Jet}
+use Rattle.jets.specs.declared.net.Control.{Control}
+use Rattle.jets.specs.declared.net.NetAnswer.{NetAnswer}
+use Rattle.jets.specs.declared.net.NetAnswer.the-variants as N
+use Rattle.runs.specs.declared.vector.Vector.{Vector}
+use Rattle.bounds.specs.declared.start.Extremes.{Extremes}
 use Rattle.bounds.specs.declared.start.Weights.{Weights}
 use Rattle.bounds.specs.declared.start.Weights.the-variants as W
-use Rattle.bounds.specs.Jet.{constantOf}
-use Rattle.bounds.specs.Net.{deboorOf}
-use Rattle.bounds.specs.Range.{weightAt}
+use Rattle.jets.specs.Jet.{constantOf}
+use Rattle.jets.specs.Net.{deboorOf}
+use Rattle.runs.specs.Weight.{weightAt}
 
 -- the largest of a number and k weights, and the smallest
 unfoldable pub maxFrom : Float → (ℕ → Float) → ℕ → Float
@@ -32,6 +33,13 @@ maxFrom a w (suc k) = fmax (maxFrom a w k) (w k)
 unfoldable pub minFrom : Float → (ℕ → Float) → ℕ → Float
 minFrom a w zero = a
 minFrom a w (suc k) = fmin (minFrom a w k) (w k)
+
+-- both, and those of no weights
+unfoldable pub extremesOf : Extremes → (ℕ → Float) → ℕ → Extremes
+extremesOf a w k = record { least = minFrom (a .least) w k; most = maxFrom (a .most) w k }
+
+abbrev pub noExtremes : Extremes
+noExtremes = record { least = inf false; most = zero+ }
 
 abbrev pub areBy : Float → New → Weights
 areBy most (Made b) = W.Are most b
@@ -52,21 +60,18 @@ unfoldable pub movedOf : Float → Float → Interval → Jet
 movedOf p o q = constantOf (mulOf (subOf (pointOf p) (pointOf o)) q)
 
 -- a point of the net: relative to o, its weight times the scale's reciprocal
-unfoldable pub controlOf : Point → Point → Float → Interval → Control
+unfoldable pub controlOf : Vector → Vector → Float → Interval → Control
 controlOf p o w r =
     let q = mulOf (pointOf w) r in
     record { x = movedOf (p .x) (o .x) q; y = movedOf (p .y) (o .y) q; z = movedOf (p .z) (o .z) q; w = constantOf q }
 
-unfoldable pub pointAt : List Float → ℕ → Point
-pointAt ps i = record { x = at ps (i * 3); y = at ps (i * 3 + 1); z = at ps (i * 3 + 2) }
-
 -- place m of the row at b, relative to o
-unfoldable pub startAt : List Float → List Float → Bool → ℕ → Point → Interval → ℕ → Control
-startAt ps ws r b o q m = controlOf (pointAt ps (b + m)) o (weightAt r ws (b + m)) q
+unfoldable pub startAt : List Float → List Float → Bool → ℕ → Vector → Interval → ℕ → Control
+startAt ps ws r b o q m = controlOf (P.pointOf ps (b + m)) o (weightAt r ws (b + m)) q
 
-abbrev pub rowBy : List Float → List Float → Bool → ℕ → Point → List Float → ℕ → ℕ → Jet → Quotient → NetAnswer
+abbrev pub rowBy : List Float → List Float → Bool → ℕ → Vector → List Float → ℕ → ℕ → Jet → Quotient → NetAnswer
 rowBy ps ws r b o ks p s t = quotientBy (λ q. deboorOf ks p s t (startAt ps ws r b o q)) N.Refused
 
 -- all levels on the row at b, its weights over the scale
-unfoldable pub rowOf : List Float → List Float → Bool → ℕ → Point → Float → List Float → ℕ → ℕ → Jet → NetAnswer
+unfoldable pub rowOf : List Float → List Float → Bool → ℕ → Vector → Float → List Float → ℕ → ℕ → Jet → NetAnswer
 rowOf ps ws r b o scale ks p s t = rowBy ps ws r b o ks p s t (reciprocalOf (pointOf scale))

@@ -1,26 +1,27 @@
 -- The bounds of a surface: rows along v, then the column of rows along u, as in the source. Definitions only.
 use Prim.Native.Nat.{ℕ, zero, suc, _+_, _-_, _*_, _≤_, _<_}
-use mathlib.Core.Bool.{Bool, true, false, cond}
-use mathlib.Core.Path.{_≡_}
+use mathlib.Core.Bool.{Bool, false, cond}
 use mathlib.Core.List.{List}
 use lib.Dec.{ltb}
 use lib.Ieee.{Float, inf}
-use Rattle.doubles.specs.Value.{zero+, one+}
-use Rattle.interval.specs.Ops.{pointOf, newOf}
+use Rattle.doubles.specs.Value.{zero+}
+use Rattle.interval.specs.Ops.{newOf}
 use Rattle.interval.specs.declared.Interval.{Interval}
 use Rattle.interval.specs.declared.New.{New}
 use Rattle.interval.specs.declared.New.the-variants.{Made, Nothing}
-use Rattle.bounds.specs.declared.jet.Jet.{Jet}
-use Rattle.bounds.specs.declared.start.Point.{Point}
-use Rattle.bounds.specs.declared.net.NetAnswer.{NetAnswer}
+use Rattle.runs.specs.declared.vector.Vector.{Vector}
+use Rattle.jets.specs.declared.net.NetAnswer.{NetAnswer}
+use Rattle.bounds.specs.declared.start.Extremes.{Extremes}
 use Rattle.bounds.specs.declared.start.Weights.{Weights}
 use Rattle.bounds.specs.declared.start.Weights.the-variants as W
-use Rattle.bounds.specs.declared.cartesian.BoundAnswer.{BoundAnswer}
-use Rattle.bounds.specs.declared.cartesian.BoundAnswer.the-variants as B
-use Rattle.bounds.specs.Net.{filledOf}
-use Rattle.bounds.specs.Start.{maxFrom, minFrom, rangeOf, pointAt, rowOf}
-use Rattle.bounds.specs.Cartesian.{netBy}
-use Rattle.bounds.specs.Range.{weightAt, spanOver, rangeRefusal}
+use Rattle.jets.specs.declared.cartesian.BoundAnswer.{BoundAnswer}
+use Rattle.jets.specs.declared.cartesian.BoundAnswer.the-variants as B
+use Rattle.jets.specs.Net.{filledOf}
+use Rattle.bounds.specs.Start.{maxFrom, minFrom, rangeOf, rowOf}
+use Rattle.runs.specs.Point as P
+use Rattle.jets.specs.Cartesian.{netBy}
+use Rattle.ranges.specs.Range.{spanOver, rangeRefusal}
+use Rattle.runs.specs.Weight.{weightAt}
 use Rattle.bounds.specs.Answer.{boundedOf}
 use Rattle.bounds.specs.declared.answer.Bounded.{Bounded}
 use Rattle.knots.specs.declared.refusal.Refusal.{Refusal}
@@ -28,7 +29,7 @@ use Rattle.knots.specs.Refusal as R
 use Rattle.knots.specs.Refusal.{degree-high, range-bad}
 use Rattle.knots.specs.Surface.{surfaceRefusal}
 use Rattle.bounds.specs.Curve.{unless}
-use Rattle.bounds.specs.Jet.{parameterOf}
+use Rattle.jets.specs.Jet.{parameterOf, secondOf}
 
 -- refusals of two ranges: 31, then 24, 25 for u and for v
 unfoldable pub rangesRefusal : ℕ → ℕ → ℕ → ℕ → ℕ → ℕ → Float → Float → Float → Float → Refusal
@@ -43,17 +44,17 @@ unfoldable pub minRows : (ℕ → ℕ → Float) → ℕ → ℕ → Float
 minRows w k zero = inf false
 minRows w k (suc m) = minFrom (minRows w k m) (w m) k
 
--- the second parameter as a jet
-unfoldable pub secondOf : Interval → Jet
-secondOf range = record { v = range; du = pointOf zero+; dv = pointOf one+ }
+-- both
+unfoldable pub netExtremes : (ℕ → ℕ → Float) → ℕ → ℕ → Extremes
+netExtremes w k m = record { least = minRows w k m; most = maxRows w k m }
 
 module _ (p q us vs : ℕ) (uk vk : List Float) (nv : ℕ) (ps ws : List Float) (r : Bool) (ulo uhi vlo vhi : Float) where
   -- where row m of the active net starts
   abbrev pub firstAt : ℕ → ℕ
   firstAt m = (us - p + m) * nv + (vs - q)
 
-  abbrev pub corner : Point
-  corner = pointAt ps ((us - p) * nv + (vs - q))
+  abbrev pub corner : Vector
+  corner = P.pointOf ps ((us - p) * nv + (vs - q))
 
   -- row m along v
   unfoldable pub rowAt : Float → Interval → ℕ → NetAnswer
@@ -86,22 +87,18 @@ surfaceOf p q uk vk nu nv ps r ws ulo uhi vlo vhi =
     unless (surfaceRefusal p q uk vk nu nv ps r ws)
     (boundedBy p q (spanOver p nu uk ulo uhi) (spanOver q nv vk vlo vhi) uk vk nu nv ps r ws ulo uhi vlo vhi)
 
--- ---- what the parts of the code ask: the rows of an active net lie in the runs
+-- ---- what the parts of the code ask: the places of an active net are small
 
-pub record RowsFit (r : Bool) (weights row rows nv col cols : ℕ) : Type 0 where
+pub record RowsFit (row rows nv col cols : ℕ) : Type 0 where
   pub few : row + rows < 2097152
   pub small : (m : ℕ) → m < rows → (row + m) * nv + col + cols < 2097152
-  pub inside : r ≡ true → (m : ℕ) → m < rows → (row + m) * nv + col + cols ≤ weights
 
-abbrev pub RowsIn : ℕ → ℕ → ℕ → ℕ → ℕ → ℕ → Type 0
-RowsIn points row rows nv col cols = (m : ℕ) → m < rows → ((row + m) * nv + col) * 3 + cols * 3 ≤ points
-
-pub record SpansFit (p q us vs uk vk nv points weights : ℕ) (r : Bool) : Type 0 where
+pub record SpansFit (p q us vs uk vk nv : ℕ) : Type 0 where
   pub p-small : p ≤ 64
   pub q-small : q ≤ 64
   pub u-low : p ≤ us
   pub v-low : q ≤ vs
   pub u-room : us + p < uk
   pub v-room : vs + q < vk
-  pub fit : RowsFit r weights (us - p) (p + 1) nv (vs - q) (q + 1)
-  pub inside : RowsIn points (us - p) (p + 1) nv (vs - q) (q + 1)
+  pub corner : (us - p) * nv + (vs - q) < 2097152
+  pub fit : RowsFit (us - p) (p + 1) nv (vs - q) (q + 1)

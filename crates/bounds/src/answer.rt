@@ -1,7 +1,7 @@
 // What a bound answers.
-use crate::cartesian::BoundAnswer;
-use crate::cartesian::Bounds;
 use interval::Interval;
+use jets::cartesian::BoundAnswer;
+use jets::cartesian::Bounds;
 use knots::refusal::Refusal;
 use knots::refusal::refuse;
 ghost use mathlib.Core.Path.{_≡_};

@@ -1,22 +1,22 @@
 // Bounds of a curve on one nonempty span.
 use crate::answer::Bounded;
 use crate::answer::answer_of;
-use crate::cartesian::BoundAnswer;
-use crate::cartesian::cartesian_of;
-use crate::jet::parameter;
-use crate::range::range_refusal;
-use crate::range::span_over;
-use crate::read::start_refusal;
+use crate::levels::Along;
 use crate::start::Weights;
-use crate::start::point_at;
 use crate::start::row_of;
 use crate::start::weights_of;
 use interval::Interval;
 use interval::New;
+use jets::cartesian::BoundAnswer;
+use jets::cartesian::cartesian_of;
+use jets::jet::parameter;
 use knots::curve::curve_refusal;
+use ranges::range::range_refusal;
+use ranges::range::span_over;
+use ranges::read::start_refusal;
+use runs::points::point_at;
 ghost use mathlib.Core.Path.{_≡_};
-ghost use mathlib.Core.Bool.{true};
-ghost use Prim.Native.Nat.{_+_, _*_, _≤_, _<_};
+ghost use Prim.Native.Nat.{_+_, _≤_, _<_};
 ghost use lib.ListN.{length};
 ghost use Rattle.bounds.specs.Curve.{boundOf, boundAt, spanBound};
 ghost use Rattle.bounds.specs.Holds.{Holds, HoldsOn};
@@ -35,9 +35,7 @@ fn on_span(
     requires { ⌜ degree ≤ 64 ⌝ }
     requires { ⌜ degree ≤ s ⌝ }
     requires { ⌜ s + degree < length (now knots) ⌝ }
-    requires { ⌜ s * 3 + 2 < length (now points) ⌝ }
-    requires { ⌜ length (now points) ≤ 1048576 ⌝ }
-    requires { ⌜ (rational ≡ true → s < length (now weights)) ⌝ }
+    requires { ⌜ s < 1048576 ⌝ }
     ensures { λ r. ⌜ r ≡ spanBound degree s (now (knots .entry)) (now (points .entry)) (now (weights .entry)) rational lo hi ⌝ }
 {
     let first = s - degree;
@@ -45,22 +43,12 @@ fn on_span(
         Weights::Are(scale, bound) => {
             let o = point_at(points, first);
             match Interval::new(lo, hi) {
-                New::Made(range) => cartesian_of(
-                    row_of(
-                        points,
-                        weights,
-                        rational,
-                        first,
-                        o,
-                        scale,
-                        knots,
-                        degree,
-                        s,
-                        parameter(range),
-                    ),
-                    o,
-                    bound,
-                ),
+                New::Made(range) => {
+                    let t = parameter(range);
+                    let along = Along { degree, span: s, t };
+                    let net = row_of(points, weights, rational, first, o, scale, knots, along);
+                    cartesian_of(net, o, bound)
+                }
                 New::Nothing => BoundAnswer::Refused(24),
             }
         }

@@ -1,11 +1,8 @@
 // Outward bounds of rational B-spline curves and surfaces: the source's nurbs_bounds.rs.
 pub mod answer;
-mod cartesian;
 pub mod curve;
-mod jet;
-mod net;
-mod range;
-mod read;
+mod levels;
 mod rows;
 mod start;
+pub mod store;
 pub mod surface;

@@ -1,53 +1,42 @@
 // Bounds of a surface on one rectangle of nonempty spans.
-use crate::cartesian::BoundAnswer;
-use crate::cartesian::cartesian_of;
-use crate::jet::Jet;
-use crate::jet::parameter;
-use crate::net::NetAnswer;
-use crate::net::step;
-use crate::net::zero_control;
-use crate::start::Point;
+use crate::levels::Along;
+use crate::levels::Place;
+use crate::levels::next_place;
+use crate::levels::step_at;
+use crate::start::Extremes;
 use crate::start::Weights;
-use crate::start::max_weight;
-use crate::start::min_weight;
-use crate::start::point_at;
+use crate::start::extreme_weights;
+use crate::start::no_extremes;
 use crate::start::range_of;
 use crate::start::row_of;
 use interval::Interval;
 use interval::New;
-use interval::float::infinity;
+use jets::cartesian::BoundAnswer;
+use jets::cartesian::cartesian_of;
+use jets::jet::parameter;
+use jets::jet::second;
+use jets::net::NetAnswer;
+use jets::net::zero_control;
+use runs::points::point_at;
+use runs::vector::Vector;
 ghost use mathlib.Core.Path.{_≡_};
-ghost use mathlib.Core.Bool.{true};
 ghost use Prim.Native.Nat.{ℕ, _+_, _-_, _*_, _≤_, _<_};
 ghost use lib.ListN.{length};
-ghost use Rattle.bounds.specs.Net.{filledOf};
-ghost use Rattle.bounds.specs.Range.{weightAt};
+ghost use Rattle.jets.specs.Net.{filledOf};
+ghost use Rattle.runs.specs.Weight.{weightAt};
 ghost use Rattle.bounds.specs.Start.{rowOf, rangeOf};
-ghost use Rattle.bounds.specs.Surface.{maxRows, minRows, secondOf, RowsFit, RowsIn, SpansFit, spansBound};
+ghost use Rattle.bounds.specs.Surface.{maxRows, minRows, netExtremes, RowsFit, SpansFit, spansBound};
 
-fn max_rows(
-    rational: bool,
-    weights: &[f64],
-    row: usize,
-    rows: usize,
-    nv: usize,
-    col: usize,
-    cols: usize,
-) -> f64
-    requires { ⌜ RowsFit rational (length (now weights)) row rows nv col cols ⌝ }
-    ensures { λ r. ⌜ r ≡ maxRows (λ m k. weightAt rational (now (weights .entry)) ((row + m) * nv + col + k)) cols rows ⌝ }
-{
-    let mut most = 0.0;
-    let mut m = 0usize;
-    while m < rows {
-        let i = row + m;
-        most = max_weight(most, rational, weights, i * nv + col, cols);
-        m += 1;
-    }
-    most
+// One parameter of a surface: its degree, its count of points and a closed range.
+pub struct Side {
+    pub degree: usize,
+    pub count: usize,
+    pub lo: f64,
+    pub hi: f64,
 }
 
-fn min_rows(
+// The smallest and the largest of a net of weights, row by row.
+fn net_extremes(
     rational: bool,
     weights: &[f64],
     row: usize,
@@ -55,18 +44,18 @@ fn min_rows(
     nv: usize,
     col: usize,
     cols: usize,
-) -> f64
-    requires { ⌜ RowsFit rational (length (now weights)) row rows nv col cols ⌝ }
-    ensures { λ r. ⌜ r ≡ minRows (λ m k. weightAt rational (now (weights .entry)) ((row + m) * nv + col + k)) cols rows ⌝ }
+) -> Extremes
+    requires { ⌜ RowsFit row rows nv col cols ⌝ }
+    ensures { λ r. ⌜ r ≡ netExtremes (λ m k. weightAt rational (now (weights .entry)) ((row + m) * nv + col + k)) cols rows ⌝ }
 {
-    let mut least = infinity();
+    let mut found = no_extremes();
     let mut m = 0usize;
     while m < rows {
         let i = row + m;
-        least = min_weight(least, rational, weights, i * nv + col, cols);
+        found = extreme_weights(found, rational, weights, i * nv + col, cols);
         m += 1;
     }
-    least
+    found
 }
 
 // The rows along v, and all levels along u on the column of them.
@@ -77,33 +66,28 @@ fn rows_of(
     row: usize,
     nv: usize,
     col: usize,
-    o: Point,
+    o: Vector,
     scale: f64,
     vk: &[f64],
-    q: usize,
-    vs: usize,
-    v: Jet,
+    v: Along,
     uk: &[f64],
-    p: usize,
-    us: usize,
-    u: Jet,
+    u: Along,
 ) -> NetAnswer
-    requires { ⌜ p ≤ 64 ⌝ }
-    requires { ⌜ p ≤ us ⌝ }
-    requires { ⌜ us + p < length (now uk) ⌝ }
-    requires { ⌜ q ≤ 64 ⌝ }
-    requires { ⌜ q ≤ vs ⌝ }
-    requires { ⌜ vs + q < length (now vk) ⌝ }
-    requires { ⌜ RowsFit rational (length (now weights)) row (p + 1) nv col (q + 1) ⌝ }
-    requires { ⌜ RowsIn (length (now points)) row (p + 1) nv col (q + 1) ⌝ }
-    ensures { λ a. ⌜ a ≡ filledOf (now (uk .entry)) p us u (λ m. rowOf (now (points .entry)) (now (weights .entry)) rational ((row + m) * nv + col) o scale (now (vk .entry)) q vs v) ⌝ }
+    requires { ⌜ u .degree ≤ 64 ⌝ }
+    requires { ⌜ u .degree ≤ u .span ⌝ }
+    requires { ⌜ u .span + u .degree < length (now uk) ⌝ }
+    requires { ⌜ v .degree ≤ 64 ⌝ }
+    requires { ⌜ v .degree ≤ v .span ⌝ }
+    requires { ⌜ v .span + v .degree < length (now vk) ⌝ }
+    requires { ⌜ RowsFit row (u .degree + 1) nv col (v .degree + 1) ⌝ }
+    ensures { λ a. ⌜ a ≡ filledOf (now (uk .entry)) (u .degree) (u .span) (u .t) (λ m. rowOf (now (points .entry)) (now (weights .entry)) rational ((row + m) * nv + col) o scale (now (vk .entry)) (v .degree) (v .span) (v .t)) ⌝ }
 {
+    let p = u.degree;
     let mut net = [zero_control(); 65];
     let mut m = 0usize;
     while m <= p {
         let i = row + m;
-        let base = i * nv + col;
-        match row_of(points, weights, rational, base, o, scale, vk, q, vs, v) {
+        match row_of(points, weights, rational, i * nv + col, o, scale, vk, v) {
             NetAnswer::Is(c) => {
                 net[m] = c;
             }
@@ -113,13 +97,11 @@ fn rows_of(
         }
         m += 1;
     }
-    let mut level = 1usize;
-    let mut j = p;
-    while level <= p {
-        let a = us - p + j;
-        let b = us + j - level + 1;
+    let mut at = Place { level: 1, j: p };
+    while at.level <= p {
+        let j = at.j;
         let k = j - 1;
-        match step(u, uk[a], uk[b], net[k], net[j]) {
+        match step_at(u, uk, at, net[k], net[j]) {
             NetAnswer::Is(c) => {
                 net[j] = c;
             }
@@ -127,25 +109,9 @@ fn rows_of(
                 return NetAnswer::Refused(n);
             }
         }
-        if j > level {
-            j -= 1;
-        } else {
-            level += 1;
-            j = p;
-        }
+        at = next_place(at, p);
     }
     NetAnswer::Is(net[p])
-}
-
-// The second parameter as a jet.
-fn second(range: Interval) -> Jet
-    ensures { λ r. ⌜ r ≡ secondOf range ⌝ }
-{
-    Jet {
-        v: range,
-        du: Interval::point(0.0),
-        dv: Interval::point(1.0),
-    }
 }
 
 // The scale and the enclosure of the active weights.
@@ -158,65 +124,61 @@ fn weights_in(
     col: usize,
     cols: usize,
 ) -> Weights
-    requires { ⌜ RowsFit rational (length (now weights)) row rows nv col cols ⌝ }
+    requires { ⌜ RowsFit row rows nv col cols ⌝ }
     ensures { λ r. ⌜ r ≡ rangeOf (minRows (λ m k. weightAt rational (now (weights .entry)) ((row + m) * nv + col + k)) cols rows) (maxRows (λ m k. weightAt rational (now (weights .entry)) ((row + m) * nv + col + k)) cols rows) ⌝ }
 {
-    let most = max_rows(rational, weights, row, rows, nv, col, cols);
-    let least = min_rows(rational, weights, row, rows, nv, col, cols);
-    range_of(least, most)
+    let found = net_extremes(rational, weights, row, rows, nv, col, cols);
+    range_of(found.least, found.most)
 }
 
 // The bounds on spans us and vs.
 pub fn on_spans(
-    p: usize,
-    q: usize,
+    u: Side,
+    v: Side,
     us: usize,
     vs: usize,
     uk: &[f64],
     vk: &[f64],
-    nv: usize,
     points: &[f64],
     weights: &[f64],
     rational: bool,
-    ulo: f64,
-    uhi: f64,
-    vlo: f64,
-    vhi: f64,
 ) -> BoundAnswer
-    requires { ⌜ SpansFit p q us vs (length (now uk)) (length (now vk)) nv (length (now points)) (length (now weights)) rational ⌝ }
-    ensures { λ r. ⌜ r ≡ spansBound p q us vs (now (uk .entry)) (now (vk .entry)) nv (now (points .entry)) (now (weights .entry)) rational ulo uhi vlo vhi ⌝ }
+    requires { ⌜ SpansFit (u .degree) (v .degree) us vs (length (now uk)) (length (now vk)) (v .count) ⌝ }
+    ensures { λ r. ⌜ r ≡ spansBound (u .degree) (v .degree) us vs (now (uk .entry)) (now (vk .entry)) (v .count) (now (points .entry)) (now (weights .entry)) rational (u .lo) (u .hi) (v .lo) (v .hi) ⌝ }
 {
-    let row = us - p;
-    let col = vs - q;
-    match weights_in(rational, weights, row, p + 1, nv, col, q + 1) {
-        Weights::Are(scale, bound) => match Interval::new(vlo, vhi) {
-            New::Made(iv) => match Interval::new(ulo, uhi) {
+    let row = us - u.degree;
+    let col = vs - v.degree;
+    let nv = v.count;
+    match weights_in(rational, weights, row, u.degree + 1, nv, col, v.degree + 1) {
+        Weights::Are(scale, bound) => match Interval::new(v.lo, v.hi) {
+            New::Made(iv) => match Interval::new(u.lo, u.hi) {
                 New::Made(iu) => {
                     let o = point_at(points, row * nv + col);
-                    let v = second(iv);
-                    let u = parameter(iu);
-                    cartesian_of(
-                        rows_of(
-                            points,
-                            weights,
-                            rational,
-                            row,
-                            nv,
-                            col,
-                            o,
-                            scale,
-                            vk,
-                            q,
-                            vs,
-                            v,
-                            uk,
-                            p,
-                            us,
-                            u,
-                        ),
+                    let along_v = Along {
+                        degree: v.degree,
+                        span: vs,
+                        t: second(iv),
+                    };
+                    let along_u = Along {
+                        degree: u.degree,
+                        span: us,
+                        t: parameter(iu),
+                    };
+                    let net = rows_of(
+                        points,
+                        weights,
+                        rational,
+                        row,
+                        nv,
+                        col,
                         o,
-                        bound,
-                    )
+                        scale,
+                        vk,
+                        along_v,
+                        uk,
+                        along_u,
+                    );
+                    cartesian_of(net, o, bound)
                 }
                 New::Nothing => BoundAnswer::Refused(24),
             },

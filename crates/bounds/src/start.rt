@@ -1,57 +1,64 @@
 // The net that a bound starts with: weights over the largest, and points relative to the first.
-use crate::jet::Jet;
-use crate::net::Control;
-use crate::net::NetAnswer;
-use crate::net::step;
-use crate::net::zero_control;
+use crate::levels::Along;
+use crate::levels::Place;
+use crate::levels::next_place;
+use crate::levels::step_at;
 use interval::Interval;
 use interval::New;
 use interval::Quotient;
 use interval::float::infinity;
 use interval::float::max;
 use interval::float::min;
+use jets::jet::Jet;
+use jets::net::Control;
+use jets::net::NetAnswer;
+use jets::net::zero_control;
+use runs::points::point_at;
+use runs::vector::Vector;
+use runs::weights::weight_at;
 ghost use mathlib.Core.Path.{_≡_};
-ghost use mathlib.Core.Bool.{true};
-ghost use Prim.Native.Nat.{_+_, _*_, _≤_, _<_};
+ghost use Prim.Native.Nat.{_+_, _≤_, _<_};
 ghost use lib.ListN.{length};
-ghost use Rattle.bounds.specs.Net.{deboorOf};
-ghost use Rattle.bounds.specs.Range.{weightAt};
-ghost use Rattle.bounds.specs.Start.{maxFrom, minFrom, rangeOf, weightsOf, movedOf, controlOf, pointAt, startAt, rowOf};
+ghost use Rattle.jets.specs.Net.{deboorOf};
+ghost use Rattle.runs.specs.Weight.{weightAt};
+ghost use Rattle.bounds.specs.Start.{extremesOf, noExtremes, rangeOf, weightsOf, movedOf, controlOf, startAt, rowOf};
 
-pub fn weight_at(rational: bool, weights: &[f64], i: usize) -> f64
-    requires { ⌜ (rational ≡ true → i < length (now weights)) ⌝ }
-    ensures { λ r. ⌜ r ≡ weightAt rational (now (weights .entry)) i ⌝ }
-{
-    if rational { weights[i] } else { 1.0 }
+pub struct Extremes {
+    pub least: f64,
+    pub most: f64,
 }
 
-// The largest of a number and some weights.
-pub fn max_weight(best: f64, rational: bool, weights: &[f64], first: usize, count: usize) -> f64
+// The smallest and the largest of two numbers and some weights.
+pub fn extreme_weights(
+    from: Extremes,
+    rational: bool,
+    weights: &[f64],
+    first: usize,
+    count: usize,
+) -> Extremes
     requires { ⌜ first + count < 2097152 ⌝ }
-    requires { ⌜ (rational ≡ true → first + count ≤ length (now weights)) ⌝ }
-    ensures { λ r. ⌜ r ≡ maxFrom best (λ m. weightAt rational (now (weights .entry)) (first + m)) count ⌝ }
+    ensures { λ r. ⌜ r ≡ extremesOf from (λ m. weightAt rational (now (weights .entry)) (first + m)) count ⌝ }
 {
-    let mut most = best;
+    let mut least = from.least;
+    let mut most = from.most;
     let mut m = 0usize;
     while m < count {
-        most = max(most, weight_at(rational, weights, first + m));
+        let w = weight_at(rational, weights, first + m);
+        least = min(least, w);
+        most = max(most, w);
         m += 1;
     }
-    most
+    Extremes { least, most }
 }
 
-pub fn min_weight(best: f64, rational: bool, weights: &[f64], first: usize, count: usize) -> f64
-    requires { ⌜ first + count < 2097152 ⌝ }
-    requires { ⌜ (rational ≡ true → first + count ≤ length (now weights)) ⌝ }
-    ensures { λ r. ⌜ r ≡ minFrom best (λ m. weightAt rational (now (weights .entry)) (first + m)) count ⌝ }
+// What the extremes of no weights are.
+pub fn no_extremes() -> Extremes
+    ensures { λ r. ⌜ r ≡ noExtremes ⌝ }
 {
-    let mut least = best;
-    let mut m = 0usize;
-    while m < count {
-        least = min(least, weight_at(rational, weights, first + m));
-        m += 1;
+    Extremes {
+        least: infinity(),
+        most: 0.0,
     }
-    least
 }
 
 // The scale and the enclosure of the weight, or the number of a refusal.
@@ -81,18 +88,10 @@ pub fn range_of(least: f64, most: f64) -> Weights
 
 pub fn weights_of(rational: bool, weights: &[f64], first: usize, count: usize) -> Weights
     requires { ⌜ first + count < 2097152 ⌝ }
-    requires { ⌜ (rational ≡ true → first + count ≤ length (now weights)) ⌝ }
     ensures { λ r. ⌜ r ≡ weightsOf (λ m. weightAt rational (now (weights .entry)) (first + m)) count ⌝ }
 {
-    let most = max_weight(0.0, rational, weights, first, count);
-    let least = min_weight(infinity(), rational, weights, first, count);
-    range_of(least, most)
-}
-
-pub struct Point {
-    pub x: f64,
-    pub y: f64,
-    pub z: f64,
+    let found = extreme_weights(no_extremes(), rational, weights, first, count);
+    range_of(found.least, found.most)
 }
 
 fn moved(p: f64, o: f64, weight: Interval) -> Jet
@@ -101,7 +100,7 @@ fn moved(p: f64, o: f64, weight: Interval) -> Jet
     Jet::constant(Interval::point(p).sub(Interval::point(o)).mul(weight))
 }
 
-fn control(p: Point, o: Point, w: f64, r: Interval) -> Control
+fn control(p: Vector, o: Vector, w: f64, r: Interval) -> Control
     ensures { λ c. ⌜ c ≡ controlOf p o w r ⌝ }
 {
     let q = Interval::point(w).mul(r);
@@ -113,38 +112,24 @@ fn control(p: Point, o: Point, w: f64, r: Interval) -> Control
     }
 }
 
-pub fn point_at(points: &[f64], i: usize) -> Point
-    requires { ⌜ i * 3 + 2 < length (now points) ⌝ }
-    ensures { λ r. ⌜ r ≡ pointAt (now (points .entry)) i ⌝ }
-{
-    let k = i * 3;
-    Point {
-        x: points[k],
-        y: points[k + 1],
-        z: points[k + 2],
-    }
-}
-
-// The net of a row, and all levels on it: the places from the degree down to the level. The array is filled and used here, since a net that is passed is copied.
+// The net of a row, and all levels on it.
 fn row_by(
     points: &[f64],
     weights: &[f64],
     rational: bool,
     base: usize,
-    o: Point,
+    o: Vector,
     r: Interval,
     knots: &[f64],
-    degree: usize,
-    span: usize,
-    t: Jet,
+    along: Along,
 ) -> NetAnswer
-    requires { ⌜ degree ≤ 64 ⌝ }
-    requires { ⌜ degree ≤ span ⌝ }
-    requires { ⌜ span + degree < length (now knots) ⌝ }
-    requires { ⌜ base * 3 + degree * 3 + 2 < length (now points) ⌝ }
-    requires { ⌜ (rational ≡ true → base + degree < length (now weights)) ⌝ }
-    ensures { λ a. ⌜ a ≡ deboorOf (now (knots .entry)) degree span t (startAt (now (points .entry)) (now (weights .entry)) rational base o r) ⌝ }
+    requires { ⌜ along .degree ≤ 64 ⌝ }
+    requires { ⌜ along .degree ≤ along .span ⌝ }
+    requires { ⌜ along .span + along .degree < length (now knots) ⌝ }
+    requires { ⌜ base + along .degree < 2097152 ⌝ }
+    ensures { λ a. ⌜ a ≡ deboorOf (now (knots .entry)) (along .degree) (along .span) (along .t) (startAt (now (points .entry)) (now (weights .entry)) rational base o r) ⌝ }
 {
+    let degree = along.degree;
     let mut net = [zero_control(); 65];
     let mut m = 0usize;
     while m <= degree {
@@ -152,13 +137,14 @@ fn row_by(
         net[m] = control(point_at(points, i), o, weight_at(rational, weights, i), r);
         m += 1;
     }
-    let mut level = 1usize;
-    let mut j = degree;
-    while level <= degree {
-        let a = span - degree + j;
-        let b = span + j - level + 1;
+    let mut at = Place {
+        level: 1,
+        j: degree,
+    };
+    while at.level <= degree {
+        let j = at.j;
         let k = j - 1;
-        match step(t, knots[a], knots[b], net[k], net[j]) {
+        match step_at(along, knots, at, net[k], net[j]) {
             NetAnswer::Is(c) => {
                 net[j] = c;
             }
@@ -166,12 +152,7 @@ fn row_by(
                 return NetAnswer::Refused(n);
             }
         }
-        if j > level {
-            j -= 1;
-        } else {
-            level += 1;
-            j = degree;
-        }
+        at = next_place(at, degree);
     }
     NetAnswer::Is(net[degree])
 }
@@ -182,33 +163,19 @@ pub fn row_of(
     weights: &[f64],
     rational: bool,
     base: usize,
-    o: Point,
+    o: Vector,
     scale: f64,
     knots: &[f64],
-    degree: usize,
-    span: usize,
-    t: Jet,
+    along: Along,
 ) -> NetAnswer
-    requires { ⌜ degree ≤ 64 ⌝ }
-    requires { ⌜ degree ≤ span ⌝ }
-    requires { ⌜ span + degree < length (now knots) ⌝ }
-    requires { ⌜ base * 3 + degree * 3 + 2 < length (now points) ⌝ }
-    requires { ⌜ (rational ≡ true → base + degree < length (now weights)) ⌝ }
-    ensures { λ a. ⌜ a ≡ rowOf (now (points .entry)) (now (weights .entry)) rational base o scale (now (knots .entry)) degree span t ⌝ }
+    requires { ⌜ along .degree ≤ 64 ⌝ }
+    requires { ⌜ along .degree ≤ along .span ⌝ }
+    requires { ⌜ along .span + along .degree < length (now knots) ⌝ }
+    requires { ⌜ base + along .degree < 2097152 ⌝ }
+    ensures { λ a. ⌜ a ≡ rowOf (now (points .entry)) (now (weights .entry)) rational base o scale (now (knots .entry)) (along .degree) (along .span) (along .t) ⌝ }
 {
     match interval::reciprocal(Interval::point(scale)) {
-        Quotient::Is(r) => row_by(
-            points,
-            weights,
-            rational,
-            base,
-            o,
-            r,
-            knots,
-            degree,
-            span,
-            t,
-        ),
+        Quotient::Is(r) => row_by(points, weights, rational, base, o, r, knots, along),
         Quotient::HoldsZero => NetAnswer::Refused(26),
         Quotient::Unbounded => NetAnswer::Refused(28),
     }

@@ -12,7 +12,8 @@ use lib.Ieee.{Float, nan, inf, fin, Format, binary64, fits, isNan, lt, le, toBit
 use lib.Ieee.Bits.{is-false}
 use Rattle.doubles.specs.Value.{signed, Number}
 use Rattle.doubles.specs.Place.{sign-bit, infPat, mag, place, wrapped}
-use Rattle.doubles.proofs.Place.{mag-lt, toBits-split, lt-place}
+use Rattle.doubles.proofs.Place.{mag-lt, toBits-split}
+use Rattle.doubles.proofs.PlaceOrder.{lt-place}
 use Rattle.doubles.proofs.Order.{le-not}
 
 -- ---- a number's pattern is its sign's weight and its size's pattern
@@ -41,7 +42,8 @@ place-low x n h = go (sign-bit x) (bits-split binary64 x n)
     go true e = absurd (no (toBits binary64 x) (mag binary64 x) e h)
     go false e = ap pos (e ∙ zero-add (mag binary64 x))
 
-pub place-high : (x : Float) → T (fits binary64 x) → Number x → 9223372036854775808 ≤ toBits binary64 x → (toBits binary64 x - 9223372036854775808 ≡ mag binary64 x) × (negℤ (pos (mag binary64 x)) ≡ place binary64 x)
+pub place-high : (x : Float) → T (fits binary64 x) → Number x → 9223372036854775808 ≤ toBits binary64 x
+    → (toBits binary64 x - 9223372036854775808 ≡ mag binary64 x) × (negℤ (pos (mag binary64 x)) ≡ place binary64 x)
 place-high x f n h = go (sign-bit x) (bits-split binary64 x n)
   where
     no : (a b : ℕ) → a ≡ 0 + b → 9223372036854775808 ≤ a → b < 9223372036854775808 → ⊥
@@ -50,7 +52,8 @@ place-high x f n h = go (sign-bit x) (bits-split binary64 x n)
     off : (a b : ℕ) → a ≡ 9223372036854775808 + b → a - 9223372036854775808 ≡ b
     off a b e = omega arith
 
-    go : (s : Bool) → toBits binary64 x ≡ cond s (top binary64) 0 + mag binary64 x → (toBits binary64 x - 9223372036854775808 ≡ mag binary64 x) × (negℤ (pos (mag binary64 x)) ≡ signed s (mag binary64 x))
+    go : (s : Bool) → toBits binary64 x ≡ cond s (top binary64) 0 + mag binary64 x
+        → (toBits binary64 x - 9223372036854775808 ≡ mag binary64 x) × (negℤ (pos (mag binary64 x)) ≡ signed s (mag binary64 x))
     go true e = (off (toBits binary64 x) (mag binary64 x) e, refl)
     go false e = absurd (no (toBits binary64 x) (mag binary64 x) e h (mag-small x f))
 
@@ -68,7 +71,8 @@ sub-large : (a b : ℕ) → b ≤ a → subℕ a b ≡ pos (a - b)
 sub-large a b h = ap (λ (t : Bool). cond t (negsuc (b - suc a)) (pos (a - b))) (is-false (ltb a b) (le→nltb a b h))
 
 -- a wrapped difference is the true one, where it is not negative and both are small
-pub distance : (r : ℕ) (a b : ℤ) → r < 18446744073709551616 → natAbs a < 9223372036854775808 → natAbs b < 9223372036854775808 → T (not (ltZ a b)) → (r + wrapped b) % 18446744073709551616 ≡ wrapped a → pos r ≡ a -ℤ b
+pub distance : (r : ℕ) (a b : ℤ) → r < 18446744073709551616 → natAbs a < 9223372036854775808 → natAbs b < 9223372036854775808 → T (not (ltZ a b)) → (r + wrapped b) % 18446744073709551616 ≡ wrapped a
+    → pos r ≡ a -ℤ b
 distance r (pos a) (pos zero) R A B h e = ap pos (go r a R A e)
   where
     go : (r a : ℕ) → r < 18446744073709551616 → a < 9223372036854775808 → (r + 0) % 18446744073709551616 ≡ a → r ≡ a + 0
@@ -87,7 +91,8 @@ distance r (negsuc a) (negsuc b) R A B h e = ap pos (go r a b R A B (nltb→le b
     up : (a b : ℕ) → a ≤ b → suc a ≤ suc b
     up a b h = omega arith
 
-    go : (r a b : ℕ) → r < 18446744073709551616 → suc a < 9223372036854775808 → suc b < 9223372036854775808 → a ≤ b → (r + (18446744073709551616 - suc b)) % 18446744073709551616 ≡ 18446744073709551616 - suc a → r ≡ suc b - suc a
+    go : (r a b : ℕ) → r < 18446744073709551616 → suc a < 9223372036854775808 → suc b < 9223372036854775808 → a ≤ b
+        → (r + (18446744073709551616 - suc b)) % 18446744073709551616 ≡ 18446744073709551616 - suc a → r ≡ suc b - suc a
     go r a b R A B h e = omega arith
 
 pub order : (lo hi : Float) → T (fits binary64 lo) → T (fits binary64 hi) → Number lo → Number hi → T (le lo hi) → T (not (ltZ (place binary64 hi) (place binary64 lo)))

@@ -146,7 +146,9 @@ above-rounds f t n d s num den D h k = go t s h (le-ratio s num den t (n * up d)
     go true true h k =
         let r = round f false num den in
         let x : r ⊑ fin false n d =
-        le-not r (fin false n d) (subst (λ (v : Float). T (le r v)) (own f false n d (neg-fits f (fin true n d) h)) (round-mono f num den (n * up d) (down d) D (down-pos d) (nltb→le (n * up d * den) (num * down d) k))) in
+        le-not
+        r (fin false n d)
+        (subst (λ (v : Float). T (le r v)) (own f false n d (neg-fits f (fin true n d) h)) (round-mono f num den (n * up d) (down d) D (down-pos d) (nltb→le (n * up d * den) (num * down d) k))) in
         subst (λ (v : Float). fin true n d ⊑ v) (sym (round-neg f false num den)) (subst (λ (b : Bool). T (not b)) (sym (neg-lt r (fin false n d))) x)
 
 -- ---- THE LEMMA. What is no smaller than the rounded fraction is, one step up, no smaller than the fraction; and the mirror of it.

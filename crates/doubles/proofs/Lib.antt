@@ -4,6 +4,7 @@ pub mod Order
 pub mod Tested
 pub mod Pattern
 pub mod Place
+pub mod PlaceOrder
 pub mod Neighbour
 pub mod Stepping
 pub mod Own

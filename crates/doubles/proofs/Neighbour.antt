@@ -14,7 +14,8 @@ use Rattle.doubles.specs.Neighbour.{upFrom, downFrom}
 use Rattle.doubles.proofs.Tests.{neg-neg}
 use Rattle.doubles.proofs.Order.{lt-left, lt-right, lt-top}
 use Rattle.doubles.specs.Place.{mag, place}
-use Rattle.doubles.proofs.Place.{up-place, up-number, lt-place}
+use Rattle.doubles.proofs.Place.{up-place, up-number}
+use Rattle.doubles.proofs.PlaceOrder.{lt-place}
 
 -- ---- whole numbers
 below-suc : (z : ℤ) → T (ltZ z (sucℤ z))

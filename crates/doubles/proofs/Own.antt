@@ -73,7 +73,10 @@ unique f (fin t m e) (fin u n d) s a c C h k p q =
     let M = ticks f (mag f y) in
     let v : N ≡ M = eq-of-mul-eq-mul-right c C N M (same-units (m * up e) N c a (down e) (2 ^ low f) (down-pos e) (p .1) (units-of f t m e h .1) ∙ sym (same-units (n * up d) M c a (down d) (2 ^ low f) (down-pos d) (q .1) (units-of f u n d k .1))) in
     let b : toBits f x ≡ toBits f y =
-    toBits-split f t m e ∙ ap (λ (z : Bool). cond z (lib.Ieee.top f) 0 + mag f x) (p .0 ∙ sym (q .0)) ∙ ap (λ (z : ℕ). cond u (lib.Ieee.top f) 0 + z) (ticks-inj f (mag f x) (mag f y) v) ∙ sym (toBits-split f u n d) in
+    toBits-split f t m e
+    ∙ ap (λ (z : Bool). cond z (lib.Ieee.top f) 0 + mag f x) (p .0 ∙ sym (q .0))
+    ∙ ap (λ (z : ℕ). cond u (lib.Ieee.top f) 0 + z) (ticks-inj f (mag f x) (mag f y) v)
+    ∙ sym (toBits-split f u n d) in
     sym (ofBits-toBits f x h) ∙ ap (ofBits f) b ∙ ofBits-toBits f y k
 
 -- ---- its own rounding

@@ -124,7 +124,8 @@ flip-le f x y m h = subst (λ (v : Float). neg m ⊑ v) (sym (mul-neg f x y)) (s
 mirror : (p q : ℚ) → negq (negq p *q q) ≡ p *q q
 mirror p q = q-ring (p ∷ q ∷ []) (search qring depth 20) tt
 
-pub mul-upper : (f : Format) (m : Float) → T (fits f m) → Number m → (p q : ℚ) (a b c d : Float) → Products Number f a b c d → Products (λ x. x ⊑ m) f a b c d → Lower a p → Upper b p → Lower c q → Upper d q → Upper (upFrom f m) (p *q q)
+pub mul-upper : (f : Format) (m : Float) → T (fits f m) → Number m → (p q : ℚ) (a b c d : Float) → Products Number f a b c d → Products (λ x. x ⊑ m) f a b c d → Lower a p → Upper b p → Lower c q
+    → Upper d q → Upper (upFrom f m) (p *q q)
 unfolding downFrom
 mul-upper f m hm nm p q a b c d N E A B C D =
     let l : Lower (neg (upFrom f (neg (neg m)))) (negq p *q q) =

@@ -22,7 +22,8 @@ use Rattle.doubles.specs.Scaled.{scaled, Between}
 use Rattle.doubles.proofs.Value.{below-yes, signed-mul, signed-times, den-pred, val-is}
 use Rattle.doubles.proofs.Order.{lt-irrefl as below-itself}
 use Rattle.doubles.proofs.Pattern.{ticks, ticks-zero}
-use Rattle.doubles.proofs.Place.{ltZ-signed, units-of, mag-zero}
+use Rattle.doubles.proofs.Place.{units-of, mag-zero}
+use Rattle.doubles.proofs.PlaceOrder.{ltZ-signed}
 use Rattle.doubles.proofs.Neighbour.{up-fits, down-fits}
 use Rattle.doubles.proofs.Sums.{Rounded, add-rounded, mul-rounded, rounded-lower, rounded-upper, rounded-number}
 
@@ -49,7 +50,10 @@ module _ (f : Format) (s : Bool) (m : ℕ) (e : ℤ) (h : T (fits f (fin s m e))
   scaled-val =
       val-is s m e
       ∙ frac-eq _ _ _ _
-      (over s (m * up e) (2 ^ low f) (unit-pos f) ∙ ap (signed s) scaled-exact ∙ sym (over s (ticks f (mag f (fin s m e))) (down e) (down-pos e)) ∙ ap (λ (z : ℤ). z ⊠ den (pred (down e))) (sym scaled-is))
+      (over s (m * up e) (2 ^ low f) (unit-pos f)
+      ∙ ap (signed s) scaled-exact
+      ∙ sym (over s (ticks f (mag f (fin s m e))) (down e) (down-pos e))
+      ∙ ap (λ (z : ℤ). z ⊠ den (pred (down e))) (sym scaled-is))
 
 -- ---- the order of fractions, by whole numbers
 
@@ -122,7 +126,12 @@ round-between f s num d D =
       den = d;
       proper = D;
       made = refl;
-      worth = frac-eq _ _ _ _ (ap (λ (z : ℤ). signed s num ⊠ z) (den-mul (pred d) (pred (2 ^ low f))) ∙ turn (signed s num) (den (pred d)) (den (pred (2 ^ low f))) ∙ ap (λ (z : ℤ). z ⊠ den (pred d)) (over s num (2 ^ low f) (unit-pos f)));
+      worth =
+          frac-eq
+          _ _ _ _
+          (ap (λ (z : ℤ). signed s num ⊠ z) (den-mul (pred d) (pred (2 ^ low f)))
+          ∙ turn (signed s num) (den (pred d)) (den (pred (2 ^ low f)))
+          ∙ ap (λ (z : ℤ). z ⊠ den (pred d)) (over s num (2 ^ low f) (unit-pos f)));
     })
   where
     turn : (a d l : ℤ) → a ⊠ (d ⊠ l) ≡ a ⊠ l ⊠ d
@@ -164,7 +173,8 @@ module _ (f : Format) (s : Bool) (m : ℕ) (e : ℤ) (t : Bool) (n : ℕ) (d : �
       (ap (λ (z : ℤ). signed (unlike s t) (m * up e * down d) ⊠ z) (den-mul (pred j) (pred L) ∙ ap (λ (z : ℤ). z ⊠ den (pred L)) (den-pred j J) ∙ over false j L (unit-pos f))
       ∙ signed-times (unlike s t) (m * up e * down d) (j * L)
       ∙ ap (signed (unlike s t)) (cross (m * up e) (suc n * up d) (down d) (down e) j k L (scaled-exact f s m e hx) (scaled-exact f t (suc n) d hy))
-      ∙ sym (ap (λ (z : ℤ). z ⊠ den (pred (suc n * up d * down e))) (signed-mul s k t L) ∙ over (unlike s t) (k * L) (suc n * up d * down e) (mul-pos (mul-pos (zero-lt-suc n) (up-pos d)) (down-pos e))))
+      ∙ sym
+      (ap (λ (z : ℤ). z ⊠ den (pred (suc n * up d * down e))) (signed-mul s k t L) ∙ over (unlike s t) (k * L) (suc n * up d * down e) (mul-pos (mul-pos (zero-lt-suc n) (up-pos d)) (down-pos e))))
 
   div-rounded : 0 < j → Rounded f (div f (fin s m e) (fin t (suc n) d)) (Of f (signed s k ⊠ signed t L) j)
   unfolding div

@@ -13,7 +13,8 @@ use Rattle.doubles.specs.Neighbour.{upFrom, fabs}
 use Rattle.doubles.specs.Value.{Number, _⊑_}
 use Rattle.doubles.specs.Place.{infPat, mag}
 use Rattle.doubles.proofs.Order.{lt-irrefl, ⊑-trans}
-use Rattle.doubles.proofs.Place.{fits-plus, infPat<top, lt-below, mag-lt, toBits-inf, toBits-split}
+use Rattle.doubles.proofs.Place.{fits-plus, infPat<top, mag-lt, toBits-inf, toBits-split}
+use Rattle.doubles.proofs.PlaceOrder.{lt-below}
 use Rattle.doubles.proofs.Stepping.{clear-inf}
 use Rattle.doubles.proofs.Symmetric.{Peak, peaks-up, farthest, farthest-peak}
 

@@ -70,7 +70,8 @@ module _ (f : Format) (a b c : ℕ) (C : 0 < c) where
       swap : pos b ⊞ ⊟ pos a ≡ signed true a ⊞ pos b
       swap = flipped (pos b) (pos a) ∙ ap (λ (z : ℤ). z ⊞ pos b) (sym (minus-is a))
 
-      go : (k : Bool) → (T k → a < b) → (T (not k) → b ≤ a) → (j : Bool) → (T (not j) → a ≤ b) → Rounded f (cond k (round f false (b - a) c) (round f j (a - b) c)) (frac (signed true a ⊞ pos b) (pred c))
+      go : (k : Bool) → (T k → a < b) → (T (not k) → b ≤ a) → (j : Bool) → (T (not j) → a ≤ b)
+          → Rounded f (cond k (round f false (b - a) c) (round f j (a - b) c)) (frac (signed true a ⊞ pos b) (pred c))
       go true h n j m = let l = h tt in by-num false (b - a) _ (take-away b a (omega arith) ∙ swap)
       go false h n true m = by-num true (a - b) _ (minus-is (a - b) ∙ ap ⊟_ (take-away a b (n tt)) ∙ turned (pos b) (pos a) ∙ swap)
       go false h n false m =

@@ -189,7 +189,9 @@ neg-top = refl
 neg-least : (p q r s : Float) → neg (least4 p q r s) ≡ greatest4 (neg p) (neg q) (neg r) (neg s)
 neg-least p q r s =
     neg-min _ s
-    ∙ ap (λ (z : Float). fmax z (neg s)) (neg-min _ r ∙ ap (λ (z : Float). fmax z (neg r)) (neg-min _ q ∙ ap (λ (z : Float). fmax z (neg q)) (neg-min (inf false) p ∙ ap (λ (z : Float). fmax z (neg p)) neg-top)))
+    ∙ ap
+    (λ (z : Float). fmax z (neg s))
+    (neg-min _ r ∙ ap (λ (z : Float). fmax z (neg r)) (neg-min _ q ∙ ap (λ (z : Float). fmax z (neg q)) (neg-min (inf false) p ∙ ap (λ (z : Float). fmax z (neg p)) neg-top)))
 
 -- ---- both ends
 module _ (f : Format) (p q r s : Float) (h : Four (λ x. T (fits f x)) p q r s) (n : Four Number p q r s) (a : Opposed p r) (b : Opposed q s) where
@@ -213,6 +215,8 @@ module _ (f : Format) (p q r s : Float) (h : Four (λ x. T (fits f x)) p q r s) 
   pub ends-swapped : Ends (least4 p r q s) (greatest4 p r q s)
   ends-swapped =
       let k = swapped (λ x. T (fits f x)) p r q s h in (
-        low-end (least4 p r q s) _ (neg-least p r q s) (peak-swapped _ _ _ _ _ (peak f _ _ _ _ (swapped (λ x. T (fits f x)) (neg p) (neg r) (neg q) (neg s) fits-neg) (swapped Number (neg p) (neg r) (neg q) (neg s) numbers-neg))),
+        low-end
+            (least4 p r q s) _ (neg-least p r q s)
+            (peak-swapped _ _ _ _ _ (peak f _ _ _ _ (swapped (λ x. T (fits f x)) (neg p) (neg r) (neg q) (neg s) fits-neg) (swapped Number (neg p) (neg r) (neg q) (neg s) numbers-neg))),
         peak-up p q r s n a b f _ (peak-swapped p q r s _ (peak f p r q s k (swapped Number p r q s n))),
       )

@@ -9,7 +9,8 @@ use native.Mathlib.Numerals.{add-one}
 use lib.ListN.{length}
 use lib.Ieee.{Float, eq}
 use Rattle.doubles.specs.Run.{at}
-use Rattle.insertion.specs.Counts.{bit}
+use Rattle.edits.specs.Counts.{bit}
+use Rattle.edits.proofs.CountLoop.{bit-le}
 use Rattle.elevation.specs.Breaks.{breaksFrom, breaksOf, isFull, fullCount}
 use Rattle.elevation.specs.Passes.{AtBreak, NextBreak, BreaksCounted}
 
@@ -54,10 +55,6 @@ module _ (ks : List Float) (n i : ℕ) where
     walk-end l = record { from = I .from; same = I .same; place = record { upto = I .upto; here = λ h. absurd (omega arith) } }
 
 -- ---- how many
-bit-le : (b : Bool) → bit b ≤ 1
-bit-le true = omega arith
-bit-le false = omega arith
-
 breaks-case : (ks : List Float) (i m : ℕ) (b : Bool) → eq (at ks (i - 1)) (at ks i) ≡ b → length (breaksFrom ks (suc i) m) ≤ m → length (breaksFrom ks i (suc m)) ≤ suc m
 unfolding breaksFrom
 breaks-case ks i m true e h = simp e (omega arith)
@@ -91,7 +88,8 @@ module _ (p : ℕ) (ks bs : List Float) where
   pub count-start : (ts : List Float) → bs ≡ ts → Counting p ks bs ts 0 0
   count-start ts e = subst (λ (x : List Float). Counting p ks bs x 0 0) e (record { breaks = omega arith; full = omega arith })
 
-  pub count-more : (n k k' a f g : ℕ) → Counting p ks bs (left ks n k) a f → AtBreak ks n k → k < n → NextBreak ks n (k + 1) k' → g ≡ f + bit (isFull p ks (at ks k)) → Counting p ks bs (left ks n k') (a + 1) g
+  pub count-more : (n k k' a f g : ℕ) → Counting p ks bs (left ks n k) a f → AtBreak ks n k → k < n → NextBreak ks n (k + 1) k'
+      → g ≡ f + bit (isFull p ks (at ks k)) → Counting p ks bs (left ks n k') (a + 1) g
   unfolding fullCount
   count-more n k k' a f g C B l N G =
       let D = subst (λ (x : List Float). Counting p ks bs x a f) (B .here l) C in

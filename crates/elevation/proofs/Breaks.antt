@@ -1,31 +1,24 @@
--- The breaks of a clamped curve: where they lie, how many knots they are, and that they can be made full.
+-- The breaks of a clamped curve: where they lie, and how many knots they are.
 -- Assumes nothing.
-use Prim.Native.Nat.{ℕ, zero, suc, _+_, _-_, _*_, _≤_, _<_}
+use Prim.Native.Nat.{ℕ, zero, suc, _+_, _-_, _≤_, _<_}
 use mathlib.Core.Bool.{Bool, true, false, cond}
 use mathlib.Core.Path.{_≡_, refl, _∙_, ap, subst}
 use mathlib.Core.List.{List, [], _∷_}
 use native.Mathlib.Omega.{arith}
 use native.Mathlib.Nat.{add-zero}
-use lib.ListN.{length, replicate, length-replicate, length-append}
+use lib.ListN.{length}
 use lib.Ieee.{Float, lt, eq}
 use lib.Ieee.Scale.{finite}
 use Rattle.doubles.specs.Run.{at}
 use Rattle.doubles.proofs.Tested.{ge-lt-trans, lt-ge-trans}
 use Rattle.knots.specs.Knots.{ValidKnots}
-use Rattle.knots.specs.declared.refusal.Refusal.{Refusal}
 use Rattle.knots.proofs.Valid.{sorted}
-use Rattle.insertion.specs.Counts.{bit, countBelow, multiplicityOf}
-use Rattle.insertion.specs.Rows.{given}
-use Rattle.insertion.specs.Insert.{inside}
-use Rattle.insertion.specs.Fold.{gives, refuses, insertAll}
-use Rattle.insertion.specs.Start.{clampedEnds}
+use Rattle.edits.specs.Counts.{bit, countBelow, multiplicityOf}
+use Rattle.edits.specs.Start.{clampedEnds}
 use Rattle.insertion.proofs.Grown.{count-run}
-use Rattle.insertion.proofs.Counted.{gt-not-eq, lt-not-eq, below-by, eq-finite, count-early, eq-self, eq-same, eq-sym, eq-lt-left, eq-lt-right, multiplicity-most, clamped-low, clamped-high}
+use Rattle.insertion.proofs.KnotCounts.{gt-not-eq, lt-not-eq, below-by, count-early, eq-self, eq-same, eq-sym, eq-lt-left, eq-lt-right, multiplicity-most, clamped-low, clamped-high}
 use Rattle.insertion.specs.Placed.{Each}
-use Rattle.insertion.proofs.Made.{countIn, each-append, each-replicate, each-map, count-append, count-replicate, Made, made, made-multiplicity}
-use Rattle.insertion.proofs.Never.{Late, late}
-use Rattle.insertion.proofs.Repeated.{inside-by, room-more}
-use Rattle.elevation.specs.Breaks.{breaksFrom, breaksOf, isFull, fullCount, missingAll}
+use Rattle.elevation.specs.Breaks.{breaksFrom, breaksOf}
 
 -- ---- what holds of each knot that differs from the one before it holds of each break
 pub breaks-each : (P : Float → Type 0) (ks : List Float) (i m : ℕ) → ((j : ℕ) → i ≤ j → j < i + m → eq (at ks (j - 1)) (at ks j) ≡ false → P (at ks j)) → Each P (breaksFrom ks i m)
@@ -70,77 +63,6 @@ from-cong f g i (suc m) h = let z : bit (f i) ≡ bit (g i) = ap bit (h i (omega
 unfoldable pub timesAll : List Float → List Float → ℕ
 timesAll ks [] = 0
 timesAll ks (t ∷ ts) = multiplicityOf ks t + timesAll ks ts
-
-pub missing-long : (p : ℕ) (ks bs : List Float) → Each (λ t. multiplicityOf ks t ≤ p + 1) bs → length (missingAll p ks bs) + timesAll ks bs ≡ (p + 1) * length bs
-unfolding missingAll timesAll
-missing-long p ks [] h = omega arith
-missing-long p ks (t ∷ ts) h =
-    let a = h .0 in
-    omega (arith, missing-long p ks ts (h .1), length-append (replicate (p + 1 - multiplicityOf ks t) t) (missingAll p ks ts), length-replicate (p + 1 - multiplicityOf ks t) t)
-
--- the points of a raised curve after its first segment
-unfoldable pub raisedCount : ℕ → List Float → ℕ → List Float → ℕ
-raisedCount p ks e [] = 0
-raisedCount p ks e (t ∷ ts) = e + bit (isFull p ks t) + raisedCount p ks e ts
-
-pub full-most : (p : ℕ) (ks bs : List Float) → fullCount p ks bs ≤ length bs
-unfolding fullCount
-full-most p ks [] = omega arith
-full-most p ks (t ∷ ts) = omega (arith, full-most p ks ts, one (isFull p ks t))
-  where
-    one : (b : Bool) → bit b ≤ 1
-    one true = omega arith
-    one false = omega arith
-
-raised-sum : (p : ℕ) (ks : List Float) (e : ℕ) (bs : List Float) → raisedCount p ks e bs ≡ e * length bs + fullCount p ks bs
-unfolding raisedCount fullCount
-raised-sum p ks e [] = omega arith
-raised-sum p ks e (t ∷ ts) = omega (arith, raised-sum p ks e ts)
-
-pub out-count : (p : ℕ) (ks : List Float) (e : ℕ) (bs : List Float) → (e + 1) + raisedCount p ks e bs ≡ (e + 1) * (length bs + 1) - length bs + fullCount p ks bs
-out-count p ks e bs = omega (arith, raised-sum p ks e bs)
-
--- ---- what is missing of each break of a list
-pub missing-each : (P : Float → Type 0) (p : ℕ) (ks bs : List Float) → Each P bs → Each P (missingAll p ks bs)
-unfolding missingAll
-missing-each P p ks [] h = tt
-missing-each P p ks (t ∷ ts) h = each-append P (replicate (p + 1 - multiplicityOf ks t) t) (missingAll p ks ts) (each-replicate P (p + 1 - multiplicityOf ks t) t (h .0)) (missing-each P p ks ts (h .1))
-
-missing-count : (f : Float → Bool) (p : ℕ) (ks : List Float) (t : Float) (ts : List Float) → countIn f (missingAll p ks (t ∷ ts)) ≡ (p + 1 - multiplicityOf ks t) * bit (f t) + countIn f (missingAll p ks ts)
-unfolding missingAll
-missing-count f p ks t ts = count-append f (replicate (p + 1 - multiplicityOf ks t) t) (missingAll p ks ts) ∙ ap (λ (m : ℕ). m + countIn f (missingAll p ks ts)) (count-replicate f (p + 1 - multiplicityOf ks t) t)
-
-pub count-none-in : (f : Float → Bool) (ts : List Float) → Each (λ t. f t ≡ false) ts → countIn f ts ≡ 0
-unfolding countIn
-count-none-in f [] h = refl
-count-none-in f (t ∷ ts) h = let z : bit (f t) ≡ 0 = ap bit (h .0) in omega (arith, count-none-in f ts (h .1))
-
--- what equals a number equals none after it
-none-after : (t u : Float) → finite t ≡ true → eq t u ≡ true → (p : ℕ) (ks ts : List Float) → Each (λ x. finite x ≡ true) ts → Each (λ x. lt t x ≡ true) ts → countIn (λ x. eq x u) (missingAll p ks ts) ≡ 0
-none-after t u T e p ks ts F R =
-    let U = eq-finite t u T e in
-    count-none-in (λ x. eq x u) (missingAll p ks ts)
-    (missing-each (λ x. eq x u ≡ false) p ks ts
-    (each-map (λ x. (finite x ≡ true) × (lt t x ≡ true)) (λ x. eq x u ≡ false) (λ x h. gt-not-eq x u (h .0) U (eq-lt-left t u T U e x (h .0) (h .1))) ts (each-zip (λ x. finite x ≡ true) (λ x. lt t x ≡ true) ts F R)))
-
-module _ (p n : ℕ) (ks : List Float) (v : ValidKnots p n ks) where
-  -- there is room for it, and with it each is full
-  pub missing-room : (bs : List Float) → Each (λ t. finite t ≡ true) bs → Rising bs → (u : Float) → multiplicityOf ks u + countIn (λ x. eq x u) (missingAll p ks bs) ≤ p + 1
-  missing-room [] F R u = omega (arith, multiplicity-most p n ks v u, count-none-in (λ x. eq x u) (missingAll p ks []) (missing-each (λ x. eq x u ≡ false) p ks [] tt))
-  missing-room (t ∷ ts) F R u =
-      let a = multiplicity-most p n ks v t in
-      rw (missing-count (λ x. eq x u) p ks t ts)
-      (room-more p n ks v t u (F .0) (p + 1 - multiplicityOf ks t) (countIn (λ x. eq x u) (missingAll p ks ts)) (omega arith) (missing-room ts (F .1) (R .1) u) (λ e. none-after t u (F .0) e p ks ts (F .1) (R .0)))
-
-  pub missing-full : (bs : List Float) → Each (λ t. finite t ≡ true) bs → Rising bs → Each (λ u. multiplicityOf ks u + countIn (λ x. eq x u) (missingAll p ks bs) ≡ p + 1) bs
-  missing-full [] F R = tt
-  missing-full (t ∷ ts) F R =
-      let a = multiplicity-most p n ks v t in (
-        rw (missing-count (λ x. eq x t) p ks t ts, eq-self t (F .0), none-after t t (F .0) (eq-self t (F .0)) p ks ts (F .1) (R .0)) (omega arith),
-        each-map (λ u. (lt t u ≡ true) × (multiplicityOf ks u + countIn (λ x. eq x u) (missingAll p ks ts) ≡ p + 1)) (λ u. multiplicityOf ks u + countIn (λ x. eq x u) (missingAll p ks (t ∷ ts)) ≡ p + 1)
-            (λ u h. let k = h .1 in rw (missing-count (λ x. eq x u) p ks t ts, lt-not-eq t u (h .0)) (omega arith)) ts
-            (each-zip (λ u. lt t u ≡ true) (λ u. multiplicityOf ks u + countIn (λ x. eq x u) (missingAll p ks ts) ≡ p + 1) ts (R .0) (missing-full ts (F .1) (R .1))),
-      )
 
 -- what a break is
 pub record IsBreak (p n : ℕ) (ks : List Float) (t : Float) : Type 0 where
@@ -207,7 +129,8 @@ module _ (p n : ℕ) (ks : List Float) (v : ValidKnots p n ks) where
           number = fins j b;
           low = above-low j a (omega arith);
           high = below-high j b;
-          present = count-run (λ i. eq (at ks i) (at ks j)) j 1 (length ks) (omega arith) (λ i x y. let e : j ≡ i = omega arith in subst (λ (k : ℕ). eq (at ks k) (at ks j) ≡ true) e (eq-self (at ks j) (fins j b)));
+          present = count-run (λ i. eq (at ks i) (at ks j)) j 1 (length ks) (omega arith)
+              (λ i x y. let e : j ≡ i = omega arith in subst (λ (k : ℕ). eq (at ks k) (at ks j) ≡ true) e (eq-self (at ks j) (fins j b)));
           most = multiplicity-most p n ks v (at ks j);
         }
 
@@ -238,7 +161,8 @@ module _ (p n : ℕ) (ks : List Float) (v : ValidKnots p n ks) where
     walk i zero a q = omega arith
     walk i (suc m) a q =
         let e : suc i - 1 ≡ i = omega arith in
-        go (eq (at ks (i - 1)) (at ks i)) refl (subst (λ (k : ℕ). timesAll ks (breaksFrom ks (suc i) m) + countFrom (λ j. eq (at ks j) (at ks k)) (suc i) m ≡ m) e (walk (suc i) m (omega arith) (omega arith)))
+        go (eq (at ks (i - 1)) (at ks i)) refl
+        (subst (λ (k : ℕ). timesAll ks (breaksFrom ks (suc i) m) + countFrom (λ j. eq (at ks j) (at ks k)) (suc i) m ≡ m) e (walk (suc i) m (omega arith) (omega arith)))
       where
         go : (x : Bool) → eq (at ks (i - 1)) (at ks i) ≡ x → timesAll ks (breaksFrom ks (suc i) m) + countFrom (λ j. eq (at ks j) (at ks i)) (suc i) m ≡ m
             → timesAll ks (cond x (breaksFrom ks (suc i) m) (at ks i ∷ breaksFrom ks (suc i) m)) + countFrom (λ j. eq (at ks j) (at ks (i - 1))) i (suc m) ≡ suc m
@@ -251,7 +175,8 @@ module _ (p n : ℕ) (ks : List Float) (v : ValidKnots p n ks) where
             let L = v .long in
             let none = from-none (λ j. eq (at ks j) (at ks (i - 1))) i (suc m) (λ j x y.
             let J = fins j (omega arith) in
-            gt-not-eq (at ks j) (at ks (i - 1)) J (fins (i - 1) (omega arith)) (lt-ge-trans (at ks (i - 1)) (at ks i) (at ks j) J (start-above i (omega arith) e) (sorted p n ks v i j x (omega arith)))) in
+            gt-not-eq (at ks j) (at ks (i - 1)) J (fins (i - 1) (omega arith))
+            (lt-ge-trans (at ks (i - 1)) (at ks i) (at ks j) J (start-above i (omega arith) e) (sorted p n ks v i j x (omega arith)))) in
             omega (arith, start-times i m a q e, none)
 
     -- every inner knot is one of a break
@@ -261,43 +186,8 @@ module _ (p n : ℕ) (ks : List Float) (v : ValidKnots p n ks) where
         let C = v .count in
         let L = v .long in
         let e : p + 1 - 1 ≡ p = omega arith in
-        let w = subst (λ (k : ℕ). timesAll ks (breaksFrom ks (p + 1) (n - (p + 1))) + countFrom (λ j. eq (at ks j) (at ks k)) (p + 1) (n - (p + 1)) ≡ n - (p + 1)) e (walk (p + 1) (n - (p + 1)) (omega arith) (omega arith)) in
-        let none = from-none (λ j. eq (at ks j) (at ks p)) (p + 1) (n - (p + 1)) (λ j x y. gt-not-eq (at ks j) (at ks p) (fins j (omega arith)) (fins p (omega arith)) (above-low j (omega arith) (omega arith))) in
+        let w = subst (λ (k : ℕ). timesAll ks (breaksFrom ks (p + 1) (n - (p + 1))) + countFrom (λ j. eq (at ks j) (at ks k)) (p + 1) (n - (p + 1)) ≡ n - (p + 1)) e
+        (walk (p + 1) (n - (p + 1)) (omega arith) (omega arith)) in
+        let none = from-none (λ j. eq (at ks j) (at ks p)) (p + 1) (n - (p + 1))
+        (λ j x y. gt-not-eq (at ks j) (at ks p) (fins j (omega arith)) (fins p (omega arith)) (above-low j (omega arith) (omega arith))) in
         omega arith
-
-    pub extracted-count : n + length (missingAll p ks (breaksOf p n ks)) ≡ (p + 1) * (length (breaksOf p n ks) + 1)
-    extracted-count =
-        omega (arith, breaks-times, missing-long p ks (breaksOf p n ks) (each-map (IsBreak p n ks) (λ t. multiplicityOf ks t ≤ p + 1) (λ t b. b .most) (breaksOf p n ks) breaks-are))
-
-    -- ---- the extraction: every break made full
-    breaks-finite : Each (λ t. finite t ≡ true) (breaksOf p n ks)
-    breaks-finite = each-map (IsBreak p n ks) (λ t. finite t ≡ true) (λ t b. b .number) (breaksOf p n ks) breaks-are
-
-    module _ (g : Bool) (ps ws : List Float) where
-      pub extraction-late : (r : Refusal) → insertAll p g n ks ps ws (missingAll p ks (breaksOf p n ks)) ≡ refuses r → Late r
-      extraction-late r =
-          let L = v .long in
-          let P = v .finites p (omega arith) in
-          let N = v .finites n (omega arith) in
-          late p g n ks ps ws (missingAll p ks (breaksOf p n ks)) r v
-          (missing-each (λ t. inside (at ks p) (at ks n) t ≡ true) p ks (breaksOf p n ks)
-          (each-map (IsBreak p n ks) (λ t. inside (at ks p) (at ks n) t ≡ true) (λ t b. inside-by (at ks p) (at ks n) t P N (b .number) (b .low) (b .high)) (breaksOf p n ks) breaks-are))
-          (missing-room p n ks v (breaksOf p n ks) breaks-finite distinct)
-
-      module _ (ks' ps' ws' : List Float) (e : insertAll p g n ks ps ws (missingAll p ks (breaksOf p n ks)) ≡ gives ks' ps' ws') where
-        pub extraction : Made p g n ks ps ws (missingAll p ks (breaksOf p n ks)) ks' ps' ws'
-        extraction = made p g n ks ps ws (missingAll p ks (breaksOf p n ks)) ks' ps' ws' v e
-
-        pub extraction-full : Each (λ t. multiplicityOf ks' t ≡ p + 1) (breaksOf p n ks)
-        extraction-full =
-            each-map (λ t. multiplicityOf ks t + countIn (λ x. eq x t) (missingAll p ks (breaksOf p n ks)) ≡ p + 1) (λ t. multiplicityOf ks' t ≡ p + 1)
-            (λ t h. made-multiplicity p g n ks ps ws (missingAll p ks (breaksOf p n ks)) ks' ps' ws' v extraction t ∙ h) (breaksOf p n ks) (missing-full p n ks v (breaksOf p n ks) breaks-finite distinct)
-
-        pub extraction-valid : ValidKnots p ((p + 1) * (length (breaksOf p n ks) + 1)) ks'
-        extraction-valid = subst (λ (m : ℕ). ValidKnots p m ks') extracted-count (extraction .valid)
-
-        pub extraction-points : length ps ≡ n * 3 → length ps' ≡ (p + 1) * (length (breaksOf p n ks) + 1) * 3
-        extraction-points h = extraction .points h ∙ ap (λ (m : ℕ). m * 3) extracted-count
-
-        pub extraction-weights : length ws ≡ given g n → length ws' ≡ given g ((p + 1) * (length (breaksOf p n ks) + 1))
-        extraction-weights h = extraction .weights h ∙ ap (given g) extracted-count

@@ -5,7 +5,7 @@ use mathlib.Core.Bool.{Bool, true, false, cond}
 use mathlib.Core.Path.{_≡_, refl, sym, _∙_, ap, subst}
 use mathlib.Core.List.{List, [], _∷_, _++_}
 use native.Mathlib.Omega.{arith}
-use borrow.Author.Tests.{le-ltb, eqb-false}
+use borrow.Author.Tests.{eqb-false}
 use lib.ListN.{length, replicate, length-append, length-replicate}
 use lib.Dec.{eqb}
 use lib.Ieee.{Float}
@@ -14,25 +14,23 @@ use Rattle.knots.specs.Refusal.{accepted}
 use Rattle.knots.specs.Knots.{ValidKnots}
 use Rattle.knots.specs.declared.refusal.Refusal.{Refusal}
 use Rattle.knots.proofs.Valid.{not-refused}
-use Rattle.basis.proofs.Whole.{length-tabulate}
-use Rattle.knots.specs.Shape.{roomRefusal}
-use Rattle.insertion.specs.Counts.{multiplicityOf}
-use Rattle.insertion.specs.Rows.{given}
-use Rattle.insertion.specs.Whole.{givenOf}
+use Rattle.runs.proofs.Tabulated.{length-tabulate}
+use Rattle.edits.specs.Counts.{multiplicityOf}
+use Rattle.edits.specs.Rows.{given}
+use Rattle.edits.specs.Whole.{givenOf}
 use Rattle.insertion.specs.Insert.{insertedKnots, insertedPoints, insertedWeights, insertRefusal}
-use Rattle.insertion.specs.Fold.{Outcome, gives, refuses, insertAll}
-use Rattle.insertion.specs.Work.{laid, knotsFrom, pointsFrom, weightsFrom, workRoom, timesStart, timesOutcome, refusalOf, workIn}
+use Rattle.insertion.specs.Fold.{insertAll}
+use Rattle.edits.specs.Outcome.{Outcome, gives, refuses}
+use Rattle.edits.specs.Work.{laid, knotsFrom, pointsFrom, weightsFrom, workRoom, refusalOf, workIn}
+use Rattle.insertion.specs.Times.{timesStart, timesOutcome}
 use Rattle.insertion.proofs.Made.{andThen, insert-append}
 use Rattle.insertion.proofs.Repeated.{repeated}
-use Rattle.insertion.proofs.Laid.{laid-long}
+use Rattle.edits.proofs.Starting.{room-none}
+use Rattle.edits.proofs.RunWithCurve.{laid-long}
 use Rattle.elevation.specs.Breaks.{missingAll}
 use Rattle.elevation.specs.Passes.{AtBreak, NextBreak, Extracted}
 use Rattle.elevation.proofs.BreakWalks.{left}
 use Rattle.elevation.proofs.LaidOut.{knots-laid, points-laid, weights-laid}
-
-pub room-none : (a n : ℕ) → n ≤ a → roomRefusal a n ≡ accepted
-unfolding roomRefusal
-room-none a n l = simp (le-ltb a n l)
 
 -- there is room for m insertions, and the knots that stand there are valid
 times-open : (p n : ℕ) (g : Bool) (t : Float) (m a : ℕ) (xs : List Float) → ValidKnots p n (knotsFrom a p n xs) → (n + m) * 4 ≤ a → a + (n + m + p + 1) ≤ length xs
@@ -71,7 +69,8 @@ module _ (p : ℕ) (g : Bool) (goal : Outcome) (a c : ℕ) (ys xs : List Float) 
   after-stop : (x r : Refusal) → (x .number ≡ 0 → ⊥) → goal ≡ refuses x → r ≡ x → (x₂ : List Float) → After x₂ r
   after-stop x r h e R x₂ = ((λ y. e ∙ ap refuses (sym R)), (λ z. absurd (h (sym (ap (λ (y : Refusal). y .number) R) ∙ z))))
 
-  after-more : (k q w : List Float) → ValidKnots p c k → length q ≡ c * 3 → length w ≡ given g c → goal ≡ insertAll p g c k q w ys → (r : Refusal) → r ≡ accepted → (x₂ : List Float) → x₂ ≡ laid a xs k q g w → After x₂ r
+  after-more : (k q w : List Float) → ValidKnots p c k → length q ≡ c * 3 → length w ≡ given g c → goal ≡ insertAll p g c k q w ys
+      → (r : Refusal) → r ≡ accepted → (x₂ : List Float) → x₂ ≡ laid a xs k q g w → After x₂ r
   after-more k q w v Q W e r R x₂ X =
       let H : g ≡ true → length w ≡ c = λ h. W ∙ ap (λ (b : Bool). given b c) h in
       let K = knots-laid a xs k q g w p c (v .long) Q H A L in
@@ -119,7 +118,8 @@ module _ (p : ℕ) (g : Bool) (goal : Outcome) (m a : ℕ) (ks x₀ : List Float
       sum : c + s + length tail ≡ m
       sum =
           let e = here .count in
-          let f : length (missingAll p ks (t ∷ left ks n (k + 1))) ≡ s + length tail = ap length split ∙ (length-append (replicate s t) tail ∙ ap (λ (x : ℕ). x + length tail) (length-replicate s t)) in
+          let f : length (missingAll p ks (t ∷ left ks n (k + 1))) ≡ s + length tail =
+          ap length split ∙ (length-append (replicate s t) tail ∙ ap (λ (x : ℕ). x + length tail) (length-replicate s t)) in
           omega arith
 
       pub extract-room : c + s ≤ m

@@ -12,8 +12,8 @@ use Rattle.exact.specs.Bernstein.{Segment}
 use Rattle.doubles.specs.Run.{valAt}
 use Rattle.doubles.specs.Value.{val}
 use Rattle.knots.specs.Knots.{ValidKnots}
-use Rattle.insertion.specs.Counts.{multiplicityOf, belowOf}
-use Rattle.insertion.proofs.Counted.{below-past, below-room}
+use Rattle.edits.specs.Counts.{multiplicityOf, belowOf}
+use Rattle.insertion.proofs.KnotCounts.{below-past, below-room}
 use Rattle.insertion.proofs.Places.{equal-value}
 
 module _ (p n : ℕ) (ks : List Float) (v : ValidKnots p n ks) (hi : Float) (H : finite hi ≡ true) (full-high : multiplicityOf ks hi ≡ p + 1) where

@@ -11,10 +11,10 @@ use lib.Ieee.{Float}
 use Rattle.knots.specs.Refusal.{refuse, edit-bad}
 use Rattle.knots.specs.Curve.{formedRefusal}
 use Rattle.knots.specs.declared.refusal.Refusal.{Refusal}
-use Rattle.evaluate.specs.declared.vector.Vector.{Vector}
-use Rattle.insertion.specs.Rows.{given}
-use Rattle.insertion.specs.Whole.{givenOf}
-use Rattle.insertion.specs.declared.control.Control.{Control}
+use Rattle.runs.specs.declared.vector.Vector.{Vector}
+use Rattle.edits.specs.Rows.{given}
+use Rattle.edits.specs.Whole.{givenOf}
+use Rattle.edits.specs.declared.control.Control.{Control}
 use Rattle.elevation.specs.Elevate.{raisedCount, raisedKnots, keptAll, pointsOf, weightsOf}
 use Rattle.elevation.specs.Passes.{over, Put, joinRefusal, Joined}
 use Rattle.elevation.proofs.KnotWalks.{raised-long}
@@ -48,7 +48,8 @@ module _ (p e n : ℕ) (ks bs : List Float) (g : Bool) (h : ℕ → Control) (o 
     weights-is : w₁ ≡ over 0 (givenOf g (weightsOf kept)) w₀
     weights-is = A .weights z ∙ ap (λ (i : ℕ). over i (givenOf g (weightsOf kept)) w₀) (given-none g)
 
-    pub join-end : (c : ℕ) → c ≡ raisedCount p e ks bs → (r : Refusal) → r ≡ formedRefusal e c (take (c + e + 1) k₁) (take (c * 3) p₁) g (take (given g c) w₁) → Joined p e n ks bs g h o k₀ p₀ w₀ k₁ p₁ w₁ r
+    pub join-end : (c : ℕ) → c ≡ raisedCount p e ks bs → (r : Refusal)
+        → r ≡ formedRefusal e c (take (c + e + 1) k₁) (take (c * 3) p₁) g (take (given g c) w₁) → Joined p e n ks bs g h o k₀ p₀ w₀ k₁ p₁ w₁ r
     unfolding joinRefusal
     join-end c C r R =
         let m = kept-count p e ks h bs in

@@ -9,15 +9,15 @@ use native.Mathlib.Nat.{mul-le-mul-left}
 use lib.ListN.{length, length-append}
 use lib.Ieee.{Float}
 use Rattle.doubles.specs.Run.{at}
-use Rattle.evaluate.specs.declared.vector.Vector.{Vector}
-use Rattle.insertion.specs.Counts.{bit}
-use Rattle.insertion.specs.Rows.{given}
-use Rattle.insertion.specs.Passes.{rowOf}
-use Rattle.insertion.specs.declared.control.Control.{Control}
+use Rattle.runs.specs.declared.vector.Vector.{Vector}
+use Rattle.edits.specs.Counts.{bit}
+use Rattle.edits.specs.Rows.{given}
+use Rattle.edits.specs.Passes.{rowOf}
+use Rattle.edits.specs.declared.control.Control.{Control}
 use Rattle.elevation.specs.Breaks.{breaksOf, isFull, fullCount}
 use Rattle.elevation.specs.Raise.{raiseTimes}
 use Rattle.elevation.specs.Elevate.{extractedCount, raisedCount, controlsOf, segmentOf, addedBy, keptFrom, keptAll}
-use Rattle.elevation.specs.Passes.{controlIn, Holds, Put, AtBreak, NextBreak}
+use Rattle.elevation.specs.Passes.{controlIn, RowsAre, Put, AtBreak, NextBreak}
 use Rattle.elevation.proofs.Raising.{times-cong}
 use Rattle.elevation.proofs.BreakWalks.{left}
 use Rattle.elevation.proofs.Putting.{Putting, putting-start, putting-stop, putting-run, putting-end, put-append, given-within, controls-long, controls-cong}
@@ -68,20 +68,20 @@ first-room p e ks bs g =
     (omega arith, b, given-within g 0 (e + 1) (raisedCount p e ks bs) (omega arith))
 
 -- ---- one segment, worked in a run of its own
-module _ (p e f : ℕ) (l : p ≤ e) (b : Bool) (o : Vector) (g : Bool) (xs r₁ r₂ : List Float) (n m : ℕ) (L : Holds (λ i. rowOf g xs (f + i)) (p + 1) n r₁) (R : Holds (raiseTimes p (e - p) (controlIn r₁)) (e + 1) m r₂) where
+module _ (p e f : ℕ) (l : p ≤ e) (b : Bool) (o : Vector) (g : Bool) (xs r₁ r₂ : List Float) (n m : ℕ)
+    (L : RowsAre (λ i. rowOf g xs (f + i)) (p + 1) n r₁) (R : RowsAre (raiseTimes p (e - p) (controlIn r₁)) (e + 1) m r₂) where
   abbrev aim : ℕ → Control
   aim = raiseTimes p (e - p) (λ i. rowOf g xs (f + i))
 
   raised-is : (i : ℕ) → i < e + 1 → controlIn r₂ i ≡ aim i
   raised-is i u = R .rows i u ∙ times-cong p (e - p) (controlIn r₁) (λ i. rowOf g xs (f + i)) (L .rows) i (omega arith)
 
-  pub segment-put : (s c i : ℕ) → s ≡ 0 + bit (not b) → c ≡ e + bit b → (p₀ w₀ p₁ w₁ : List Float) (r : Bool)
+  pub segment-put : (s c i : ℕ) → s ≡ bit (not b) → c ≡ e + bit b → (p₀ w₀ p₁ w₁ : List Float) (r : Bool)
       → Put o g (controlsOf (controlIn r₂) s c) i p₀ w₀ p₁ w₁ r → Put o g (controlsOf aim (bit (not b)) (e + bit b)) i p₀ w₀ p₁ w₁ r
   segment-put s c i S C p₀ w₀ p₁ w₁ r P =
       let k = skip-sum b e in
-      let z : s ≡ bit (not b) = omega arith in
       subst (λ (x : List Control). Put o g x i p₀ w₀ p₁ w₁ r)
-      (controls-cong (controlIn r₂) aim s c (λ j u. raised-is j (omega arith)) ∙ ap₂ (controlsOf aim) z C) P
+      (controls-cong (controlIn r₂) aim s c (λ j u. raised-is j (omega arith)) ∙ ap₂ (controlsOf aim) S C) P
 
 -- ---- the first segment, and those after the breaks
 module _ (p e : ℕ) (l : p ≤ e) (ks xs : List Float) (o : Vector) (g : Bool) (bs p₀ w₀ p₁ w₁ : List Float) where
@@ -173,7 +173,7 @@ module _ (p e n : ℕ) (ks : List Float) (xs : List Float) (o : Vector) (g : Boo
           pub rest-stop : r ≡ false → Put o g whole (e + 1) p₀ w₀ p₂ w₂ false
           rest-stop z = putting-stop o g whole (e + 1) p₀ w₀ added (keptFrom p e ks (rowOf g xs) (j + 1) tail) i p₁ w₁ here p₂ w₂ r segment z
 
-          pub rest-more : r ≡ true → (k' : ℕ) → NextBreak ks n (k + 1) k' → (i' : ℕ) → i' ≡ i + e + bit b → InRest p₂ w₂ (left ks n k') (j + 1) i'
+          pub rest-more : r ≡ true → (k' : ℕ) → NextBreak ks n (k + 1) k' → (i' : ℕ) → i' ≡ i + (e + bit b) → InRest p₂ w₂ (left ks n k') (j + 1) i'
           rest-more z k' N i' E =
               let s = sum in
               let c = count-here in

@@ -18,22 +18,24 @@ use Rattle.doubles.proofs.Tested.{lt-irrefl, lt-asym, lt-trans, ge-trans, lt-ge
 use Rattle.knots.specs.Knots.{ValidKnots}
 use Rattle.knots.specs.Span.{spanOf}
 use Rattle.knots.proofs.Valid.{sorted}
-use Rattle.basis.proofs.Whole.{at-tabulate}
-use Rattle.basis.proofs.Cases.{lt-or-ge}
-use Rattle.insertion.specs.Counts.{bit, multiplicityOf, belowOf}
+use Rattle.runs.proofs.Tabulated.{at-tabulate}
+use Rattle.runs.proofs.Cases.{lt-or-ge}
+use Rattle.edits.specs.Counts.{bit, multiplicityOf, belowOf}
 use Rattle.insertion.specs.Insert.{knotAt, moreKnots, insertedKnots, insertedPoints, insertedWeights, insertRefusal}
-use Rattle.insertion.specs.Fold.{gives, refuses, insertAll}
+use Rattle.insertion.specs.Fold.{insertAll}
+use Rattle.edits.specs.Outcome.{gives, refuses}
 use Rattle.insertion.specs.Placed.{placed, Each}
 use Rattle.insertion.proofs.Storing.{knot-low, knot-here}
 use Rattle.insertion.proofs.Grown.{count-run}
-use Rattle.insertion.proofs.Counted.{not-both, count-within, count-early, lt-not-eq, level-eq, eq-level, eq-self, below-rest, below-not}
+use Rattle.insertion.proofs.KnotCounts.{not-both, count-within, count-early, lt-not-eq, level-eq, eq-level, eq-self, below-rest, below-not}
 use Rattle.insertion.proofs.Places.{equal-value}
 use Rattle.insertion.proofs.Folds.{inserted-valid}
 use Rattle.insertion.proofs.Made.{countIn, each-append, each-replicate, each-map, by-number, others, one-counts, made, made-below}
 use Rattle.insertion.proofs.Domain.{Spot, spot}
 use Rattle.insertion.proofs.Placed.{spot-values}
 use Rattle.elevation.specs.Breaks.{isFull, missingAll}
-use Rattle.elevation.proofs.Breaks.{Rising, each-zip, missing-each, count-none-in}
+use Rattle.elevation.proofs.Breaks.{Rising, each-zip}
+use Rattle.elevation.proofs.Missing.{missing-each, count-none-in}
 
 -- two neighbours are the same control
 pub record Twice (w P : ℕ → ℚ) (r : ℕ) : Type 0 where
@@ -92,7 +94,8 @@ module _ (p n : ℕ) (ks ps : List Float) (g : Bool) (ws : List Float) (t : Floa
       let most = count-early (λ i. not (lt t (at ks i))) (k + 1) (length ks) (λ i x y. ap not (lt-ge-trans t (at ks (k + 1)) (at ks i) (v .finites i y) over (sorted p n ks v (k + 1) i x y))) in
       let low : belowOf ks t ≤ k + 1 = below-not p n ks v t (k + 1) (omega arith) (lt-asym t (at ks (k + 1)) over) in
       let run = count-run (λ i. eq (at ks i) t) (belowOf ks t) (k + 1 - belowOf ks t) (length ks) (omega arith)
-      (λ i x y. level-eq (at ks i) t (v .finites i (omega arith)) (S .number) (below-rest p n ks v t i (omega arith) x) (ge-trans t (at ks k) (at ks i) (v .finites k (omega arith)) under (sorted p n ks v i k (omega arith) (omega arith)))) in
+      (λ i x y. level-eq (at ks i) t (v .finites i (omega arith)) (S .number) (below-rest p n ks v t i (omega arith) x)
+      (ge-trans t (at ks k) (at ks i) (v .finites k (omega arith)) under (sorted p n ks v i k (omega arith) (omega arith)))) in
       omega arith
 
   -- it is not below itself, and equals itself
@@ -149,13 +152,15 @@ keep p g n ks ps ws (x ∷ us) ks' ps' ws' v e w P r l h T =
     let L = N .long in
     let L₀ = v .long in
     twice-more p n ks ps g ws x v z w P r us
-    (keep p g (n + 1) (insertedKnots p n ks ps g ws x) (insertedPoints p n ks ps g ws x) (insertedWeights p n ks ps g ws x) us ks' ps' ws' N f (nextW p n ks ps g ws x v z w) (nextP p n ks ps g ws x v z w P) r (omega arith)
+    (keep p g (n + 1) (insertedKnots p n ks ps g ws x) (insertedPoints p n ks ps g ws x) (insertedWeights p n ks ps g ws x) us ks' ps' ws' N f
+    (nextW p n ks ps g ws x v z w) (nextP p n ks ps g ws x v z w P) r (omega arith)
     (subst (λ (y : Float). Each (λ u. lt y u ≡ true) us) (sym (kept p n ks ps g ws x v z (suc r + p) a)) (h .1))
     (twice-low p n ks ps g ws x v z w P r a T)))
     (λ z f. let q : _≡_ {A = ℕ} 0 1 = cc in absurd (omega arith)) e
 
 -- ---- t is inserted until it is full, and then greater knots us
-joint : (p : ℕ) (g : Bool) (n : ℕ) (ks ps ws : List Float) (m : ℕ) (t : Float) (us ks' ps' ws' : List Float) → ValidKnots p n ks → insertAll p g n ks ps ws (replicate (suc m) t ++ us) ≡ gives ks' ps' ws'
+joint : (p : ℕ) (g : Bool) (n : ℕ) (ks ps ws : List Float) (m : ℕ) (t : Float) (us ks' ps' ws' : List Float) → ValidKnots p n ks
+    → insertAll p g n ks ps ws (replicate (suc m) t ++ us) ≡ gives ks' ps' ws'
     → multiplicityOf ks t + m ≡ p → Each (λ x. lt t x ≡ true) us → (w P : ℕ → ℚ) (r : ℕ) → suc r ≡ belowOf ks t
     → Twice (afterW p n ks (replicate (suc m) t ++ us) w) (afterP p n ks (replicate (suc m) t ++ us) w P) r
 unfolding insertAll insertedKnots
@@ -169,7 +174,8 @@ joint p g n ks ps ws zero t us ks' ps' ws' v e q h w P r b =
     let i = inner p n ks ps g ws t v z in
     let a : spanOf p n ks t + 1 ≡ suc r + p = omega (arith, last p n ks ps g ws t v z) in
     twice-more p n ks ps g ws t v z w P r us
-    (keep p g (n + 1) (insertedKnots p n ks ps g ws t) (insertedPoints p n ks ps g ws t) (insertedWeights p n ks ps g ws t) us ks' ps' ws' N f (nextW p n ks ps g ws t v z w) (nextP p n ks ps g ws t v z w P) r (omega arith)
+    (keep p g (n + 1) (insertedKnots p n ks ps g ws t) (insertedPoints p n ks ps g ws t) (insertedWeights p n ks ps g ws t) us ks' ps' ws' N f
+    (nextW p n ks ps g ws t v z w) (nextP p n ks ps g ws t v z w P) r (omega arith)
     (subst (λ (y : Float). Each (λ u. lt y u ≡ true) us) (sym (ap (at (moreKnots (spanOf p n ks t) t ks)) (sym a) ∙ here p n ks ps g ws t v z)) h)
     (twice-full p n ks ps g ws t v z w P r b (omega arith))))
     (λ z f. let q : _≡_ {A = ℕ} 0 1 = cc in absurd (omega arith)) e
@@ -201,7 +207,8 @@ module _ (p : ℕ) (g : Bool) (ks₀ : List Float) where
       by-number (R .number) (λ y. cond y (others p g n ks ps ws t ts) (refuses R) ≡ gives ks' ps' ws' → Joined bs ks' (afterW p n ks (t ∷ ts) w) (afterP p n ks (t ∷ ts) w P))
       (λ z f.
       let K = insertedKnots p n ks ps g ws t in
-      each-map (λ u. isFull p ks₀ u ≡ false → (r : ℕ) → suc r ≡ belowOf ks' u → Twice (afterW p (n + 1) K ts (nextW p n ks ps g ws t v z w)) (afterP p (n + 1) K ts (nextW p n ks ps g ws t v z w) (nextP p n ks ps g ws t v z w P)) r)
+      each-map (λ u. isFull p ks₀ u ≡ false → (r : ℕ) → suc r ≡ belowOf ks' u
+      → Twice (afterW p (n + 1) K ts (nextW p n ks ps g ws t v z w)) (afterP p (n + 1) K ts (nextW p n ks ps g ws t v z w) (nextP p n ks ps g ws t v z w P)) r)
       (λ u. isFull p ks₀ u ≡ false → (r : ℕ) → suc r ≡ belowOf ks' u → Twice (afterW p n ks (t ∷ ts) w) (afterP p n ks (t ∷ ts) w P) r)
       (λ u x y r b. twice-more p n ks ps g ws t v z w P r ts (x y r b)) bs
       (through t us bs h H m (n + 1) K (insertedPoints p n ks ps g ws t) (insertedWeights p n ks ps g ws t) ks' ps' ws' (inserted-valid p n ks ps g ws t z)

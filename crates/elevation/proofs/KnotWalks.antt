@@ -7,12 +7,33 @@ use native.Mathlib.Omega.{arith}
 use lib.ListN.{length, replicate, length-append, length-replicate}
 use lib.Ieee.{Float}
 use Rattle.doubles.specs.Run.{at}
-use Rattle.insertion.specs.Counts.{bit}
+use Rattle.edits.specs.Counts.{bit}
 use Rattle.elevation.specs.Breaks.{isFull, fullCount}
 use Rattle.elevation.specs.Elevate.{breakKnots, raisedKnots, raisedCount}
 use Rattle.elevation.specs.Passes.{over, AtBreak, NextBreak}
 use Rattle.elevation.proofs.Overlaid.{over-none, over-long, over-over}
 use Rattle.elevation.proofs.BreakWalks.{left}
+
+-- ---- how many there are
+pub knots-step : (p e : ℕ) (ks : List Float) (t : Float) (ts : List Float) → length (breakKnots p e ks (t ∷ ts)) ≡ e + bit (isFull p ks t) + length (breakKnots p e ks ts)
+unfolding breakKnots
+knots-step p e ks t ts =
+    length-append (replicate (e + bit (isFull p ks t)) t) (breakKnots p e ks ts) ∙ ap (λ (x : ℕ). x + length (breakKnots p e ks ts)) (length-replicate (e + bit (isFull p ks t)) t)
+
+knots-long : (p e : ℕ) (ks ts : List Float) → length (breakKnots p e ks ts) ≡ length ts * e + fullCount p ks ts
+unfolding breakKnots fullCount
+knots-long p e ks [] = omega arith
+knots-long p e ks (t ∷ ts) = knots-step p e ks t ts ∙ go (length ts) (knots-long p e ks ts)
+  where
+    go : (b : ℕ) → length (breakKnots p e ks ts) ≡ b * e + fullCount p ks ts → e + bit (isFull p ks t) + length (breakKnots p e ks ts) ≡ suc b * e + (bit (isFull p ks t) + fullCount p ks ts)
+    go b y = omega arith
+
+pub raised-count : (p e : ℕ) (ks bs : List Float) → (e + 1) + length (breakKnots p e ks bs) ≡ raisedCount p e ks bs
+unfolding raisedCount
+raised-count p e ks bs = go (length bs) (knots-long p e ks bs)
+  where
+    go : (b : ℕ) → length (breakKnots p e ks bs) ≡ b * e + fullCount p ks bs → (e + 1) + length (breakKnots p e ks bs) ≡ (e + 1) * (b + 1) - b + fullCount p ks bs
+    go b h = omega arith
 
 -- the knots of the breaks ts are still to come, from place i on
 pub record InKnots (p e : ℕ) (ks bs : List Float) (j : ℕ) (k₀ k₁ : List Float) (ts : List Float) (i : ℕ) : Type 0 where
@@ -37,7 +58,7 @@ module _ (p e : ℕ) (ks bs : List Float) (j : ℕ) (k₀ : List Float) where
       split = ap (λ (x : ℕ). replicate x (at ks k) ++ breakKnots p e ks tail) (sym M)
 
       sum : length (breakKnots p e ks (at ks k ∷ tail)) ≡ m + length (breakKnots p e ks tail)
-      sum = ap length split ∙ (length-append (replicate m (at ks k)) (breakKnots p e ks tail) ∙ ap (λ (x : ℕ). x + length (breakKnots p e ks tail)) (length-replicate m (at ks k)))
+      sum = knots-step p e ks (at ks k) tail ∙ ap (λ (x : ℕ). x + length (breakKnots p e ks tail)) (sym M)
 
       pub knots-room : i + m ≤ length k₁
       knots-room = let a = here .long in let b = here .count in let c = sum in omega arith
@@ -64,18 +85,6 @@ module _ (p e : ℕ) (ks bs : List Float) (j : ℕ) (k₀ : List Float) where
         let D = subst (λ (x : List Float). InKnots p e ks bs j k₀ k₁ x i) E I in
         let b = D .count in
         (omega arith, sym (over-none i k₁) ∙ D .goal)
-
--- ---- how many there are
-pub break-knots-long : (p e : ℕ) (ks ts : List Float) → length (breakKnots p e ks ts) ≡ length ts * e + fullCount p ks ts
-unfolding breakKnots fullCount
-break-knots-long p e ks [] = omega arith
-break-knots-long p e ks (t ∷ ts) =
-    let r = length-replicate (e + bit (isFull p ks t)) t in
-    length-append (replicate (e + bit (isFull p ks t)) t) (breakKnots p e ks ts) ∙ go (length ts) r (break-knots-long p e ks ts)
-  where
-    go : (b : ℕ) → length (replicate (e + bit (isFull p ks t)) t) ≡ e + bit (isFull p ks t) → length (breakKnots p e ks ts) ≡ b * e + fullCount p ks ts
-        → length (replicate (e + bit (isFull p ks t)) t) + length (breakKnots p e ks ts) ≡ suc b * e + (bit (isFull p ks t) + fullCount p ks ts)
-    go b x y = omega arith
 
 -- ---- the ends before and behind them
 module _ (p e n : ℕ) (ks bs : List Float) where
@@ -115,8 +124,4 @@ module _ (p e n : ℕ) (ks bs : List Float) where
 
   -- as many as the raised curve has
   pub raised-long : length (raisedKnots p e n ks bs) ≡ raisedCount p e ks bs + e + 1
-  unfolding raisedCount
-  raised-long = raised-parts ∙ go (length bs) (break-knots-long p e ks bs)
-    where
-      go : (b : ℕ) → length (breakKnots p e ks bs) ≡ b * e + fullCount p ks bs → e + 1 + (length (breakKnots p e ks bs) + (e + 1)) ≡ (e + 1) * (b + 1) - b + fullCount p ks bs + e + 1
-      go b h = omega arith
+  raised-long = raised-parts ∙ omega (arith, raised-count p e ks bs)

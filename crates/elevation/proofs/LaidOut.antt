@@ -8,13 +8,14 @@ use native.Mathlib.Omega.{arith}
 use lib.ListN.{length}
 use lib.Ieee.{Float}
 use Rattle.knots.specs.Curve.{countOf}
-use Rattle.insertion.specs.Whole.{givenOf}
-use Rattle.insertion.specs.Work.{laid, knotsFrom, pointsFrom, weightsFrom}
-use Rattle.insertion.specs.Passes.{CurveIn}
-use Rattle.insertion.proofs.Laying.{points-back, weights-back, knots-back}
-use Rattle.insertion.proofs.Laid.{laid-in}
+use Rattle.edits.specs.Whole.{givenOf}
+use Rattle.edits.specs.Work.{laid, knotsFrom, pointsFrom, weightsFrom}
+use Rattle.edits.specs.Passes.{CurveIn}
+use Rattle.edits.proofs.IntoRun.{points-back, weights-back, knots-back}
+use Rattle.edits.proofs.RunWithCurve.{laid-in}
 
-module _ (a : ℕ) (d ks ps : List Float) (g : Bool) (ws : List Float) (p n : ℕ) (K : length ks ≡ n + p + 1) (P : length ps ≡ n * 3) (W : g ≡ true → length ws ≡ n) (A : n * 4 ≤ a) (L : a + (n + p + 1) ≤ length d) where
+module _ (a : ℕ) (d ks ps : List Float) (g : Bool) (ws : List Float) (p n : ℕ)
+    (K : length ks ≡ n + p + 1) (P : length ps ≡ n * 3) (W : g ≡ true → length ws ≡ n) (A : n * 4 ≤ a) (L : a + (n + p + 1) ≤ length d) where
   count : countOf ps ≡ n
   count = omega arith
 

@@ -1,5 +1,5 @@
 pub mod Breaks
-pub mod RowStores
+pub mod Missing
 pub mod Raising
 pub mod Overlaid
 pub mod BreakWalks
@@ -11,7 +11,6 @@ pub mod Limits
 pub mod Opened
 pub mod LaidOut
 pub mod Extracting
-pub mod Lifted
 pub mod RaisedCurve
 pub mod RaisedInto
 pub mod Outcomes

@@ -13,15 +13,16 @@ use Rattle.knots.specs.Refusal.{refuse, degree-lowered, elevation-high}
 use Rattle.knots.specs.Curve.{countOf, ValidCurve}
 use Rattle.knots.specs.declared.refusal.Refusal.{Refusal}
 use Rattle.knots.proofs.Refusals.{passed, orElse-none}
-use Rattle.insertion.specs.Start.{clampedEnds, editStart, outRoom, scratchRoom}
-use Rattle.insertion.proofs.Starting.{edit-open, OutOpen, out-open, scratch-open}
+use Rattle.edits.specs.Start.{clampedEnds, editStart, outRoom, scratchRoom}
+use Rattle.edits.proofs.Starting.{edit-open, OutOpen, out-open, scratch-open}
 use Rattle.elevation.specs.Breaks.{breaksOf}
 use Rattle.elevation.specs.Elevate.{extractedCount}
 use Rattle.elevation.specs.Whole.{elevatedCount, raiseStart, elevateStart}
 use Rattle.elevation.proofs.Limits.{not-high}
 
 -- a curve that may be edited: its counts are small
-pub edit-small : (p : ℕ) (ks ps : List Float) (g : Bool) (ws : List Float) (r : Refusal) → r ≡ editStart p ks ps g ws → r .number ≡ 0 → (p < length ps / 3) × (length ps / 3 ≤ length ks) × (length ps / 3 ≤ 1048576)
+pub edit-small : (p : ℕ) (ks ps : List Float) (g : Bool) (ws : List Float) (r : Refusal) → r ≡ editStart p ks ps g ws → r .number ≡ 0
+    → (p < length ps / 3) × (length ps / 3 ≤ length ks) × (length ps / 3 ≤ 1048576)
 edit-small p ks ps g ws r e z =
     let v = edit-open p ks ps g ws (sym (ap (λ (x : Refusal). x .number) e) ∙ z) .0 in
     let c = v .knots .count in

@@ -12,14 +12,14 @@ use Rattle.knots.specs.Clear.{zeros}
 use Rattle.knots.specs.Curve.{countOf}
 use Rattle.knots.specs.declared.refusal.Refusal.{Refusal}
 use Rattle.knots.proofs.Refusals.{stop, skip}
-use Rattle.evaluate.specs.Lent.{padded}
-use Rattle.evaluate.proofs.Overlays.{cleared-length, cleared}
-use Rattle.insertion.specs.Rows.{given}
-use Rattle.insertion.specs.Fold.{Outcome, gives, refuses}
-use Rattle.insertion.specs.Whole.{givenOf, answerOf, knotsIn, pointsIn, weightsIn}
-use Rattle.insertion.specs.Passes.{OutMeets}
-use Rattle.insertion.specs.declared.answer.EditAnswer.{EditAnswer}
-use Rattle.insertion.specs.declared.answer.EditAnswer.the-variants.{Formed, Refused}
+use Rattle.runs.specs.Lent.{padded}
+use Rattle.runs.proofs.Overlays.{cleared-length, cleared}
+use Rattle.edits.specs.Rows.{given}
+use Rattle.edits.specs.Outcome.{Outcome, gives, refuses}
+use Rattle.edits.specs.Whole.{givenOf, answerOf, knotsIn, pointsIn, weightsIn}
+use Rattle.edits.specs.Passes.{OutMeets}
+use Rattle.edits.specs.declared.answer.EditAnswer.{EditAnswer}
+use Rattle.edits.specs.declared.answer.EditAnswer.the-variants.{Formed, Refused}
 use Rattle.elevation.specs.Breaks.{breaksOf}
 use Rattle.elevation.specs.Elevate.{raiseAll}
 use Rattle.elevation.specs.Whole.{elevatedCount, elevateStart, elevated, elevateOutcome, ElevateMeets}
@@ -71,7 +71,8 @@ module _ (a b c : ℕ) (k₁ p₁ w₁ : List Float) (r : Refusal) where
 
 -- ---- cleared runs are as long as they were
 module _ (p : ℕ) (ks ps : List Float) (g : Bool) (ws : List Float) (e a b c d : ℕ) (k₁ p₁ w₁ : List Float) (K : k₁ ≡ zeros a) (P : p₁ ≡ zeros b) (W : w₁ ≡ zeros c) where
-  pub start-ready : elevateStart p ks ps g ws e a b c d .number ≡ 0 → (elevateStart p ks ps g ws e (length k₁) (length p₁) (length w₁) d .number ≡ 0) × ((k₁ ≡ zeros (length k₁)) × (p₁ ≡ zeros (length p₁)) × (w₁ ≡ zeros (length w₁)))
+  pub start-ready : elevateStart p ks ps g ws e a b c d .number ≡ 0
+      → (elevateStart p ks ps g ws e (length k₁) (length p₁) (length w₁) d .number ≡ 0) × ((k₁ ≡ zeros (length k₁)) × (p₁ ≡ zeros (length p₁)) × (w₁ ≡ zeros (length w₁)))
   start-ready S = (rw (cleared-length k₁ a K, cleared-length p₁ b P, cleared-length w₁ c W) S, (cleared k₁ a K, cleared p₁ b P, cleared w₁ c W))
 
   pub meets-moved : (o : Outcome) (k₂ p₂ w₂ : List Float) (r : Refusal) → OutMeets (length k₁) (length p₁) (length w₁) o k₂ p₂ w₂ r → OutMeets a b c o k₂ p₂ w₂ r

@@ -1,21 +1,21 @@
 -- A list over a run from a place on.
 -- Assumes nothing.
 use Prim.Native.Nat.{ℕ, _+_, _-_, _≤_, _<_}
-use mathlib.Core.Bool.{Bool, true, false}
+use mathlib.Core.Bool.{Bool, true, false, cond}
 use mathlib.Core.Path.{_≡_, refl, sym, _∙_, ap, ap₂}
 use mathlib.Core.List.{List, [], _∷_, _++_, append-assoc}
 use native.Mathlib.Omega.{arith}
 use native.Mathlib.Numerals.{add-one}
-use lib.ListN.{length, set, take, drop, replicate, length-append, length-set, length-replicate, length-drop, take-append-drop, replicate-append-replicate, drop-of-length-le}
-use lib.Seq.{length-take-le, take-at, drop-append-add, drop-drop, drop-cons, set-split}
-use lib.Ieee.{Float, nan}
-use Rattle.doubles.specs.Run.{at}
+use lib.ListN.{length, set, take, drop, replicate, length-append, length-set, length-replicate, length-drop, take-append-drop, replicate-append-replicate}
+use lib.Seq.{length-take-le, take-at, drop-append-add, drop-drop, set-split}
+use lib.Ieee.{Float}
 use Rattle.knots.specs.Clear.{zeros}
-use Rattle.evaluate.specs.Lent.{padded}
-use Rattle.evaluate.specs.declared.vector.Vector.{Vector}
-use Rattle.evaluate.proofs.Overlays.{drop-zeros}
-use Rattle.insertion.specs.Rows.{given}
-use Rattle.insertion.specs.Whole.{givenOf}
+use Rattle.runs.specs.Lent.{padded}
+use Rattle.runs.specs.declared.vector.Vector.{Vector}
+use Rattle.runs.proofs.Overlays.{drop-zeros}
+use Rattle.runs.proofs.Cleared.{copied-whole}
+use Rattle.edits.specs.Rows.{given}
+use Rattle.edits.specs.Whole.{givenOf}
 use Rattle.elevation.specs.Elevate.{three}
 use Rattle.elevation.specs.Passes.{over}
 
@@ -79,14 +79,9 @@ over-fill a i t d xs l e =
     ∙ (over-over a (a + i) (replicate i t) (t ∷ []) d (omega arith) (omega arith) ∙ ap (λ (x : List Float). over a x d) (replicate-append-replicate i 1 t)))
 
 -- a weight, where there are weights
-module _ (i : ℕ) (w : Float) (d : List Float) where
-  pub weight-over : (g : Bool) → g ≡ true → i < length d → set d i w ≡ over (given g i) (givenOf g (w ∷ [])) d
-  weight-over true e l = over-one i w d l
-  weight-over false e l = let z : _≡_ {A = ℕ} 0 1 = cc in absurd (omega arith)
-
-  pub weight-none : (g : Bool) → g ≡ false → d ≡ over (given g i) (givenOf g (w ∷ [])) d
-  weight-none true e = let z : _≡_ {A = ℕ} 0 1 = cc in absurd (omega arith)
-  weight-none false e = sym (over-none 0 d)
+pub weight-over : (g : Bool) (i : ℕ) (w : Float) (d : List Float) → (g ≡ true → i < length d) → cond g (set d i w) d ≡ over (given g i) (givenOf g (w ∷ [])) d
+weight-over true i w d l = over-one i w d (l refl)
+weight-over false i w d l = sym (over-none 0 d)
 
 -- over a run of +0.0
 pub over-zeros : (m : ℕ) (l d xs : List Float) → d ≡ zeros m → xs ≡ over 0 l d → xs ≡ padded m l
@@ -96,35 +91,12 @@ over-zeros m l d xs z e = e ∙ ap (λ (x : List Float). l ++ x) (ap (drop (0 + 
     zero-sum : 0 + length l ≡ length l
     zero-sum = omega arith
 
--- a run copied place by place: what is left of it
-pub record InCopy (xs d ys : List Float) (i : ℕ) : Type 0 where
-  pub upto : i ≤ length xs
-  pub long : length ys ≡ length d
-  pub rest : over i (drop i xs) ys ≡ over 0 xs d
-
-module _ (xs d : List Float) where
-  pub copy-start : InCopy xs d d 0
-  copy-start = record { upto = omega arith; long = refl; rest = refl }
-
-  pub copy-more : length xs ≤ length d → (ys : List Float) (i : ℕ) → InCopy xs d ys i → i < length xs → InCopy xs d (set ys i (at xs i)) (i + 1)
-  copy-more h ys i I l =
-      let L = I .long in
-      record {
-        upto = omega arith;
-        long = length-set ys i (at xs i) ∙ L;
-        rest = ap (over (i + 1) (drop (i + 1) xs)) (over-one i (at xs i) ys (omega arith))
-            ∙ (over-over i (i + 1) (at xs i ∷ []) (drop (i + 1) xs) ys refl (omega arith)
-            ∙ (ap (λ (x : List Float). over i x ys) (ap (λ (j : ℕ). at xs i ∷ drop j xs) (add-one i) ∙ sym (drop-cons xs i nan l)) ∙ I .rest));
-      }
-
-  pub copy-end : (ys : List Float) (i : ℕ) → InCopy xs d ys i → length xs ≤ i → ys ≡ over 0 xs d
-  copy-end ys i I l = sym (over-none i ys) ∙ (ap (λ (x : List Float). over i x ys) (sym (drop-of-length-le xs {i = i} l)) ∙ I .rest)
-
 -- weights that are given are copied, and others are not
-pub given-copied : (g : Bool) (m : ℕ) (ws d xs : List Float) → g ≡ true → d ≡ zeros m → xs ≡ over 0 ws d → xs ≡ padded m (givenOf g ws)
-given-copied true m ws d xs e z h = over-zeros m ws d xs z h
-given-copied false m ws d xs e z h = let y : _≡_ {A = ℕ} 0 1 = cc in absurd (omega arith)
+module _ (m : ℕ) (ws xs : List Float) where
+  pub given-copied : (g : Bool) → g ≡ true → length ws ≤ m → xs ≡ padded m (take m ws) → xs ≡ padded m (givenOf g ws)
+  given-copied true e l h = h ∙ copied-whole m ws l
+  given-copied false e l h = let y : _≡_ {A = ℕ} 0 1 = cc in absurd (omega arith)
 
-pub given-left : (g : Bool) (m : ℕ) (ws d : List Float) → g ≡ false → d ≡ zeros m → d ≡ padded m (givenOf g ws)
-given-left true m ws d e z = let y : _≡_ {A = ℕ} 0 1 = cc in absurd (omega arith)
-given-left false m ws d e z = over-zeros m [] d d z (sym (over-none 0 d))
+  pub given-left : (g : Bool) → g ≡ false → xs ≡ zeros m → xs ≡ padded m (givenOf g ws)
+  given-left true e z = let y : _≡_ {A = ℕ} 0 1 = cc in absurd (omega arith)
+  given-left false e z = over-zeros m [] xs xs z (sym (over-none 0 xs))

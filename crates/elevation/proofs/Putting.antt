@@ -7,11 +7,11 @@ use mathlib.Core.List.{List, [], _∷_, _++_}
 use native.Mathlib.Omega.{arith}
 use lib.ListN.{length, length-append}
 use lib.Ieee.{Float}
-use Rattle.evaluate.specs.declared.vector.Vector.{Vector}
-use Rattle.insertion.specs.Control.{isBlended, lowerOf}
-use Rattle.insertion.specs.Rows.{given}
-use Rattle.insertion.specs.Whole.{givenOf}
-use Rattle.insertion.specs.declared.control.Control.{Control}
+use Rattle.runs.specs.declared.vector.Vector.{Vector}
+use Rattle.edits.specs.Control.{isBlended, lowerOf}
+use Rattle.edits.specs.Rows.{given}
+use Rattle.edits.specs.Whole.{givenOf}
+use Rattle.edits.specs.declared.control.Control.{Control}
 use Rattle.elevation.specs.Elevate.{controlsOf, allBlended, three, pointsOf, weightsOf}
 use Rattle.elevation.specs.Passes.{over, Put}
 use Rattle.elevation.proofs.Overlaid.{over-none, over-long, over-over}

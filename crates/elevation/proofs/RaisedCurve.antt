@@ -10,20 +10,23 @@ use borrow.Author.Tests.{eqb-true, eqb-false, ne-eqb}
 use lib.ListN.{length}
 use lib.Dec.{eqb}
 use lib.Ieee.{Float}
-use Rattle.doubles.specs.Run.{at}
 use Rattle.knots.specs.Below.{allBelow}
 use Rattle.knots.specs.Refusal.{refuse, control-bad}
 use Rattle.knots.specs.Clear.{zeros}
 use Rattle.knots.specs.declared.refusal.Refusal.{Refusal}
 use Rattle.knots.proofs.Refusals.{stop, skip}
-use Rattle.evaluate.specs.Controls.{pointOf}
-use Rattle.evaluate.specs.declared.vector.Vector.{Vector}
-use Rattle.insertion.specs.Control.{isLifted}
-use Rattle.insertion.specs.Counts.{bit}
-use Rattle.insertion.specs.Fold.{Outcome, gives, refuses, insertAll}
-use Rattle.insertion.specs.Work.{pointsFrom, weightsFrom, controls, liftRefusal, liftedRun}
-use Rattle.insertion.specs.Passes.{rowOf, OutMeets}
-use Rattle.insertion.specs.declared.control.Control.{Control}
+use Rattle.runs.specs.Point.{pointOf}
+use Rattle.runs.specs.declared.vector.Vector.{Vector}
+use Rattle.edits.specs.Control.{vectorOf, isLifted}
+use Rattle.edits.specs.Counts.{bit}
+use Rattle.insertion.specs.Fold.{insertAll}
+use Rattle.edits.specs.Outcome.{Outcome, gives, refuses}
+use Rattle.edits.specs.Work.{pointsFrom, weightsFrom, scaleIn, controls, liftRefusal, liftedRun}
+use Rattle.edits.specs.Rows.{scaleOf}
+use Rattle.edits.specs.Passes.{rowOf, OutMeets}
+use Rattle.edits.proofs.LiftCall.{lifted-bad, lifted-done}
+use Rattle.edits.proofs.RowReads.{scale-fits, row-point}
+use Rattle.edits.specs.declared.control.Control.{Control}
 use Rattle.elevation.specs.Breaks.{breaksOf, isFull, missingAll}
 use Rattle.elevation.specs.Raise.{raiseTimes}
 use Rattle.elevation.specs.Elevate.{extractedCount, raisedCount, raisedKnots, segmentOf, addedBy, keptFrom, keptAll, extracted, raisedControls, raisedPoints, raisedWeights, raisedRefusal, raisedOutcome, afterExtraction, raiseAll}
@@ -33,7 +36,6 @@ use Rattle.elevation.proofs.Raising.{times-cong}
 use Rattle.elevation.proofs.Overlaid.{over-zeros}
 use Rattle.elevation.proofs.Putting.{controls-cong}
 use Rattle.elevation.proofs.Joining.{skip-sum}
-use Rattle.elevation.proofs.Lifted.{lifted-no, lifted-yes, lifted-rows, first-point}
 
 -- ---- equal controls are joined to equal ones
 module _ (p e : ℕ) (l : p ≤ e) (ks : List Float) (f h : ℕ → Control) (b : ℕ) (E : (i : ℕ) → i < (p + 1) * (b + 1) → f i ≡ h i) where
@@ -92,7 +94,8 @@ module _ (p e n : ℕ) (ks ps : List Float) (g : Bool) (ws bs : List Float) (a b
   unfolding raiseAll OutMeets
   raise-stop r E h k₁ p₁ w₁ = let q : goal ≡ refuses r = ap (afterExtraction (raisedOutcome p e n ks bs g)) E in rw q ((refl, h))
 
-  module _ (K P W : List Float) (E : insertAll p g n ks ps ws (missingAll p ks bs) ≡ gives K P W) (k₀ p₀ w₀ k₁ p₁ w₁ : List Float) (r : Refusal) (D : Raised p e n ks bs g P W k₀ p₀ w₀ k₁ p₁ w₁ r) where
+  module _ (K P W : List Float) (E : insertAll p g n ks ps ws (missingAll p ks bs) ≡ gives K P W) (k₀ p₀ w₀ k₁ p₁ w₁ : List Float) (r : Refusal)
+      (D : Raised p e n ks bs g P W k₀ p₀ w₀ k₁ p₁ w₁ r) where
     made : goal ≡ raisedOutcome p e n ks bs g P W
     unfolding raiseAll
     made = ap (afterExtraction (raisedOutcome p e n ks bs g)) E
@@ -122,19 +125,32 @@ pub elevated-is : (p e n : ℕ) (ks : List Float) → p < e → elevatedCount p 
 unfolding elevatedCount
 elevated-is p e n ks l = simp (ne-eqb e p (λ z. omega arith))
 
-module _ (p e n : ℕ) (l : p ≤ e) (ks bs : List Float) (g : Bool) (m : ℕ) (M : m ≡ extractedCount p bs) (xs : List Float) (L : m * 4 ≤ length xs) (q : Refusal) (Q : q ≡ liftRefusal m g xs)
-    (k₀ p₀ w₀ k₁ p₁ w₁ : List Float) where
-  pub lift-stop : (q .number ≡ 0 → ⊥) → Raised p e n ks bs g (pointsFrom m xs) (weightsFrom g m xs) k₀ p₀ w₀ k₁ p₁ w₁ q
-  lift-stop h =
-      let u = lifted-no m g xs L q Q h in
-      raised-19 p e n l ks bs g (pointsFrom m xs) (weightsFrom g m xs) k₀ p₀ w₀ k₁ p₁ w₁ q (subst (λ (k : ℕ). allBelow (λ i. isLifted (controls m g xs i)) k ≡ false) M (u .0)) (u .1)
+module _ (p e n : ℕ) (l : p ≤ e) (ks bs : List Float) (g : Bool) (m : ℕ) (M : m ≡ extractedCount p bs) (xs : List Float) (L : m * 4 ≤ length xs)
+    (s : Float) (S : s ≡ scaleIn m g xs) (q : Refusal) (Q : q ≡ liftRefusal s m g xs) (k₀ p₀ w₀ k₁ p₁ w₁ : List Float) where
+  abbrev P : List Float
+  P = pointsFrom m xs
 
-  pub lift-joined : q .number ≡ 0 → (ys : List Float) → ys ≡ liftedRun m g xs → 0 < m → (o : Vector) → o ≡ record { x = at xs 0; y = at xs 1; z = at xs 2 }
-      → (r : Refusal) → Joined p e n ks bs g (rowOf g ys) o k₀ p₀ w₀ k₁ p₁ w₁ r → Raised p e n ks bs g (pointsFrom m xs) (weightsFrom g m xs) k₀ p₀ w₀ k₁ p₁ w₁ r
+  abbrev W : List Float
+  W = weightsFrom g m xs
+
+  scale : s ≡ scaleOf g W
+  scale = S ∙ scale-fits m g xs L
+
+  refusal : q ≡ liftRefusal (scaleOf g W) m g xs
+  refusal = Q ∙ ap (λ (x : Float). liftRefusal x m g xs) scale
+
+  pub lift-stop : (q .number ≡ 0 → ⊥) → Raised p e n ks bs g P W k₀ p₀ w₀ k₁ p₁ w₁ q
+  lift-stop h =
+      let u = lifted-bad (scaleOf g W) m g xs L q refusal h in
+      raised-19 p e n l ks bs g P W k₀ p₀ w₀ k₁ p₁ w₁ q (subst (λ (k : ℕ). allBelow (λ i. isLifted (controls (scaleOf g W) m g xs i)) k ≡ false) M (u .1)) (u .0)
+
+  pub lift-joined : q .number ≡ 0 → (ys : List Float) → ys ≡ liftedRun s m g xs → 0 < m → (o : Vector) → o ≡ vectorOf (rowOf g xs 0)
+      → (r : Refusal) → Joined p e n ks bs g (rowOf g ys) o k₀ p₀ w₀ k₁ p₁ w₁ r → Raised p e n ks bs g P W k₀ p₀ w₀ k₁ p₁ w₁ r
   lift-joined z ys Y b o O r J =
-      raised-joined p e n l ks bs g (pointsFrom m xs) (weightsFrom g m xs) k₀ p₀ w₀ k₁ p₁ w₁ r
-      (subst (λ (k : ℕ). allBelow (λ i. isLifted (controls m g xs i)) k ≡ true) M (lifted-yes m g xs L q Q z)) (rowOf g ys)
-      (λ i u. lifted-rows m g xs L q Q z ys Y i (subst (λ (k : ℕ). i < k) (sym M) u)) o (O ∙ first-point m xs b) J
+      let D = lifted-done (scaleOf g W) m g xs L q refusal z ys (Y ∙ ap (λ (x : Float). liftedRun x m g xs) scale) in
+      raised-joined p e n l ks bs g P W k₀ p₀ w₀ k₁ p₁ w₁ r
+      (subst (λ (k : ℕ). allBelow (λ i. isLifted (controls (scaleOf g W) m g xs i)) k ≡ true) M (sym (D .answer))) (rowOf g ys)
+      (λ i u. D .rows refl i (subst (λ (k : ℕ). i < k) (sym M) u)) o (O ∙ sym (row-point g m xs 0 b)) J
 
 pub some-points : (p m : ℕ) (bs : List Float) → m ≡ extractedCount p bs → 0 < m
 unfolding extractedCount

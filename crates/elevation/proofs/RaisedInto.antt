@@ -1,35 +1,32 @@
 -- The curve laid into scratch, extracted there and raised, put together from its passes.
 -- Assumes nothing.
 use Prim.Native.Nat.{ℕ, _+_, _*_, _/_, _≤_, _<_}
-use mathlib.Core.Bool.{Bool, true, false}
-use mathlib.Core.Path.{_≡_, refl, sym, _∙_, ap, subst}
+use mathlib.Core.Bool.{Bool}
+use mathlib.Core.Path.{_≡_, refl, sym, _∙_, subst}
 use mathlib.Core.List.{List}
 use native.Mathlib.Omega.{arith}
-use lib.ListN.{length, length-replicate}
+use lib.ListN.{length}
 use lib.Ieee.{Float}
-use Rattle.doubles.specs.Value.{zero+}
 use Rattle.knots.specs.Clear.{zeros}
 use Rattle.knots.specs.Knots.{ValidKnots}
 use Rattle.knots.specs.declared.refusal.Refusal.{Refusal}
-use Rattle.insertion.specs.Rows.{given}
-use Rattle.insertion.specs.Whole.{givenOf}
-use Rattle.insertion.specs.Fold.{Outcome, gives, insertAll}
-use Rattle.insertion.specs.Work.{laid, knotsFrom, pointsFrom, weightsFrom, workRoom, layRefusal, layOutcome, refusalOf, workIn}
-use Rattle.insertion.specs.Passes.{OutMeets}
+use Rattle.edits.specs.Rows.{given}
+use Rattle.edits.specs.Whole.{givenOf}
+use Rattle.insertion.specs.Fold.{insertAll}
+use Rattle.edits.specs.Outcome.{Outcome}
+use Rattle.edits.specs.Work.{laid, knotsFrom, pointsFrom, weightsFrom, layOutcome, refusalOf, workIn}
+use Rattle.edits.specs.Passes.{CurveIn, OutMeets}
+use Rattle.edits.proofs.RowReads.{given-fits}
+use Rattle.edits.proofs.WorkCalls.{laid-curve}
+use Rattle.edits.proofs.IntoRun.{points-back, weights-back, knots-back}
 use Rattle.elevation.specs.Breaks.{breaksOf, missingAll}
 use Rattle.elevation.specs.Elevate.{extractedCount, raisedCount, raiseAll}
 use Rattle.elevation.specs.Whole.{elevateStart}
 use Rattle.elevation.specs.Passes.{BreaksCounted, Extracted, Raised}
-use Rattle.elevation.proofs.Breaks.{extracted-count}
+use Rattle.elevation.proofs.Missing.{extracted-count}
 use Rattle.elevation.proofs.Limits.{breaks-small, extracted-small, extracted-is}
 use Rattle.elevation.proofs.Opened.{Opened, opened}
-use Rattle.elevation.proofs.LaidOut.{knots-laid, points-laid, weights-laid}
-use Rattle.elevation.proofs.Extracting.{room-none}
 use Rattle.elevation.proofs.RaisedCurve.{elevated-is, raise-stop, raise-end}
-
-given-fits : (g : Bool) (n : ℕ) (ws : List Float) → (g ≡ true → length ws ≡ n) → given g n ≤ length ws
-given-fits true n ws h = let e = h refl in omega arith
-given-fits false n ws h = omega arith
 
 module _ (p : ℕ) (ks ps : List Float) (g : Bool) (ws : List Float) (e A B C d : ℕ) (S : elevateStart p ks ps g ws e A B C d .number ≡ 0) where
   abbrev n : ℕ
@@ -71,38 +68,31 @@ module _ (p : ℕ) (ks ps : List Float) (g : Bool) (ws : List Float) (e A B C d 
     points-long : length ps ≡ n * 3
     points-long = let t = open-facts .curve .triples in omega arith
 
-    lay-is : layOutcome ks ps g ws (m * 4) d ≡ gives ks ps ws
-    unfolding layOutcome layRefusal workRoom
-    lay-is =
-        let q = made-is in
-        let s = scratch in
-        let l = open-facts .curve .knots .long in
-        simp (room-none (length ws) (given g n) (given-fits g n ws (open-facts .curve .controls .weights)), room-none (m * 4) (n * 4) (omega arith), room-none d (m * 4 + length ks) (omega arith))
+    wide : n * 4 ≤ m * 4
+    wide = let q = made-is in omega arith
+
+    room : m * 4 + length ks ≤ d
+    room = let q = made-is in let s = scratch in let l = open-facts .curve .knots .long in omega arith
+
+    laid-out : (r : Refusal) (x₁ : List Float) → r ≡ refusalOf (layOutcome ks ps g ws (m * 4) d) → x₁ ≡ workIn (m * 4) g (zeros d) (layOutcome ks ps g ws (m * 4) d)
+        → (r .number ≡ 0) × CurveIn (m * 4) ks ps g ws (zeros d) x₁
+    laid-out = laid-curve ks ps g ws (m * 4) d (given-fits g n (length ws) (open-facts .curve .controls .weights)) wide room
 
     pub lay-none : (r : Refusal) → r ≡ refusalOf (layOutcome ks ps g ws (m * 4) d) → r .number ≡ 0
-    lay-none r R = ap (λ (x : Refusal). x .number) (R ∙ ap refusalOf lay-is)
+    lay-none r R = laid-out r _ R refl .0
 
     module _ (x₁ : List Float) (X : x₁ ≡ workIn (m * 4) g (zeros d) (layOutcome ks ps g ws (m * 4) d)) where
-      abbrev run : List Float
-      run = laid (m * 4) (zeros d) ks ps g ws
-
-      run-is : x₁ ≡ run
-      run-is = X ∙ ap (workIn (m * 4) g (zeros d)) lay-is
-
-      long-zeros : m * 4 + (n + p + 1) ≤ length (zeros d)
-      long-zeros = let q = made-is in let s = scratch in omega (arith, length-replicate d zero+)
-
-      wide : n * 4 ≤ m * 4
-      wide = let q = made-is in omega arith
+      stands : CurveIn (m * 4) ks ps g ws (zeros d) x₁
+      stands = laid-out _ x₁ refl X .1
 
       knots-are : knotsFrom (m * 4) p n x₁ ≡ ks
-      knots-are = ap (knotsFrom (m * 4) p n) run-is ∙ knots-laid (m * 4) (zeros d) ks ps g ws p n (open-facts .curve .knots .long) points-long (open-facts .curve .controls .weights) wide long-zeros
+      knots-are = knots-back (m * 4) ks ps g ws (zeros d) x₁ stands p n (open-facts .curve .knots .long)
 
       points-are : pointsFrom n x₁ ≡ ps
-      points-are = ap (pointsFrom n) run-is ∙ points-laid (m * 4) (zeros d) ks ps g ws p n (open-facts .curve .knots .long) points-long (open-facts .curve .controls .weights) wide long-zeros
+      points-are = points-back (m * 4) ks ps g ws (zeros d) x₁ stands points-long
 
       weights-are : weightsFrom g n x₁ ≡ givenOf g ws
-      weights-are = ap (weightsFrom g n) run-is ∙ weights-laid (m * 4) (zeros d) ks ps g ws p n (open-facts .curve .knots .long) points-long (open-facts .curve .controls .weights) wide long-zeros
+      weights-are = weights-back (m * 4) ks ps g ws (zeros d) x₁ stands g refl (open-facts .curve .controls .weights)
 
       pub extract-ready : (l : ℕ) → l ≡ d
           → ((p < n) × (n ≤ length ks)) × (ValidKnots p n (knotsFrom (m * 4) p n x₁) × (((n + length (missingAll p ks bs)) * 4 ≤ m * 4) × (m * 4 + (n + length (missingAll p ks bs) + p + 1) ≤ l)))
@@ -111,7 +101,8 @@ module _ (p : ℕ) (ks ps : List Float) (g : Bool) (ws : List Float) (e A B C d 
           let s = scratch in
           (in-reach, (subst (ValidKnots p n) (sym knots-are) (open-facts .curve .knots), (omega arith, omega arith)))
 
-      module _ (x₂ : List Float) (r : Refusal) (E : Extracted p g (n + length (missingAll p ks bs)) (m * 4) (insertAll p g n (knotsFrom (m * 4) p n x₁) (pointsFrom n x₁) (weightsFrom g n x₁) (missingAll p ks bs)) x₂ r) where
+      module _ (x₂ : List Float) (r : Refusal)
+          (E : Extracted p g (n + length (missingAll p ks bs)) (m * 4) (insertAll p g n (knotsFrom (m * 4) p n x₁) (pointsFrom n x₁) (weightsFrom g n x₁) (missingAll p ks bs)) x₂ r) where
         extraction : Extracted p g m (m * 4) (insertAll p g n ks ps (givenOf g ws) (missingAll p ks bs)) x₂ r
         extraction =
             subst (λ (k : ℕ). Extracted p g k (m * 4) (insertAll p g n ks ps (givenOf g ws) (missingAll p ks bs)) x₂ r) made-is

@@ -6,28 +6,25 @@ use mathlib.Core.Path.{_≡_, refl, _∙_, ap}
 use mathlib.Core.List.{List, [], _∷_, _++_}
 use native.Mathlib.Omega.{arith}
 use native.Mathlib.Nat.{zero-add}
-use lib.ListN.{length, drop, replicate, getD-replicate, length-append, length-replicate, List·getD-append}
+use lib.ListN.{length, drop, replicate, getD-replicate, length-replicate, List·getD-append}
 use lib.Seq.{drop-at, getD-append-add}
 use lib.Ieee.{Float, nan, lt, eq}
 use lib.Ieee.Scale.{finite}
 use Rattle.doubles.specs.Run.{at}
 use Rattle.knots.specs.Knots.{ValidKnots}
-use Rattle.insertion.specs.Counts.{bit, countBelow, multiplicityOf}
-use Rattle.insertion.specs.Start.{clampedEnds}
-use Rattle.insertion.proofs.Counted.{lt-not-eq, gt-not-eq, eq-self}
+use Rattle.edits.specs.Counts.{bit, countBelow, multiplicityOf}
+use Rattle.edits.specs.Start.{clampedEnds}
+use Rattle.insertion.proofs.KnotCounts.{lt-not-eq, gt-not-eq, eq-self}
 use Rattle.insertion.specs.Placed.{Each}
 use Rattle.insertion.proofs.Made.{countIn, each-append, each-replicate, each-map, count-append, count-replicate}
 use Rattle.elevation.specs.Breaks.{breaksOf, isFull}
 use Rattle.elevation.specs.Elevate.{breakKnots, raisedKnots, raisedCount}
-use Rattle.elevation.proofs.Breaks.{raisedCount as sumCount, Rising, each-zip, count-none-in, out-count, IsBreak, distinct, breaks-are}
+use Rattle.elevation.proofs.Breaks.{Rising, each-zip, IsBreak, distinct, breaks-are}
+use Rattle.elevation.proofs.Missing.{count-none-in}
+use Rattle.elevation.proofs.KnotWalks.{raised-count}
 use Rattle.elevation.proofs.Stands.{OnKnots}
 
 -- ---- their number, first and last
-pub knots-long : (p e : ℕ) (ks bs : List Float) → length (breakKnots p e ks bs) ≡ sumCount p ks e bs
-unfolding breakKnots sumCount
-knots-long p e ks [] = refl
-knots-long p e ks (t ∷ bs) = length-append (replicate (e + bit (isFull p ks t)) t) (breakKnots p e ks bs) ∙ omega (arith, length-replicate (e + bit (isFull p ks t)) t, knots-long p e ks bs)
-
 module _ (p e n : ℕ) (ks bs : List Float) where
   abbrev starts : List Float
   starts = replicate (e + 1) (at ks p)
@@ -37,10 +34,6 @@ module _ (p e n : ℕ) (ks bs : List Float) where
 
   abbrev ends : List Float
   ends = replicate (e + 1) (at ks n)
-
-  pub raised-count : (e + 1) + length (breakKnots p e ks bs) ≡ raisedCount p e ks bs
-  unfolding raisedCount
-  raised-count = omega (arith, knots-long p e ks bs, out-count p ks e bs)
 
   pub knots-first : OnKnots p e ks (at ks n) (raisedKnots p e n ks bs) (at ks p) 0 bs
   unfolding raisedKnots
@@ -54,7 +47,7 @@ module _ (p e n : ℕ) (ks bs : List Float) where
   pub last-knot : at (raisedKnots p e n ks bs) (raisedCount p e ks bs) ≡ at ks n
   unfolding raisedKnots
   last-knot =
-      let x : raisedCount p e ks bs ≡ length starts + (length inner + 0) = omega (arith, raised-count, length-replicate (e + 1) (at ks p)) in
+      let x : raisedCount p e ks bs ≡ length starts + (length inner + 0) = omega (arith, raised-count p e ks bs, length-replicate (e + 1) (at ks p)) in
       ap (at (starts ++ (inner ++ ends))) x ∙ getD-append-add starts (inner ++ ends) (length inner + 0) nan ∙ getD-append-add inner ends 0 nan ∙ getD-replicate (e + 1) 0 (at ks n) nan (omega arith)
 
 -- ---- how often a break stands there
@@ -90,7 +83,8 @@ module _ (p e : ℕ) (ks : List Float) where
     where
       none : countIn (λ x. eq x t) (breakKnots p e ks bs) ≡ 0
       none = count-none-in (λ x. eq x t) (breakKnots p e ks bs) (each-knot (λ x. eq x t ≡ false) bs
-          (each-map (λ x. (finite x ≡ true) × (lt t x ≡ true)) (λ x. eq x t ≡ false) (λ x h. gt-not-eq x t (h .0) (F .0) (h .1)) bs (each-zip (λ x. finite x ≡ true) (λ x. lt t x ≡ true) bs (F .1) (R .0))))
+          (each-map (λ x. (finite x ≡ true) × (lt t x ≡ true)) (λ x. eq x t ≡ false) (λ x h. gt-not-eq x t (h .0) (F .0) (h .1)) bs
+          (each-zip (λ x. finite x ≡ true) (λ x. lt t x ≡ true) bs (F .1) (R .0))))
 
 pub raised-times : (p e n : ℕ) (ks : List Float) (v : ValidKnots p n ks) → clampedEnds p n ks ≡ true
     → Each (λ t. multiplicityOf (raisedKnots p e n ks (breaksOf p n ks)) t ≡ e + bit (isFull p ks t)) (breaksOf p n ks)

@@ -11,12 +11,26 @@ use borrow.Author.Tests.{le-leb, lt-leb, ne-eqb, leb-true}
 use lib.ListN.{length}
 use lib.Dec.{leb, eqb}
 use lib.Ieee.{Float}
-use Rattle.basis.proofs.Cases.{lt-or-ge}
-use Rattle.insertion.specs.Control.{blendOf}
-use Rattle.insertion.specs.declared.control.Control.{Control}
+use Rattle.runs.proofs.Cases.{lt-or-ge}
+use Rattle.edits.specs.Control.{blendOf}
+use Rattle.edits.specs.declared.control.Control.{Control}
 use Rattle.elevation.specs.Raise.{raiseShare, raiseOnce, raiseTimes}
-use Rattle.elevation.specs.Passes.{controlIn, Holds}
-use Rattle.elevation.proofs.RowStores.{four, four-long, row-same, row-other}
+use Rattle.elevation.specs.Passes.{controlIn, RowsAre}
+use Rattle.edits.specs.Passes.{rowPut}
+use Rattle.edits.proofs.RowStores.{row-put, row-put-long, rows-same}
+
+-- ---- a control is stored
+module _ (i : ℕ) (q : Control) (xs ys : List Float) (E : ys ≡ rowPut true xs i q) where
+  row-long : length ys ≡ length xs
+  row-long = ap length E ∙ row-put-long true xs i q
+
+  module _ (l : i * 4 + 3 < length xs) where
+    row-here : controlIn ys i ≡ q
+    row-here = row-put i q xs l true ys E .row
+
+    row-else : (j : ℕ) → (j < i) ⊎ (i < j) → controlIn ys j ≡ controlIn xs j
+    row-else j (inl b) = rows-same true ys xs j (λ c d. row-put i q xs l true ys E .rest (j * 4 + c) (inl (omega arith)))
+    row-else j (inr b) = rows-same true ys xs j (λ c d. row-put i q xs l true ys E .rest (j * 4 + c) (inr (inl (omega arith))))
 
 -- ---- one control
 module _ (d : ℕ) (h : ℕ → Control) where
@@ -61,22 +75,22 @@ module _ (d : ℕ) (r₀ : List Float) (room : d * 4 + 7 < length r₀) where
   raise-start = record { upto = omega arith; long = refl; above = λ j l u. absurd (omega arith); below = λ j l. refl }
 
   module _ (r₁ : List Float) (i : ℕ) (I : InRaise d r₀ r₁ i) where
-    pub raise-more : 0 < i → (q : Control) → q ≡ raiseOnce d (controlIn r₁) i → (r₂ : List Float) → r₂ ≡ four r₁ (i * 4) (q .x) (q .y) (q .z) (q .w) → InRaise d r₀ r₂ (i - 1)
+    pub raise-more : 0 < i → (q : Control) → q ≡ raiseOnce d (controlIn r₁) i → (r₂ : List Float) → r₂ ≡ rowPut true r₁ i q → InRaise d r₀ r₂ (i - 1)
     unfolding raiseOnce
     raise-more l q Q r₂ E =
         let U = I .upto in
         let L = I .long in
         record {
           upto = omega arith;
-          long = ap length E ∙ (four-long r₁ (i * 4) (q .x) (q .y) (q .z) (q .w) ∙ L);
+          long = row-long i q r₁ r₂ E ∙ L;
           above = λ j a u. ⊎-elim
-              (λ (b : i < j). ap (λ (xs : List Float). controlIn xs j) E ∙ (row-other r₁ i q j (λ e. omega arith) ∙ I .above j b u))
+              (λ (b : i < j). row-else i q r₁ r₂ E (omega arith) j (inr b) ∙ I .above j b u)
               (λ (b : j ≤ i).
               let e : j ≡ i = omega arith in
               subst (λ (k : ℕ). controlIn r₂ k ≡ raiseOnce d (controlIn r₀) k) (sym e)
-              (ap (λ (xs : List Float). controlIn xs i) E ∙ (row-same r₁ i q (omega arith) ∙ (Q ∙ same))))
+              (row-here i q r₁ r₂ E (omega arith) ∙ (Q ∙ same)))
               (lt-or-ge i j);
-          below = λ j a. ap (λ (xs : List Float). controlIn xs j) E ∙ (row-other r₁ i q j (λ e. omega arith) ∙ I .below j (omega arith));
+          below = λ j a. row-else i q r₁ r₂ E (omega arith) j (inl (omega arith)) ∙ I .below j (omega arith);
         }
       where
         same : raiseOnce d (controlIn r₁) i ≡ raiseOnce d (controlIn r₀) i
@@ -85,31 +99,31 @@ module _ (d : ℕ) (r₀ : List Float) (room : d * 4 + 7 < length r₀) where
             simp (ne-eqb i 0 (λ e. omega arith), le-leb i d U) (ap₂ (λ (x y : Control). blendOf x y (raiseShare d i)) (I .below i (omega arith)) (I .below (i - 1) (omega arith)))
 
     -- and the last is the old last
-    pub raise-end : i ≤ 0 → (q : Control) → q ≡ controlIn r₀ d → (r₂ : List Float) → r₂ ≡ four r₁ ((d + 1) * 4) (q .x) (q .y) (q .z) (q .w) → Holds (raiseOnce d (controlIn r₀)) (d + 2) (length r₀) r₂
+    pub raise-end : i ≤ 0 → (q : Control) → q ≡ controlIn r₀ d → (r₂ : List Float) → r₂ ≡ rowPut true r₁ (d + 1) q → RowsAre (raiseOnce d (controlIn r₀)) (d + 2) (length r₀) r₂
     raise-end z q Q r₂ E =
         let L = I .long in
         record {
-          long = ap length E ∙ (four-long r₁ ((d + 1) * 4) (q .x) (q .y) (q .z) (q .w) ∙ L);
-          rows = λ j l. ap (λ (xs : List Float). controlIn xs j) E ∙ go j l (lt-or-ge i j) (lt-or-ge d j);
+          long = row-long (d + 1) q r₁ r₂ E ∙ L;
+          rows = λ j l. go j l (lt-or-ge i j) (lt-or-ge d j);
         }
       where
-        go : (j : ℕ) → j < d + 2 → (i < j) ⊎ (j ≤ i) → (d < j) ⊎ (j ≤ d) → controlIn (four r₁ ((d + 1) * 4) (q .x) (q .y) (q .z) (q .w)) j ≡ raiseOnce d (controlIn r₀) j
+        go : (j : ℕ) → j < d + 2 → (i < j) ⊎ (j ≤ i) → (d < j) ⊎ (j ≤ d) → controlIn r₂ j ≡ raiseOnce d (controlIn r₀) j
         go j l b (inl c) =
             let L = I .long in
             let e : j ≡ d + 1 = omega arith in
-            subst (λ (k : ℕ). controlIn (four r₁ ((d + 1) * 4) (q .x) (q .y) (q .z) (q .w)) k ≡ raiseOnce d (controlIn r₀) k) (sym e)
-            (row-same r₁ (d + 1) q (omega arith) ∙ (Q ∙ raise-last d (controlIn r₀)))
-        go j l (inl b) (inr c) = row-other r₁ (d + 1) q j (λ e. omega arith) ∙ I .above j b c
+            subst (λ (k : ℕ). controlIn r₂ k ≡ raiseOnce d (controlIn r₀) k) (sym e) (row-here (d + 1) q r₁ r₂ E (omega arith) ∙ (Q ∙ raise-last d (controlIn r₀)))
+        go j l (inl b) (inr c) = let L = I .long in row-else (d + 1) q r₁ r₂ E (omega arith) j (inl (omega arith)) ∙ I .above j b c
         go j l (inr b) (inr c) =
+            let L = I .long in
             let e : j ≡ 0 = omega arith in
-            row-other r₁ (d + 1) q j (λ x. omega arith)
+            row-else (d + 1) q r₁ r₂ E (omega arith) j (inl (omega arith))
             ∙ subst (λ (k : ℕ). controlIn r₁ k ≡ raiseOnce d (controlIn r₀) k) (sym e) (I .below 0 (omega arith) ∙ raise-first d (controlIn r₀))
 
 -- ---- the loop over the degrees
 pub record InTimes (p e : ℕ) (r₀ r₁ : List Float) (d : ℕ) : Type 0 where
   pub from : p ≤ d
   pub upto : d ≤ e
-  pub holds : Holds (raiseTimes p (d - p) (controlIn r₀)) (d + 1) (length r₀) r₁
+  pub holds : RowsAre (raiseTimes p (d - p) (controlIn r₀)) (d + 1) (length r₀) r₁
 
 module _ (p e : ℕ) (r₀ : List Float) where
   pub times-start : p ≤ e → InTimes p e r₀ r₀ p
@@ -117,14 +131,14 @@ module _ (p e : ℕ) (r₀ : List Float) where
   times-start l = record {
     from = omega arith;
     upto = l;
-    holds = let z : 0 ≡ p - p = omega arith in subst (λ (m : ℕ). Holds (raiseTimes p m (controlIn r₀)) (p + 1) (length r₀) r₀) z none;
+    holds = let z : 0 ≡ p - p = omega arith in subst (λ (m : ℕ). RowsAre (raiseTimes p m (controlIn r₀)) (p + 1) (length r₀) r₀) z none;
   }
     where
-      none : Holds (raiseTimes p 0 (controlIn r₀)) (p + 1) (length r₀) r₀
+      none : RowsAre (raiseTimes p 0 (controlIn r₀)) (p + 1) (length r₀) r₀
       none = record { long = refl; rows = λ i b. refl }
 
   module _ (r₁ : List Float) (d : ℕ) (I : InTimes p e r₀ r₁ d) where
-    pub times-more : d < e → (r₂ : List Float) → Holds (raiseOnce d (controlIn r₁)) (d + 2) (length r₁) r₂ → InTimes p e r₀ r₂ (d + 1)
+    pub times-more : d < e → (r₂ : List Float) → RowsAre (raiseOnce d (controlIn r₁)) (d + 2) (length r₁) r₂ → InTimes p e r₀ r₂ (d + 1)
     unfolding raiseTimes
     times-more l r₂ H =
         let F = I .from in
@@ -132,10 +146,10 @@ module _ (p e : ℕ) (r₀ : List Float) where
         record {
           from = omega arith;
           upto = omega arith;
-          holds = subst (λ (m : ℕ). Holds (raiseTimes p m (controlIn r₀)) (d + 1 + 1) (length r₀) r₂) z next;
+          holds = subst (λ (m : ℕ). RowsAre (raiseTimes p m (controlIn r₀)) (d + 1 + 1) (length r₀) r₂) z next;
         }
       where
-        next : Holds (raiseTimes p (suc (d - p)) (controlIn r₀)) (d + 1 + 1) (length r₀) r₂
+        next : RowsAre (raiseTimes p (suc (d - p)) (controlIn r₀)) (d + 1 + 1) (length r₀) r₂
         next =
             let F = I .from in
             let z : d ≡ p + (d - p) = omega arith in
@@ -145,20 +159,19 @@ module _ (p e : ℕ) (r₀ : List Float) where
                   ∙ ap (λ (k : ℕ). raiseOnce k (raiseTimes p (d - p) (controlIn r₀)) i) z);
             }
 
-    pub times-end : e ≤ d → Holds (raiseTimes p (e - p) (controlIn r₀)) (e + 1) (length r₀) r₁
-    times-end l = let U = I .upto in let z : d ≡ e = omega arith in subst (λ (k : ℕ). Holds (raiseTimes p (k - p) (controlIn r₀)) (k + 1) (length r₀) r₁) z (I .holds)
+    pub times-end : e ≤ d → RowsAre (raiseTimes p (e - p) (controlIn r₀)) (e + 1) (length r₀) r₁
+    times-end l = let U = I .upto in let z : d ≡ e = omega arith in subst (λ (k : ℕ). RowsAre (raiseTimes p (k - p) (controlIn r₀)) (k + 1) (length r₀) r₁) z (I .holds)
 
 -- ---- controls stored one by one
 module _ (h : ℕ → Control) (l : ℕ) where
-  pub hold-none : (r₁ : List Float) → length r₁ ≡ l → Holds h 0 l r₁
+  pub hold-none : (r₁ : List Float) → length r₁ ≡ l → RowsAre h 0 l r₁
   hold-none r₁ e = record { long = e; rows = λ i b. absurd (omega arith) }
 
-  pub hold-more : (r₁ : List Float) (i : ℕ) → Holds h i l r₁ → i * 4 + 3 < l → (q : Control) → q ≡ h i → (r₂ : List Float) → r₂ ≡ four r₁ (i * 4) (q .x) (q .y) (q .z) (q .w) → Holds h (i + 1) l r₂
+  pub hold-more : (r₁ : List Float) (i : ℕ) → RowsAre h i l r₁ → i * 4 + 3 < l → (q : Control) → q ≡ h i → (r₂ : List Float) → r₂ ≡ rowPut true r₁ i q → RowsAre h (i + 1) l r₂
   hold-more r₁ i I b q Q r₂ E =
       let L = I .long in
       record {
-        long = ap length E ∙ (four-long r₁ (i * 4) (q .x) (q .y) (q .z) (q .w) ∙ L);
+        long = row-long i q r₁ r₂ E ∙ L;
         rows = below-more (λ j. controlIn r₂ j ≡ h j) i
-            (λ j k. ap (λ (xs : List Float). controlIn xs j) E ∙ (row-other r₁ i q j (λ e. omega arith) ∙ I .rows j k))
-            (ap (λ (xs : List Float). controlIn xs i) E ∙ (row-same r₁ i q (omega arith) ∙ Q));
+            (λ j k. row-else i q r₁ r₂ E (omega arith) j (inl k) ∙ I .rows j k) (row-here i q r₁ r₂ E (omega arith) ∙ Q);
       }

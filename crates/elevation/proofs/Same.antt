@@ -27,26 +27,29 @@ use Rattle.knots.specs.Curve.{countOf, ValidCurve}
 use Rattle.knots.proofs.Refusals.{orElse-none, passed}
 use Rattle.knots.proofs.Curves.{valid-formed}
 use Rattle.knots.proofs.Fractions.{in-order, table-span, table-end}
-use Rattle.insertion.specs.Control.{isLifted}
-use Rattle.insertion.specs.Counts.{bit, multiplicityOf}
-use Rattle.insertion.specs.Fold.{Outcome, gives, refuses, insertAll}
-use Rattle.insertion.specs.Whole.{givenOf}
-use Rattle.insertion.specs.Start.{clampedEnds, editStart}
+use Rattle.edits.specs.Control.{isLifted}
+use Rattle.edits.specs.Counts.{bit, multiplicityOf}
+use Rattle.insertion.specs.Fold.{insertAll}
+use Rattle.edits.specs.Outcome.{Outcome, gives, refuses}
+use Rattle.edits.specs.Whole.{givenOf}
+use Rattle.edits.specs.Start.{clampedEnds, editStart}
 use Rattle.insertion.specs.Placed.{placed, weightValue, coordinateValue, Each}
-use Rattle.insertion.proofs.Counted.{multiplicity-low, multiplicity-high, below-room}
+use Rattle.insertion.proofs.KnotCounts.{multiplicity-low, multiplicity-high, below-room}
 use Rattle.insertion.proofs.Made.{each-map, by-number, Made, made, made-low, made-high, made-clamped}
-use Rattle.insertion.proofs.Starting.{edit-open}
+use Rattle.edits.proofs.Starting.{edit-open}
 use Rattle.insertion.proofs.Placed.{placed-long, Placed, placed-all, weight-above}
 use Rattle.elevation.specs.Breaks.{breaksOf, isFull, missingAll}
 use Rattle.elevation.specs.Elevate.{raisedCount, raisedKnots, extracted, extractedCount, raisedControls, allBlended, raisedPoints, raisedWeights, raisedRefusal, raisedOutcome, afterExtraction, raiseAll}
 use Rattle.elevation.specs.Joined.{raisedWeightAt, raisedPointAt}
 use Rattle.elevation.specs.Whole.{raiseStart, elevated, elevateStart, elevateOutcome}
-use Rattle.elevation.proofs.Breaks.{IsBreak, Rising, breaks-are, distinct, extracted-count, extraction-full}
+use Rattle.elevation.proofs.Breaks.{IsBreak, Rising, breaks-are, distinct}
+use Rattle.elevation.proofs.Missing.{extracted-count, extraction-full}
+use Rattle.elevation.proofs.KnotWalks.{raised-count}
 use Rattle.elevation.proofs.Joints.{joints}
 use Rattle.elevation.proofs.Stands.{OnKnots, controls-first}
 use Rattle.elevation.proofs.Full.{Rise, OnFull}
 use Rattle.elevation.proofs.Spans.{AllOnes, At, ones, find, find-end}
-use Rattle.elevation.proofs.RaisedKnots.{knots-long, raised-count, knots-first, last-knot, raised-times}
+use Rattle.elevation.proofs.RaisedKnots.{knots-first, last-knot, raised-times}
 
 -- the breaks, each full in ks₁
 rise-of : (p n : ℕ) (ks : List Float) (m : ℕ) (ks₁ : List Float) (v : ValidKnots p m ks₁) (H : finite (at ks n) ≡ true) (f : multiplicityOf ks₁ (at ks n) ≡ p + 1) (a : Float) (bs : List Float)
@@ -113,7 +116,8 @@ module _ (p : ℕ) (ks ps : List Float) (g : Bool) (ws : List Float) (e a b c d 
       (ap (λ (y : Bool). cond y (gives ks ps (givenOf g ws)) (raiseAll p e n ks ps g (givenOf g ws) bs)) (sym (ne-eqb e p (λ q. omega arith))) ∙ h))
       (λ z h. let q : _≡_ {A = ℕ} 0 1 = cc in absurd (omega arith)) E
     where
-      go : ValidCurve p ks ps g ws × (clampedEnds p n ks ≡ true) → (o : Outcome) → insertAll p g n ks ps (givenOf g ws) ts ≡ o → afterExtraction (raisedOutcome p e n ks bs g) o ≡ gives ke pe we → Formed
+      go : ValidCurve p ks ps g ws × (clampedEnds p n ks ≡ true) → (o : Outcome) → insertAll p g n ks ps (givenOf g ws) ts ≡ o
+          → afterExtraction (raisedOutcome p e n ks bs g) o ≡ gives ke pe we → Formed
       go v (refuses r) k h = let q : _≡_ {A = ℕ} 0 1 = cc in absurd (omega arith)
       go v (gives ks' ps' ws') k h =
           let R = raisedRefusal p e n ks bs g ps' ws' in
@@ -196,7 +200,7 @@ module _ (p : ℕ) (ks ps : List Float) (g : Bool) (ws : List Float) (e a b c d 
       points = controls-first p e ks _ q0 bs;
       joints = joints p g ks bs (distinct p n ks v) n ks ps (givenOf g ws) ks' (F .points) (F .weights) v
           (each-map (IsBreak p n ks) (λ u. multiplicityOf ks u ≡ multiplicityOf ks u) (λ u x. refl) bs (breaks-are p n ks v (F .clamped))) (F .fold) (weightValue g ws) c₀;
-      room = omega (arith, raised-count p e n ks bs, knots-long p e ks bs);
+      room = omega (arith, raised-count p e ks bs);
     }
 
     segments : AllOnes p e up g ks after ks' (M .valid) (at ks n) high-number full-high ke m w₁ c₁ bs (at ks p) 0 0 bs
@@ -231,7 +235,8 @@ module _ (p : ℕ) (ks ps : List Float) (g : Bool) (ws : List Float) (e a b c d 
           let o = O .one .last in
           let G = subst (λ (W : ℕ → ℚ). Segment W (val (O .a)) (val (O .z)) p (O .j * (p + 1))) (D .knots) (O .one .thin) in
           let same : O .st + e ≡ s = one-end (S .knots .mono) (omega arith) (omega arith) (segment-end (O .one .wide) (omega arith) (O .from) (O .to)) J in
-          elevation-same-end l (valAt ks) n (omega (arith, placed-long p n ks ts)) (D .fits) (span-end order (omega arith) (O .one .inner) (segment-end G some (O .from) (O .to))) S₀ t (weightValue g ws) c₀
+          elevation-same-end l (valAt ks) n (omega (arith, placed-long p n ks ts)) (D .fits)
+          (span-end order (omega arith) (O .one .inner) (segment-end G some (O .from) (O .to))) S₀ t (weightValue g ws) c₀
           (weight-above n ps g ws (F .curve .controls)) some G refl (e - p) (omega arith) (O .one .wide) same q w₂ c₂ (O .one .weights) (O .one .points) I J
 
   -- ---- each parameter of the domain has its span in both: the raised knots have the same domain

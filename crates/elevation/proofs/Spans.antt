@@ -6,7 +6,7 @@ use mathlib.Core.Path.{_≡_, sym, _∙_, ap, ap₂}
 use mathlib.Core.Logic.{⊎-elim}
 use mathlib.Core.List.{List, [], _∷_}
 use native.Mathlib.Omega.{arith}
-use lib.ListN.{getD}
+use lib.ListN.{length, getD}
 use lib.Ieee.{Float}
 use lib.Ieee.Scale.{finite}
 use Rattle.exact.specs.Rational.{ℚ, _*q_, _/q_, q0, _≤q_, _<q_}
@@ -16,10 +16,11 @@ use Rattle.exact.proofs.Bernstein.{raisedTo-first, raisedTo-last}
 use Rattle.doubles.specs.Run.{valAt}
 use Rattle.doubles.specs.Value.{val}
 use Rattle.knots.specs.Knots.{ValidKnots}
-use Rattle.insertion.specs.Counts.{bit, multiplicityOf}
+use Rattle.edits.specs.Counts.{bit, multiplicityOf}
+use Rattle.elevation.proofs.KnotWalks.{knots-step}
 use Rattle.elevation.specs.Breaks.{isFull}
+use Rattle.elevation.specs.Elevate.{breakKnots}
 use Rattle.elevation.specs.Joined.{joinedAll}
-use Rattle.elevation.proofs.Breaks.{raisedCount}
 use Rattle.elevation.proofs.Joints.{Twice, Joined}
 use Rattle.elevation.proofs.Stands.{OnControls, controls-next, OnKnots, knots-last, knots-one, knots-next}
 use Rattle.elevation.proofs.Full.{OnFull, full-place, full-next, full-one, full-last, full-inner}
@@ -65,10 +66,10 @@ module _ (p e : ℕ) (up : p < e) (g : Bool) (ks : List Float) (n : ℕ) (ks₁ 
     pub weights : OnControls p e ks segW q0 W′ st j bs
     pub points : OnControls p e ks segP q0 P′ st j bs
     pub joints : Joined p g ks bs ks₁ w P
-    pub room : st + (e + 1) + raisedCount p ks e bs ≡ count
+    pub room : st + (e + 1) + length (breakKnots p e ks bs) ≡ count
 
   pub ones : (a : Float) (st j : ℕ) (bs : List Float) → At a st j bs → AllOnes a st j bs
-  unfolding raisedCount raisedPoint
+  unfolding breakKnots raisedPoint
   ones a st j [] A = record {
     wide = knots-last p e ks hi ke a st (A .knots);
     thin = full-last p n ks₁ v hi H full-high a j (A .full);
@@ -83,7 +84,7 @@ module _ (p e : ℕ) (up : p < e) (g : Bool) (ks : List Float) (n : ℕ) (ks₁ 
       thin = full-one p n ks₁ v hi H full-high a j t bs (A .full);
       weights = A .weights .here;
       points = A .points .here;
-      last = omega (arith, A .room);
+      last = omega (arith, A .room, knots-step p e ks t bs);
       inner = full-inner p n ks₁ v hi H full-high a j (t ∷ bs) (A .full);
     },
     ones t (st + e + bit (isFull p ks t)) (j + 1) bs (record {
@@ -92,7 +93,7 @@ module _ (p e : ℕ) (up : p < e) (g : Bool) (ks : List Float) (n : ℕ) (ks₁ 
       weights = controls-next p e ks segW q0 W′ st j t bs (A .weights) share-weight;
       points = controls-next p e ks segP q0 P′ st j t bs (A .points) share-point;
       joints = A .joints .1;
-      room = omega (arith, A .room);
+      room = omega (arith, A .room, knots-step p e ks t bs);
     }),
   )
     where

@@ -13,8 +13,8 @@ use lib.Ieee.{Float, nan}
 use Rattle.exact.specs.Bernstein.{Segment}
 use Rattle.doubles.specs.Run.{at, valAt}
 use Rattle.doubles.specs.Value.{val}
-use Rattle.insertion.specs.Counts.{bit}
-use Rattle.insertion.specs.declared.control.Control.{Control}
+use Rattle.edits.specs.Counts.{bit}
+use Rattle.edits.specs.declared.control.Control.{Control}
 use Rattle.elevation.specs.Breaks.{isFull}
 use Rattle.elevation.specs.Elevate.{breakKnots, controlsOf, segmentOf, addedBy, keptFrom, keptAll}
 use Rattle.elevation.specs.Joined.{partOf, joinedFrom, joinedAll}
@@ -90,7 +90,8 @@ controls-first p e ks seg d bs =
     let L = part-long p e ks seg d (joinedAll p e ks seg bs) 0 0 (e + 1) in
     record {
       here = λ i l.
-          ap (λ (m : ℕ). getD (A ++ B) m d) (zero-add i) ∙ List·getD-append A B d i (omega arith) ∙ part-at p e ks seg d (joinedAll p e ks seg bs) 0 0 (e + 1) i (omega arith) ∙ ap (seg 0) (zero-add i);
+          ap (λ (m : ℕ). getD (A ++ B) m d) (zero-add i) ∙ List·getD-append A B d i (omega arith)
+          ∙ part-at p e ks seg d (joinedAll p e ks seg bs) 0 0 (e + 1) i (omega arith) ∙ ap (seg 0) (zero-add i);
       rest = let x : 0 + e + 1 ≡ e + 1 = omega arith in ap (λ (m : ℕ). drop m (A ++ B)) x ∙ drop-at A B (e + 1) L;
     }
 
@@ -139,5 +140,6 @@ module _ (p e : ℕ) (ks : List Float) (hi : Float) (ke : List Float) where
                 ap (at ke) q ∙ follows st (e + bit y) t (breakKnots p e ks bs ++ replicate (e + 1) hi) r (bit y + i - 1) (omega arith);
             rest =
                 let x : st + e + bit y + e + 1 ≡ st + e + 1 + (e + bit y) = omega arith in
-                ap (λ (i : ℕ). drop i ke) x ∙ sym (drop-drop (e + bit y) (st + e + 1) ke) ∙ ap (drop (e + bit y)) r ∙ drop-at (replicate (e + bit y) t) (breakKnots p e ks bs ++ replicate (e + 1) hi) (e + bit y) (length-replicate (e + bit y) t);
+                ap (λ (i : ℕ). drop i ke) x ∙ sym (drop-drop (e + bit y) (st + e + 1) ke) ∙ ap (drop (e + bit y)) r
+                ∙ drop-at (replicate (e + bit y) t) (breakKnots p e ks bs ++ replicate (e + 1) hi) (e + bit y) (length-replicate (e + bit y) t);
           }

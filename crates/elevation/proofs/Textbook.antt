@@ -7,11 +7,12 @@ use lib.Dec.{leb, eqb}
 use lib.Ieee.{Float, binary64, add, div, ofBits}
 use Rattle.exact.specs.Edit.{mixOf, raiseBy, raiseToBy, elevateBy}
 use Rattle.basis.specs.Floats.{floats}
-use Rattle.evaluate.specs.Controls.{pointOf, weightOf}
-use Rattle.evaluate.specs.declared.vector.Vector.{Vector}
-use Rattle.insertion.specs.Control.{liftOf, blendOf, lowerOf}
-use Rattle.insertion.specs.Rows.{liftAt}
-use Rattle.insertion.specs.declared.control.Control.{Control}
+use Rattle.runs.specs.Scale.{weightOf}
+use Rattle.runs.specs.Point.{pointOf}
+use Rattle.runs.specs.declared.vector.Vector.{Vector}
+use Rattle.edits.specs.Control.{liftOf, blendOf, lowerOf}
+use Rattle.edits.specs.Rows.{liftAt}
+use Rattle.edits.specs.declared.control.Control.{Control}
 use Rattle.insertion.proofs.Textbook.{chosen}
 use Rattle.elevation.specs.Raise.{raiseShare, raiseOnce, raiseTimes}
 

@@ -7,7 +7,7 @@ use lib.ListN.{replicate}
 use lib.Dec.{ltb}
 use lib.Ieee.{Float, eq}
 use Rattle.doubles.specs.Run.{at}
-use Rattle.insertion.specs.Counts.{bit, multiplicityOf}
+use Rattle.edits.specs.Counts.{bit, multiplicityOf}
 
 -- of the m knots from place i on, those that do not equal the knot before them as numbers
 unfoldable pub breaksFrom : List Float → ℕ → ℕ → List Float

@@ -12,14 +12,15 @@ use Rattle.knots.specs.Below.{allBelow}
 use Rattle.knots.specs.Refusal.{refuse, control-bad, edit-bad}
 use Rattle.knots.specs.Curve.{formedRefusal}
 use Rattle.knots.specs.declared.refusal.Refusal.{Refusal}
-use Rattle.evaluate.specs.Controls.{pointOf}
-use Rattle.evaluate.specs.declared.vector.Vector.{Vector}
-use Rattle.insertion.specs.Control.{isLifted, isBlended, lowerOf}
-use Rattle.insertion.specs.Counts.{bit}
-use Rattle.insertion.specs.Rows.{liftAll}
-use Rattle.insertion.specs.Fold.{Outcome, gives, refuses, insertAll}
-use Rattle.insertion.specs.Whole.{givenOf}
-use Rattle.insertion.specs.declared.control.Control.{Control}
+use Rattle.runs.specs.Point.{pointOf}
+use Rattle.runs.specs.declared.vector.Vector.{Vector}
+use Rattle.edits.specs.Control.{isLifted, isBlended, lowerOf}
+use Rattle.edits.specs.Counts.{bit}
+use Rattle.edits.specs.Rows.{liftAll}
+use Rattle.insertion.specs.Fold.{insertAll}
+use Rattle.edits.specs.Outcome.{Outcome, gives, refuses}
+use Rattle.edits.specs.Whole.{givenOf}
+use Rattle.edits.specs.declared.control.Control.{Control}
 use Rattle.elevation.specs.Breaks.{isFull, fullCount, missingAll}
 use Rattle.elevation.specs.Raise.{raiseTimes}
 

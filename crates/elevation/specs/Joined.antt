@@ -7,7 +7,7 @@ use lib.ListN.{getD}
 use lib.Ieee.{Float}
 use Rattle.exact.specs.Rational.{ℚ, q0}
 use Rattle.exact.specs.Bernstein.{raisedTo, raisedPoint}
-use Rattle.insertion.specs.Counts.{bit}
+use Rattle.edits.specs.Counts.{bit}
 use Rattle.elevation.specs.Breaks.{isFull}
 
 -- ks is the knots by which a break is full or not; seg j i is control i of segment j, of degree e

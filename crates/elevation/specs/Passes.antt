@@ -7,15 +7,15 @@ use mathlib.Core.List.{List, _∷_, _++_}
 use lib.ListN.{length, take, drop}
 use lib.Ieee.{Float}
 use Rattle.doubles.specs.Run.{at}
-use Rattle.evaluate.specs.declared.vector.Vector.{Vector}
+use Rattle.runs.specs.declared.vector.Vector.{Vector}
 use Rattle.knots.specs.Refusal.{refuse, edit-bad}
 use Rattle.knots.specs.Curve.{formedRefusal}
 use Rattle.knots.specs.declared.refusal.Refusal.{Refusal}
-use Rattle.insertion.specs.Fold.{Outcome, gives, refuses}
-use Rattle.insertion.specs.Work.{knotsFrom, pointsFrom, weightsFrom}
-use Rattle.insertion.specs.Rows.{given}
-use Rattle.insertion.specs.Whole.{givenOf}
-use Rattle.insertion.specs.declared.control.Control.{Control}
+use Rattle.edits.specs.Outcome.{Outcome, gives, refuses}
+use Rattle.edits.specs.Work.{knotsFrom, pointsFrom, weightsFrom}
+use Rattle.edits.specs.Rows.{given}
+use Rattle.edits.specs.Whole.{givenOf}
+use Rattle.edits.specs.declared.control.Control.{Control}
 use Rattle.elevation.specs.Breaks.{breaksFrom, fullCount}
 use Rattle.elevation.specs.Elevate.{raisedCount, raisedKnots, keptAll, allBlended, pointsOf, weightsOf, raisedPoints, raisedWeights, raisedRefusal}
 
@@ -28,7 +28,7 @@ unfoldable pub over : ℕ → List Float → List Float → List Float
 over a l d = take a d ++ (l ++ drop (a + length l) d)
 
 -- the first m controls of a run are those of h
-pub record Holds (h : ℕ → Control) (m l : ℕ) (xs : List Float) : Type 0 where
+pub record RowsAre (h : ℕ → Control) (m l : ℕ) (xs : List Float) : Type 0 where
   pub long : length xs ≡ l
   pub rows : (i : ℕ) → i < m → controlIn xs i ≡ h i
 

@@ -5,8 +5,8 @@ use mathlib.Core.Bool.{cond}
 use lib.Dec.{leb, eqb}
 use lib.IntN.{pos}
 use lib.Ieee.{Float, binary64, div, ofInt}
-use Rattle.insertion.specs.Control.{blendOf}
-use Rattle.insertion.specs.declared.control.Control.{Control}
+use Rattle.edits.specs.Control.{blendOf}
+use Rattle.edits.specs.declared.control.Control.{Control}
 
 -- i / (d + 1)
 unfoldable pub raiseShare : ℕ → ℕ → Float

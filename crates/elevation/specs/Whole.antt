@@ -8,10 +8,10 @@ use lib.Ieee.{Float}
 use Rattle.knots.specs.Refusal.{refuse, orElse, degree-lowered, elevation-high}
 use Rattle.knots.specs.Curve.{countOf}
 use Rattle.knots.specs.declared.refusal.Refusal.{Refusal}
-use Rattle.insertion.specs.Fold.{Outcome, gives, refuses}
-use Rattle.insertion.specs.Start.{editStart, outRoom, scratchRoom}
-use Rattle.insertion.specs.Whole.{givenOf, EditMeets}
-use Rattle.insertion.specs.declared.answer.EditAnswer.{EditAnswer}
+use Rattle.edits.specs.Outcome.{Outcome, gives, refuses}
+use Rattle.edits.specs.Start.{editStart, outRoom, scratchRoom}
+use Rattle.edits.specs.Whole.{givenOf, EditMeets}
+use Rattle.edits.specs.declared.answer.EditAnswer.{EditAnswer}
 use Rattle.elevation.specs.Breaks.{breaksOf}
 use Rattle.elevation.specs.Elevate.{extractedCount, raisedCount, raiseAll}
 

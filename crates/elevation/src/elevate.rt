@@ -3,61 +3,17 @@ use crate::copy::copy_curve;
 use crate::into::raise_into;
 use crate::start::elevate_start;
 use crate::start::elevated_count;
-use insertion::answer::EditAnswer;
-use insertion::work::clear_all;
+use edits::answer::EditAnswer;
+use edits::work::clear_all;
 use knots::clear::clear;
 use knots::refusal::Refusal;
 use knots::refusal::refuse;
 ghost use mathlib.Core.Path.{_≡_};
 ghost use lib.ListN.{length};
-ghost use Rattle.knots.specs.Clear.{zeros};
-ghost use Rattle.insertion.specs.Passes.{OutMeets};
+ghost use Rattle.edits.specs.Passes.{OutMeets};
 ghost use Rattle.elevation.specs.Whole.{elevateStart, elevated, ElevateMeets};
 
-// A curve that keeps its degree is copied, another raised, into outputs that are +0.0.
-fn raise_or_copy(
-    degree: usize,
-    knots: &[f64],
-    points: &[f64],
-    rational: bool,
-    weights: &[f64],
-    raised: usize,
-    out_knots: &mut [f64],
-    out_points: &mut [f64],
-    out_weights: &mut [f64],
-    work: &mut [f64],
-) -> Refusal
-    requires { ⌜ elevateStart degree (now knots) (now points) rational (now weights) raised (length (now «out_knots»)) (length (now «out_points»)) (length (now «out_weights»)) (length (now work)) .number ≡ 0 ⌝ }
-    requires { ⌜ (now «out_knots» ≡ zeros (length (now «out_knots»))) × (now «out_points» ≡ zeros (length (now «out_points»))) × (now «out_weights» ≡ zeros (length (now «out_weights»))) ⌝ }
-    ensures { λ r. ⌜ OutMeets (length (now («out_knots» .entry))) (length (now («out_points» .entry))) (length (now («out_weights» .entry))) (elevated degree (now (knots .entry)) (now (points .entry)) rational (now (weights .entry)) raised) (now («out_knots» .exit)) (now («out_points» .exit)) (now («out_weights» .exit)) r ⌝ }
-{
-    if raised == degree {
-        copy_curve(
-            knots,
-            points,
-            rational,
-            weights,
-            out_knots,
-            out_points,
-            out_weights,
-        );
-        return refuse(0);
-    }
-    raise_into(
-        degree,
-        knots,
-        points,
-        rational,
-        weights,
-        raised,
-        out_knots,
-        out_points,
-        out_weights,
-        work,
-    )
-}
-
-// The outputs are cleared first. What they hold after a refusal is not said.
+// A curve that keeps its degree is copied, another raised. What the outputs hold after a refusal is not said.
 fn form(
     degree: usize,
     knots: &[f64],
@@ -73,16 +29,28 @@ fn form(
     requires { ⌜ elevateStart degree (now knots) (now points) rational (now weights) raised (length (now «out_knots»)) (length (now «out_points»)) (length (now «out_weights»)) (length (now work)) .number ≡ 0 ⌝ }
     ensures { λ r. ⌜ OutMeets (length (now («out_knots» .entry))) (length (now («out_points» .entry))) (length (now («out_weights» .entry))) (elevated degree (now (knots .entry)) (now (points .entry)) rational (now (weights .entry)) raised) (now («out_knots» .exit)) (now («out_points» .exit)) (now («out_weights» .exit)) r ⌝ }
 {
+    if raised == degree {
+        copy_curve(
+            knots,
+            points,
+            rational,
+            weights,
+            out_knots,
+            out_points,
+            out_weights,
+        );
+        return refuse(0);
+    }
     clear(out_knots);
     clear(out_points);
     clear(out_weights);
-    raise_or_copy(
+    raise_into(
         degree,
+        raised,
         knots,
         points,
         rational,
         weights,
-        raised,
         out_knots,
         out_points,
         out_weights,

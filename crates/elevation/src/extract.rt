@@ -1,25 +1,16 @@
 // A clamped curve in a lent run becomes one of Bezier segments.
 use crate::walk::next_break;
-use insertion::counts::multiplicity;
-use insertion::work::insert_times;
+use edits::counts::missing;
+use insertion::times::insert_times;
 use knots::refusal::Refusal;
 use knots::refusal::refuse;
-ghost use mathlib.Core.Path.{_≡_};
 ghost use Prim.Native.Nat.{_+_, _-_, _*_, _<_, _≤_};
 ghost use lib.ListN.{length};
 ghost use Rattle.knots.specs.Knots.{ValidKnots};
 ghost use Rattle.insertion.specs.Fold.{insertAll};
-ghost use Rattle.insertion.specs.Work.{knotsFrom, pointsFrom, weightsFrom};
+ghost use Rattle.edits.specs.Work.{knotsFrom, pointsFrom, weightsFrom};
 ghost use Rattle.elevation.specs.Breaks.{breaksOf, missingAll};
 ghost use Rattle.elevation.specs.Passes.{Extracted};
-
-// How many knots a break lacks that stands s times: none where it is full.
-fn missing(p: usize, s: usize) -> usize
-    requires { ⌜ p < 18446744073709551615 ⌝ }
-    ensures { λ r. ⌜ r ≡ p + 1 - s ⌝ }
-{
-    if s > p { 0 } else { p + 1 - s }
-}
 
 // Each break is inserted until it is full; the curve stands in `work`, its knots from place a on. `knots` are those that it has at first.
 pub fn extract(
@@ -40,7 +31,7 @@ pub fn extract(
     let mut k = next_break(knots, p + 1, n);
     while k < n {
         let t = knots[k];
-        let m = missing(p, multiplicity(knots, t));
+        let m = missing(p + 1, knots, t);
         let refusal = insert_times(p, count, rational, t, m, a, work);
         if refusal.number != 0 {
             return refusal;

@@ -1,20 +1,22 @@
 // The raised curve goes to the outputs.
 use crate::extract::extract;
 use crate::join::join;
-use crate::rows::first_point;
 use crate::start::elevated_count;
 use crate::walk::count_breaks;
-use insertion::work::lay_curve;
-use insertion::work::lift_in;
+use edits::rows::lift_in;
+use edits::rows::row_at;
+use edits::rows::scale_in;
+use edits::rows::vector_of;
+use edits::work::lay_curve;
 use knots::refusal::Refusal;
 ghost use mathlib.Core.Path.{_≡_};
 ghost use Prim.Native.Nat.{_+_, _*_, _/_, _<_, _≤_};
 ghost use lib.ListN.{length};
 ghost use Rattle.knots.specs.Clear.{zeros};
-ghost use Rattle.insertion.specs.Rows.{given};
-ghost use Rattle.insertion.specs.Whole.{givenOf};
-ghost use Rattle.insertion.specs.Passes.{OutMeets};
-ghost use Rattle.insertion.specs.Work.{pointsFrom, weightsFrom};
+ghost use Rattle.edits.specs.Rows.{given};
+ghost use Rattle.edits.specs.Whole.{givenOf};
+ghost use Rattle.edits.specs.Passes.{OutMeets};
+ghost use Rattle.edits.specs.Work.{pointsFrom, weightsFrom};
 ghost use Rattle.elevation.specs.Breaks.{breaksOf};
 ghost use Rattle.elevation.specs.Elevate.{extractedCount, raisedCount, raiseAll};
 ghost use Rattle.elevation.specs.Whole.{elevateStart};
@@ -40,8 +42,9 @@ fn raise_extracted(
     requires { ⌜ given rational (raisedCount p e (now knots) (breaksOf p n (now knots))) ≤ length (now «out_weights») ⌝ }
     ensures { λ r. ⌜ Raised p e n (now (knots .entry)) (breaksOf p n (now (knots .entry))) rational (pointsFrom m (now (work .entry))) (weightsFrom rational m (now (work .entry))) (now («out_knots» .entry)) (now («out_points» .entry)) (now («out_weights» .entry)) (now («out_knots» .exit)) (now («out_points» .exit)) (now («out_weights» .exit)) r ⌝ }
 {
-    let o = first_point(work);
-    let lifted = lift_in(m, rational, work);
+    let o = vector_of(row_at(rational, work, 0));
+    let scale = scale_in(m, rational, work);
+    let lifted = lift_in(m, scale, rational, work);
     if lifted.number != 0 {
         return lifted;
     }
@@ -64,11 +67,11 @@ fn raise_extracted(
 // The curve goes into scratch, its breaks are made full there, and what is raised of it goes to the outputs, which are +0.0.
 pub fn raise_into(
     degree: usize,
+    raised: usize,
     knots: &[f64],
     points: &[f64],
     rational: bool,
     weights: &[f64],
-    raised: usize,
     out_knots: &mut [f64],
     out_points: &mut [f64],
     out_weights: &mut [f64],

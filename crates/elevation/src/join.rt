@@ -1,15 +1,15 @@
 // The raised segments are joined to a curve, which is checked again.
 use crate::put_knots::put_knots;
 use crate::segments::put_segments;
-use evaluate::vector::Vector;
-use insertion::work::front_refusal;
+use edits::work::front_refusal;
 use knots::refusal::Refusal;
 use knots::refusal::refuse;
+use runs::vector::Vector;
 ghost use mathlib.Core.Path.{_≡_};
 ghost use Prim.Native.Nat.{_+_, _*_, _<_, _≤_};
 ghost use lib.ListN.{length};
-ghost use Rattle.insertion.specs.Rows.{given};
-ghost use Rattle.insertion.specs.Passes.{rowOf};
+ghost use Rattle.edits.specs.Rows.{given};
+ghost use Rattle.edits.specs.Passes.{rowOf};
 ghost use Rattle.elevation.specs.Breaks.{breaksOf};
 ghost use Rattle.elevation.specs.Elevate.{extractedCount, raisedCount};
 ghost use Rattle.elevation.specs.Passes.{Joined};

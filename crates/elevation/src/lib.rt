@@ -6,7 +6,6 @@ mod into;
 mod join;
 mod put_knots;
 mod raise;
-mod rows;
 mod segments;
 mod start;
 mod walk;

@@ -1,14 +1,26 @@
 // The knots of the raised curve.
-use crate::rows::fill;
 use crate::walk::is_full;
-use crate::walk::more;
 use crate::walk::next_break;
+use edits::counts::bit_of;
 ghost use mathlib.Core.Path.{_≡_};
 ghost use Prim.Native.Nat.{_+_, _<_, _≤_};
-ghost use lib.ListN.{length};
+ghost use lib.ListN.{length, replicate};
 ghost use Rattle.elevation.specs.Breaks.{breaksOf};
 ghost use Rattle.elevation.specs.Elevate.{breakKnots, raisedKnots};
 ghost use Rattle.elevation.specs.Passes.{over};
+
+// One number goes to m places from a place on.
+fn fill(xs: &mut [f64], from: usize, m: usize, t: f64)
+    requires { ⌜ from + m ≤ length (now xs) ⌝ }
+    ensures { λ _. ⌜ now (xs .exit) ≡ over from (replicate m t) (now (xs .entry)) ⌝ }
+{
+    let mut i = 0usize;
+    while i < m {
+        let at = from + i;
+        xs[at] = t;
+        i += 1;
+    }
+}
 
 // Each break e times, and once more where it is full, from a place on; the place behind them.
 fn put_breaks(p: usize, e: usize, n: usize, knots: &[f64], from: usize, out: &mut [f64]) -> usize
@@ -20,7 +32,7 @@ fn put_breaks(p: usize, e: usize, n: usize, knots: &[f64], from: usize, out: &mu
     let mut k = next_break(knots, p + 1, n);
     while k < n {
         let t = knots[k];
-        let m = more(e, is_full(p, knots, t));
+        let m = e + bit_of(is_full(p, knots, t));
         fill(out, at, m, t);
         at += m;
         k = next_break(knots, k + 1, n);

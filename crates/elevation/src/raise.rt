@@ -1,15 +1,15 @@
 // A Bezier segment in a run, four numbers a control, is raised in place.
-use crate::rows::put_row;
-use crate::rows::row_at;
-use insertion::control::Control;
-use insertion::control::blend_of;
+use edits::control::Control;
+use edits::control::blend_of;
+use edits::rows::put_row;
+use edits::rows::row_at;
 ghost use mathlib.Core.Path.{_≡_};
 ghost use Prim.Native.Nat.{_+_, _-_, _*_, _<_, _≤_};
 ghost use lib.ListN.{length};
 ghost use lib.IntN.{pos};
 ghost use lib.Ieee.{binary64, ofInt};
 ghost use Rattle.elevation.specs.Raise.{raiseShare, raiseOnce, raiseTimes};
-ghost use Rattle.elevation.specs.Passes.{controlIn, Holds};
+ghost use Rattle.elevation.specs.Passes.{controlIn, RowsAre};
 
 // A degree as a double.
 fn as_double(i: usize) -> f64
@@ -34,31 +34,31 @@ fn raise_at(d: usize, i: usize, rows: &[f64]) -> Control
     ensures { λ r. ⌜ r ≡ raiseOnce d (controlIn (now (rows .entry))) i ⌝ }
 {
     let s = raise_share(d, i);
-    let before = row_at(rows, i - 1);
-    blend_of(row_at(rows, i), before, s)
+    let before = row_at(true, rows, i - 1);
+    blend_of(row_at(true, rows, i), before, s)
 }
 
 // From degree d to d + 1, places downward: each control needs itself and the one before it.
 fn raise_once(d: usize, rows: &mut [f64])
     requires { ⌜ d < 64 ⌝ }
     requires { ⌜ d * 4 + 7 < length (now rows) ⌝ }
-    ensures { λ _. ⌜ Holds (raiseOnce d (controlIn (now (rows .entry)))) (d + 2) (length (now (rows .entry))) (now (rows .exit)) ⌝ }
+    ensures { λ _. ⌜ RowsAre (raiseOnce d (controlIn (now (rows .entry)))) (d + 2) (length (now (rows .entry))) (now (rows .exit)) ⌝ }
 {
-    let end = row_at(rows, d);
+    let end = row_at(true, rows, d);
     let mut i = d;
     while i > 0 {
         let q = raise_at(d, i, rows);
-        put_row(rows, i, q);
+        put_row(true, rows, i, q);
         i -= 1;
     }
-    put_row(rows, d + 1, end);
+    put_row(true, rows, d + 1, end);
 }
 
 // From degree p to e.
 pub fn raise_rows(p: usize, e: usize, rows: &mut [f64])
     requires { ⌜ (p ≤ e) × (e ≤ 64) ⌝ }
     requires { ⌜ e * 4 + 3 < length (now rows) ⌝ }
-    ensures { λ _. ⌜ Holds (raiseTimes p (e - p) (controlIn (now (rows .entry)))) (e + 1) (length (now (rows .entry))) (now (rows .exit)) ⌝ }
+    ensures { λ _. ⌜ RowsAre (raiseTimes p (e - p) (controlIn (now (rows .entry)))) (e + 1) (length (now (rows .entry))) (now (rows .exit)) ⌝ }
 {
     let mut d = p;
     while d < e {

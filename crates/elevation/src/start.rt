@@ -1,8 +1,8 @@
 // The refusals of an elevation before anything is formed.
 use crate::walk::count_breaks;
-use insertion::start::edit_start;
-use insertion::start::out_room;
-use insertion::start::scratch_room;
+use edits::start::edit_start;
+use edits::start::out_room;
+use edits::start::scratch_room;
 use knots::refusal::Refusal;
 use knots::refusal::refuse;
 ghost use mathlib.Core.Path.{_≡_};

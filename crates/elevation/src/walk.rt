@@ -1,9 +1,9 @@
 // The breaks of a clamped curve: its distinct inner knots, found by a walk over the inner knots.
-use insertion::counts::multiplicity;
+use edits::counts::bit_of;
+use edits::counts::multiplicity;
 ghost use mathlib.Core.Path.{_≡_};
 ghost use Prim.Native.Nat.{_+_, _<_, _≤_};
 ghost use lib.ListN.{length};
-ghost use Rattle.insertion.specs.Counts.{bit};
 ghost use Rattle.elevation.specs.Breaks.{breaksOf, isFull};
 ghost use Rattle.elevation.specs.Passes.{NextBreak, BreaksCounted};
 
@@ -35,14 +35,6 @@ pub fn is_full(p: usize, knots: &[f64], t: f64) -> bool
     multiplicity(knots, t) > p
 }
 
-// One more where yes.
-pub fn more(n: usize, yes: bool) -> usize
-    requires { ⌜ n < 18446744073709551615 ⌝ }
-    ensures { λ r. ⌜ r ≡ n + bit yes ⌝ }
-{
-    if yes { n + 1 } else { n }
-}
-
 pub fn count_breaks(p: usize, n: usize, knots: &[f64]) -> BreakCount
     requires { ⌜ (p < n) × (n ≤ length (now knots)) ⌝ }
     ensures { λ r. ⌜ BreaksCounted p (now (knots .entry)) (breaksOf p n (now (knots .entry))) (r .breaks) (r .full) ⌝ }
@@ -51,7 +43,7 @@ pub fn count_breaks(p: usize, n: usize, knots: &[f64]) -> BreakCount
     let mut full = 0usize;
     let mut k = next_break(knots, p + 1, n);
     while k < n {
-        full = more(full, is_full(p, knots, knots[k]));
+        full += bit_of(is_full(p, knots, knots[k]));
         breaks += 1;
         k = next_break(knots, k + 1, n);
     }

@@ -16,16 +16,17 @@ use Rattle.basis.specs.Floats.{floats}
 use Rattle.basis.specs.Basis.{cell, leftOf, rightOf}
 use Rattle.basis.specs.Ders.{basisTable}
 use Rattle.basis.proofs.Whole.{Reach, basis-at}
-use Rattle.evaluate.specs.Controls.{pointOf, scaleOf, rowSums}
+use Rattle.evaluate.specs.Controls.{scaleOf, rowSums}
+use Rattle.runs.specs.Point.{pointOf}
 use Rattle.evaluate.specs.Curve.{quotient, activeSums, curveOf, looked, stepRefusal, evalRefusal, evalAtOf, evalOf}
 use Rattle.evaluate.specs.Curve2.{quotient2, curve2Of, finite2, eval2AtOf, eval2Of}
-use Rattle.evaluate.specs.declared.vector.Vector.{Vector}
-use Rattle.evaluate.specs.declared.controls.Sums.{Sums}
+use Rattle.runs.specs.declared.vector.Vector.{Vector}
+use Rattle.evaluate.specs.declared.sums.Sums.{Sums}
 use Rattle.evaluate.specs.declared.curve.CurveDerivs.{CurveDerivs}
 use Rattle.evaluate.specs.declared.curve.CurveAnswer.the-variants.{At, Refused}
 use Rattle.evaluate.specs.declared.curve2.CurveDerivs2.{CurveDerivs2}
 use Rattle.evaluate.specs.declared.curve2.CurveAnswer2.the-variants as two
-use Rattle.evaluate.proofs.Sums.{row-cong}
+use Rattle.evaluate.proofs.Summed.{row-cong}
 use Rattle.evaluate.proofs.Steps.{EvalOpen, eval-open, step-none, open-span}
 
 -- ---- the sums over a row of the table are the sums over the derivatives

@@ -1,10 +1,5 @@
-pub mod Sums
-pub mod Searches
+pub mod Summed
 pub mod Steps
 pub mod Curves
 pub mod Nets
 pub mod Surfaces
-pub mod Overlays
-pub mod Reverses
-pub mod Isos
-pub mod IsoCurves

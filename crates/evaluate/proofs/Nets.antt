@@ -10,11 +10,14 @@ use native.Mathlib.Numerals.{add-one}
 use lib.Ieee.{Float, binary64, mul}
 use Rattle.doubles.specs.Run.{at}
 use Rattle.doubles.specs.Value.{zero+}
-use Rattle.evaluate.specs.Controls.{largestFrom, pointOf, weightOf, noSums, sumsFrom, termOf, rowTerm}
+use Rattle.evaluate.specs.Controls.{noSums, sumsFrom, termOf, rowTerm}
+use Rattle.runs.specs.Scale.{weightOf}
+use Rattle.runs.specs.Larger.{largestFrom}
+use Rattle.runs.specs.Point.{pointOf}
 use Rattle.evaluate.specs.Surface.{NetReach, netLargest, netSums}
-use Rattle.evaluate.specs.declared.vector.Vector.{Vector}
-use Rattle.evaluate.specs.declared.controls.Sums.{Sums}
-use Rattle.evaluate.proofs.Sums.{sums-cong}
+use Rattle.runs.specs.declared.vector.Vector.{Vector}
+use Rattle.evaluate.specs.declared.sums.Sums.{Sums}
+use Rattle.evaluate.proofs.Summed.{sums-cong}
 
 -- place i of row and j of column lies in a net of m rows and n columns
 pub net-place : (m n i j : ℕ) → i < m → j < n → i * n + j < m * n

@@ -1,16 +1,14 @@
 -- What no refusal of a step or of an evaluation says. A step on runs of fitting lengths reads nothing outside them, and a valid curve has such runs.
 -- Assumes nothing.
-use Prim.Native.Nat.{ℕ, zero, suc, _+_, _*_, _%_, _≤_, _<_}
-use mathlib.Core.Bool.{Bool, true, false, not, cond, _&&_}
-use mathlib.Core.Path.{_≡_, refl, ap}
+use Prim.Native.Nat.{ℕ, _+_, _*_, _≤_, _<_}
+use mathlib.Core.Bool.{Bool, true}
+use mathlib.Core.Path.{_≡_}
 use mathlib.Core.List.{List}
 use native.Mathlib.Omega.{arith}
 use lib.ListN.{length}
-use lib.Dec.{leb, ltb, eqb}
 use lib.Ieee.{Float}
 use lib.Ieee.Scale.{finite}
 use Rattle.knots.specs.Refusal.{accepted}
-use Rattle.knots.specs.Knots.{ValidKnots}
 use Rattle.knots.specs.Curve.{countOf, curveRefusal, ValidCurve}
 use Rattle.knots.specs.Span.{searched, spanOf}
 use Rattle.knots.proofs.Refusals.{orElse-none}
@@ -18,7 +16,7 @@ use Rattle.knots.proofs.Curves.{valid-curve}
 use Rattle.knots.specs.Shape.{degreeRefusal, finiteRefusal, curveShape}
 use Rattle.knots.proofs.Shapes.{degree-open, degree-none, finite-open, finite-none, Fitting, Shaped, shaped, shape-none}
 use Rattle.evaluate.specs.Curve.{parameterRefusal, stepRefusal, evalRefusal, looked}
-use Rattle.evaluate.proofs.Searches.{searched-in, searched-is}
+use Rattle.knots.proofs.Searches.{searched-in, searched-is}
 
 module _ (p n : ℕ) (ks : List Float) where
   -- where the search ends, whatever the knots are

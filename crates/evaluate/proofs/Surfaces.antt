@@ -24,13 +24,13 @@ use Rattle.basis.specs.Basis.{cell, leftOf, rightOf}
 use Rattle.basis.specs.Ders.{basisTable}
 use Rattle.basis.proofs.Whole.{Reach, basis-at}
 use Rattle.knots.specs.Shape.{degreeRefusal, finiteRefusal, weightShape, knotShape, surfaceShape}
-use Rattle.evaluate.specs.Controls.{pointOf}
+use Rattle.runs.specs.Point.{pointOf}
 use Rattle.evaluate.specs.Surface.{NetReach, netScale, netSums, surfaceQuotient, activeNet, surfaceOf, degreesRefusal, parametersRefusal, surfaceStepRefusal, surfaceEvalRefusal, surfaceAtOf, evalSurfaceOf}
-use Rattle.evaluate.specs.declared.vector.Vector.{Vector}
-use Rattle.evaluate.specs.declared.controls.Sums.{Sums}
+use Rattle.runs.specs.declared.vector.Vector.{Vector}
+use Rattle.evaluate.specs.declared.sums.Sums.{Sums}
 use Rattle.evaluate.specs.declared.surface.SurfaceDerivs.{SurfaceDerivs}
 use Rattle.evaluate.specs.declared.surface.SurfaceAnswer.the-variants.{At, Refused}
-use Rattle.evaluate.proofs.Searches.{searched-is}
+use Rattle.knots.proofs.Searches.{searched-is}
 use Rattle.knots.proofs.Shapes.{degree-open, degree-none, finite-open, finite-none, weights-open, weights-none, Fitting, knots-open, knots-none}
 use Rattle.evaluate.proofs.Steps.{Found}
 use Rattle.evaluate.proofs.Nets.{net-place, net-cong}
@@ -46,7 +46,9 @@ module _ (p q : ℕ) (us vs : List Float) (n : ℕ) (ps : List Float) (g : Bool)
       A ∙ (net-cong ps g ws m o n (s - p) (t - q) (q + 1) (cell du i) (dersOf floats (leftOf us s u) (rightOf us s u) p i) (cell dv j) (dersOf floats (leftOf vs t v) (rightOf vs t v) q j) (p + 1)
       (λ k b. ap (λ (l : List Float). cell l i k) D ∙ basis-at p 1 us s u 195 R i k I (omega arith))
       (λ k b. ap (λ (l : List Float). cell l j k) E ∙ basis-at q 1 vs t v 195 T j k J (omega arith))
-      ∙ ap₂ (λ (x : Float) (y : Vector). netSums ps g ws x y n (s - p) (t - q) (dersOf floats (leftOf us s u) (rightOf us s u) p i) (dersOf floats (leftOf vs t v) (rightOf vs t v) q j) (q + 1) (p + 1)) M O)
+      ∙ ap₂
+      (λ (x : Float) (y : Vector). netSums ps g ws x y n (s - p) (t - q) (dersOf floats (leftOf us s u) (rightOf us s u) p i) (dersOf floats (leftOf vs t v) (rightOf vs t v) q j) (q + 1) (p + 1)) M
+      O)
 
   pub surface-is : (a d e : Sums) (r : SurfaceDerivs) → a ≡ netSums ps g ws m o n (s - p) (t - q) (cell du 0) (cell dv 0) (q + 1) (p + 1)
       → d ≡ netSums ps g ws m o n (s - p) (t - q) (cell du 1) (cell dv 0) (q + 1) (p + 1)
@@ -55,7 +57,8 @@ module _ (p q : ℕ) (us vs : List Float) (n : ℕ) (ps : List Float) (g : Bool)
   unfolding surfaceOf
   surface-is a d e r A B C Q =
       Q ∙ (ap₂ (λ (x : Vector) (y : Sums). surfaceQuotient x y d e) O (net-is 0 0 (omega arith) (omega arith) a A)
-      ∙ ap₂ (surfaceQuotient (pointOf ps ((s - p) * n + (t - q))) (activeNet p q us vs n ps g ws s t u v 0 0)) (net-is 1 0 (omega arith) (omega arith) d B) (net-is 0 1 (omega arith) (omega arith) e C))
+      ∙ ap₂
+      (surfaceQuotient (pointOf ps ((s - p) * n + (t - q))) (activeNet p q us vs n ps g ws s t u v 0 0)) (net-is 1 0 (omega arith) (omega arith) d B) (net-is 0 1 (omega arith) (omega arith) e C))
 
 -- ---- what no refusal says
 module _ (p q : ℕ) (u v : Float) where

@@ -1,38 +1,17 @@
 -- Control points and weights under an evaluation, with the operations and the order of the source: each is one rounding of IEEE 754.
 -- ps are coordinates, g says whether weights ws are given.
 -- Assumes nothing.
-use Prim.Native.Nat.{ℕ, zero, suc, _+_, _*_}
-use mathlib.Core.Bool.{Bool, true, false, cond, _&&_}
+use Prim.Native.Nat.{ℕ, zero, suc, _+_}
+use mathlib.Core.Bool.{Bool, true, false, cond}
 use mathlib.Core.List.{List}
-use lib.Ieee.{Float, binary64, add, sub, mul, div, lt}
-use lib.Ieee.Scale.{finite}
+use lib.Ieee.{Float, binary64, add, sub, mul}
 use Rattle.doubles.specs.Run.{at}
 use Rattle.doubles.specs.Value.{zero+, one+}
-use Rattle.evaluate.specs.declared.vector.Vector.{Vector}
-use Rattle.evaluate.specs.declared.controls.Sums.{Sums}
-
--- the larger of two, and the first where neither is
-abbrev pub larger : Float → Float → Float
-larger a b = cond (lt a b) b a
-
--- the largest of m and f 0, f 1, .. of n numbers
-unfoldable pub largestFrom : Float → (ℕ → Float) → ℕ → Float
-largestFrom m f zero = m
-largestFrom m f (suc n) = larger (largestFrom m f n) (f n)
-
--- coordinate k of point i: the one place that knows how coordinates are arranged
-abbrev pub coordinate : List Float → ℕ → ℕ → Float
-coordinate ps i k = at ps (i * 3 + k)
-
-abbrev pub pointOf : List Float → ℕ → Vector
-pointOf ps i = record { x = coordinate ps i 0; y = coordinate ps i 1; z = coordinate ps i 2 }
-
-unfoldable pub finiteVector : Vector → Bool
-finiteVector v = finite (v .x) && (finite (v .y) && finite (v .z))
-
--- weight i over the scale m, and 1.0 where none are given
-unfoldable pub weightOf : Bool → List Float → Float → ℕ → Float
-weightOf g ws m i = cond g (div binary64 (at ws i) m) one+
+use Rattle.runs.specs.Larger.{largestFrom}
+use Rattle.runs.specs.Point.{pointOf}
+use Rattle.runs.specs.Scale.{weightOf}
+use Rattle.runs.specs.declared.vector.Vector.{Vector}
+use Rattle.evaluate.specs.declared.sums.Sums.{Sums}
 
 -- the largest of n weights from place b on, and 1.0 where none are given
 unfoldable pub scaleOf : Bool → List Float → ℕ → ℕ → Float

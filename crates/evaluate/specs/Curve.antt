@@ -13,9 +13,10 @@ use Rattle.knots.specs.declared.refusal.Refusal.{Refusal}
 use Rattle.basis.specs.Floats.{floats}
 use Rattle.basis.specs.Basis.{leftOf, rightOf}
 use Rattle.knots.specs.Shape.{degreeRefusal, finiteRefusal, curveShape}
-use Rattle.evaluate.specs.Controls.{pointOf, scaleOf, rowSums}
-use Rattle.evaluate.specs.declared.vector.Vector.{Vector}
-use Rattle.evaluate.specs.declared.controls.Sums.{Sums}
+use Rattle.evaluate.specs.Controls.{scaleOf, rowSums}
+use Rattle.runs.specs.Point.{pointOf}
+use Rattle.runs.specs.declared.vector.Vector.{Vector}
+use Rattle.evaluate.specs.declared.sums.Sums.{Sums}
 use Rattle.evaluate.specs.declared.curve.CurveDerivs.{CurveDerivs}
 use Rattle.evaluate.specs.declared.curve.CurveAnswer.{CurveAnswer}
 use Rattle.evaluate.specs.declared.curve.CurveAnswer.the-variants.{At, Refused}

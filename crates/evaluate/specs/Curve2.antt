@@ -9,10 +9,10 @@ use Rattle.knots.specs.Refusal.{refuse, second-not-finite}
 use Rattle.knots.specs.Span.{spanOf, searched}
 use Rattle.knots.specs.Curve.{countOf}
 use Rattle.knots.specs.declared.refusal.Refusal.{Refusal}
-use Rattle.evaluate.specs.Controls.{pointOf, finiteVector}
+use Rattle.runs.specs.Point.{pointOf, finiteVector}
 use Rattle.evaluate.specs.Curve.{pointFrom, slopePart, slopeFrom, activeSums, looked, stepRefusal, evalRefusal}
-use Rattle.evaluate.specs.declared.vector.Vector.{Vector}
-use Rattle.evaluate.specs.declared.controls.Sums.{Sums}
+use Rattle.runs.specs.declared.vector.Vector.{Vector}
+use Rattle.evaluate.specs.declared.sums.Sums.{Sums}
 use Rattle.evaluate.specs.declared.curve2.CurveDerivs2.{CurveDerivs2}
 use Rattle.evaluate.specs.declared.curve2.CurveAnswer2.{CurveAnswer2}
 use Rattle.evaluate.specs.declared.curve2.CurveAnswer2.the-variants.{At, Refused}

@@ -3,7 +3,3 @@ pub mod Curve
 pub mod Curve2
 pub mod Surface
 pub mod Numbers
-pub mod Lent
-pub mod Reverse
-pub mod Iso
-pub mod IsoCurve

@@ -3,7 +3,7 @@ use mathlib.Core.List.{List, [], _∷_}
 use lib.Ieee.{Float}
 use Rattle.knots.specs.Refusal.{accepted}
 use Rattle.knots.specs.declared.refusal.Refusal.{Refusal}
-use Rattle.evaluate.specs.declared.vector.Vector.{Vector}
+use Rattle.runs.specs.declared.vector.Vector.{Vector}
 use Rattle.evaluate.specs.declared.curve.CurveAnswer.{CurveAnswer}
 use Rattle.evaluate.specs.declared.curve.CurveAnswer.the-variants as C
 use Rattle.evaluate.specs.declared.curve2.CurveAnswer2.{CurveAnswer2}

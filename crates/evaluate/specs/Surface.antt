@@ -16,10 +16,12 @@ use Rattle.knots.specs.declared.refusal.Refusal.{Refusal}
 use Rattle.basis.specs.Floats.{floats}
 use Rattle.basis.specs.Basis.{leftOf, rightOf}
 use Rattle.knots.specs.Shape.{degreeRefusal, finiteRefusal, surfaceShape}
-use Rattle.evaluate.specs.Controls.{largestFrom, pointOf, noSums, sumsFrom, rowTerm}
+use Rattle.evaluate.specs.Controls.{noSums, sumsFrom, rowTerm}
+use Rattle.runs.specs.Larger.{largestFrom}
+use Rattle.runs.specs.Point.{pointOf}
 use Rattle.evaluate.specs.Curve.{pointFrom, slopeFrom}
-use Rattle.evaluate.specs.declared.vector.Vector.{Vector}
-use Rattle.evaluate.specs.declared.controls.Sums.{Sums}
+use Rattle.runs.specs.declared.vector.Vector.{Vector}
+use Rattle.evaluate.specs.declared.sums.Sums.{Sums}
 use Rattle.evaluate.specs.declared.surface.SurfaceDerivs.{SurfaceDerivs}
 use Rattle.evaluate.specs.declared.surface.SurfaceAnswer.{SurfaceAnswer}
 use Rattle.evaluate.specs.declared.surface.SurfaceAnswer.the-variants.{At, Refused}

@@ -1,31 +1,19 @@
 // Control points and weights under an evaluation.
-use crate::vector::Vector;
+use crate::sums::Sums;
+use crate::sums::plus_of;
+use runs::larger::larger_of;
+use runs::points::point_at;
+use runs::vector::Vector;
 ghost use mathlib.Core.Path.{_≡_};
 ghost use mathlib.Core.Bool.{true};
 ghost use Prim.Native.Nat.{_+_, _*_, _<_, _≤_};
 ghost use lib.ListN.{length};
 ghost use Rattle.doubles.specs.Run.{at};
 ghost use Rattle.basis.specs.Basis.{cell};
-ghost use Rattle.evaluate.specs.Controls.{larger, largestFrom, pointOf, weightOf, scaleOf, plus, termOf, rowSums};
-
-// Sums over active points: points relative to a reference, and weights.
-pub struct Sums {
-    pub x: f64,
-    pub y: f64,
-    pub z: f64,
-    pub w: f64,
-}
-
-pub fn plus_of(a: Sums, b: Sums) -> Sums
-    ensures { λ r. ⌜ r ≡ plus a b ⌝ }
-{
-    Sums {
-        x: a.x + b.x,
-        y: a.y + b.y,
-        z: a.z + b.z,
-        w: a.w + b.w,
-    }
-}
+ghost use Rattle.evaluate.specs.Controls.{scaleOf, plus, termOf, rowSums};
+ghost use Rattle.runs.specs.Scale.{weightOf};
+ghost use Rattle.runs.specs.Larger.{larger, largestFrom};
+ghost use Rattle.runs.specs.Point.{pointOf};
 
 // What a point q with weight w under a basis function n adds, relative to o. Relative to an active point no large coordinates are subtracted later.
 // The source has one order of operations where one derivative is asked for, and another for two.
@@ -47,29 +35,6 @@ pub fn term_of(two: bool, o: Vector, q: Vector, w: f64, n: f64) -> Sums
         z: ((q.z - o.z) * w) * n,
         w: w * n,
     }
-}
-
-// Point i. The one place of this crate that knows how coordinates are arranged.
-pub fn point_at(points: &[f64], i: usize) -> Vector
-    requires { ⌜ i * 3 + 2 < length (now points) ⌝ }
-    ensures { λ r. ⌜ r ≡ pointOf (now (points .entry)) i ⌝ }
-{
-    let at = i * 3;
-    Vector {
-        x: points[at],
-        y: points[at + 1],
-        z: points[at + 2],
-    }
-}
-
-// The larger of two, and the first where neither is.
-pub fn larger_of(a: f64, b: f64) -> f64
-    ensures { λ r. ⌜ r ≡ larger a b ⌝ }
-{
-    if a < b {
-        return b;
-    }
-    a
 }
 
 // Weight i over a scale, and 1.0 where no weights are given.

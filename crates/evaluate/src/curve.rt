@@ -1,15 +1,15 @@
 // Point and derivative of a curve: eval, and the step that it takes after validation.
-use crate::controls::Sums;
-use crate::controls::point_at;
 use crate::controls::row_sums;
 use crate::controls::scale_at;
 use crate::refusals::eval_refusal;
 use crate::refusals::step_refusal;
-use crate::vector::Vector;
+use crate::sums::Sums;
 use basis::ders::basis_derivatives;
 use knots::refusal::Refusal;
 use knots::span::clamp;
 use knots::span::span_of;
+use runs::points::point_at;
+use runs::vector::Vector;
 ghost use mathlib.Core.Path.{_≡_};
 ghost use mathlib.Core.Bool.{true};
 ghost use Prim.Native.Nat.{_+_, _*_, _<_, _≤_};

@@ -1,17 +1,17 @@
 // Point and two derivatives of a curve: eval2, and the step that it takes after validation.
-use crate::controls::Sums;
-use crate::controls::point_at;
 use crate::controls::row_sums;
 use crate::controls::scale_at;
 use crate::refusals::eval_refusal;
 use crate::refusals::step_refusal;
-use crate::vector::Vector;
-use crate::vector::finite_vector;
+use crate::sums::Sums;
 use basis::ders::basis_derivatives;
 use knots::refusal::Refusal;
 use knots::refusal::refuse;
 use knots::span::clamp;
 use knots::span::span_of;
+use runs::points::point_at;
+use runs::vector::Vector;
+use runs::vector::finite_vector;
 ghost use mathlib.Core.Path.{_≡_};
 ghost use mathlib.Core.Bool.{true};
 ghost use Prim.Native.Nat.{_+_, _*_, _<_, _≤_};
@@ -79,8 +79,8 @@ fn curve2_at(
     let mut ders = [0.0; 195];
     basis_derivatives(span, u, p, 2, knots, &mut ders);
     let first = span - p;
-    let scale = scale_at(rational, weights, first, p + 1);
     let o = point_at(points, first);
+    let scale = scale_at(rational, weights, first, p + 1);
     let a = row_sums(true, 0, p, first, scale, points, rational, weights, &ders);
     let d = row_sums(true, 1, p, first, scale, points, rational, weights, &ders);
     let e = row_sums(true, 2, p, first, scale, points, rational, weights, &ders);

@@ -1,12 +1,8 @@
-// Points and derivatives of curves and surfaces, reversal, isoparametric curves.
+// Points and derivatives of curves and surfaces.
 mod controls;
 pub mod curve;
 pub mod curve2;
-mod front;
-mod iso;
-pub mod iso_curve;
 mod net;
 pub mod refusals;
-pub mod reverse;
+pub mod sums;
 pub mod surface;
-pub mod vector;

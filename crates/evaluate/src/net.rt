@@ -1,11 +1,11 @@
 // Sums and largest weights over the active part of a net, row by row.
-use crate::controls::Sums;
 use crate::controls::largest_in;
-use crate::controls::plus_of;
-use crate::controls::point_at;
 use crate::controls::term_of;
 use crate::controls::weight_at;
-use crate::vector::Vector;
+use crate::sums::Sums;
+use crate::sums::plus_of;
+use runs::points::point_at;
+use runs::vector::Vector;
 ghost use mathlib.Core.Path.{_≡_};
 ghost use mathlib.Core.Bool.{true, false};
 ghost use Prim.Native.Nat.{_+_, _*_, _/_, _<_, _≤_};

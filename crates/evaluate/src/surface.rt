@@ -1,16 +1,16 @@
 // Point and first partial derivatives of a surface: eval_surface, and the step that it takes after validation.
-use crate::controls::Sums;
-use crate::controls::point_at;
 use crate::net::Net;
 use crate::net::net_scale;
 use crate::net::net_sums;
 use crate::refusals::surface_eval_refusal;
 use crate::refusals::surface_step_refusal;
-use crate::vector::Vector;
+use crate::sums::Sums;
 use basis::ders::basis_derivatives;
 use knots::refusal::Refusal;
 use knots::span::clamp;
 use knots::span::span_of;
+use runs::points::point_at;
+use runs::vector::Vector;
 ghost use mathlib.Core.Path.{_≡_};
 ghost use mathlib.Core.Bool.{true};
 ghost use Prim.Native.Nat.{_+_, _-_, _*_, _/_, _<_, _≤_};
@@ -104,54 +104,29 @@ fn surface_at(
 
 // The point and the first partial derivatives at u and v of a surface that was validated before: only lengths are tested.
 pub fn eval_surface_at(
-    u_degree: usize,
-    v_degree: usize,
-    u_knots: &[f64],
-    v_knots: &[f64],
-    u_count: usize,
-    v_count: usize,
+    p: usize,
+    q: usize,
+    uk: &[f64],
+    vk: &[f64],
+    m: usize,
+    n: usize,
     points: &[f64],
     rational: bool,
     weights: &[f64],
     u: f64,
     v: f64,
 ) -> SurfaceAnswer
-    ensures { λ r. ⌜ r ≡ surfaceAtOf «u_degree» «v_degree» (now («u_knots» .entry)) (now («v_knots» .entry)) «u_count» «v_count» (now (points .entry)) rational (now (weights .entry)) u v ⌝ }
+    ensures { λ r. ⌜ r ≡ surfaceAtOf p q (now (uk .entry)) (now (vk .entry)) m n (now (points .entry)) rational (now (weights .entry)) u v ⌝ }
 {
-    let refusal = surface_step_refusal(
-        u_degree,
-        v_degree,
-        u_knots,
-        v_knots,
-        u_count,
-        v_count,
-        points,
-        rational,
-        weights,
-        u,
-        v,
-    );
+    let refusal = surface_step_refusal(p, q, uk, vk, m, n, points, rational, weights, u, v);
     if refusal.number != 0 {
         return SurfaceAnswer::Refused(refusal);
     }
-    let s = span_of(u_degree, u_count, u, u_knots);
-    let x = clamp(u_degree, u_count, u, u_knots);
-    let t = span_of(v_degree, v_count, v, v_knots);
-    let y = clamp(v_degree, v_count, v, v_knots);
-    SurfaceAnswer::At(surface_at(
-        s,
-        t,
-        x,
-        y,
-        u_degree,
-        v_degree,
-        u_knots,
-        v_knots,
-        v_count,
-        points,
-        rational,
-        weights,
-    ))
+    let s = span_of(p, m, u, uk);
+    let x = clamp(p, m, u, uk);
+    let t = span_of(q, n, v, vk);
+    let y = clamp(q, n, v, vk);
+    SurfaceAnswer::At(surface_at(s, t, x, y, p, q, uk, vk, n, points, rational, weights))
 }
 
 // The point and the first partial derivatives of a surface, or a refusal. Finite parameters outside the domain become the nearer ends.

@@ -12,7 +12,7 @@ use Rattle.exact.specs.Boehm.{mix, inserted}
 use Rattle.exact.proofs.Laws.{mul-inv}
 use Rattle.exact.proofs.Field.{qring, q-ring, q-combine, q-combine₂, pos-ne, div-is, ≤-<-trans, <-≤-trans, lt-sub}
 use Rattle.exact.proofs.DeBoor.{level, level-is, deboor, curve, deboor-is, wide}
-use Rattle.exact.proofs.Refined.{split, Refined, Holds, old-knots}
+use Rattle.exact.proofs.Refined.{split, Refined, OldSpan, old-knots}
 use Rattle.exact.proofs.Inserted.{mix-cong, ins-low, ins-mid, ins-high}
 
 -- ---- the algebra of one place: t the parameter, x the new knot, a, b, c controls
@@ -115,7 +115,9 @@ module _ {U W : ℕ → ℚ} {k : ℕ} {x : ℚ} (R : Refined U W k x) {n s : �
         let y : suc j + q ≡ j + suc q = omega arith in
         at-knots (U (suc j)) (U (j + suc q)) e f _ _
         (ap (inserted U x k (suc q) c) z ∙ ins-mid U x k (suc q) c l (omega arith) (omega arith)) (ins-mid U x k (suc q) c j (omega arith) (omega arith))
-        ∙ ap (λ m. mix ((t -q U (suc j)) *q inv (U (j + suc q) -q U (suc j))) (mix ((x -q U m) *q inv (U (m + suc q) -q U m)) (c l) (c m)) (mix ((x -q U (suc j)) *q inv (U (suc j + suc q) -q U (suc j))) (c j) (c (suc j)))) (sym z)
+        ∙ ap
+        (λ m. mix ((t -q U (suc j)) *q inv (U (j + suc q) -q U (suc j))) (mix ((x -q U m) *q inv (U (m + suc q) -q U m)) (c l) (c m)) (mix ((x -q U (suc j)) *q inv (U (suc j + suc q) -q U (suc j))) (c j) (c (suc j))))
+        (sym z)
         ∙ middle-place t x (U (suc j)) (U j) (U (j + suc q)) (c l) (c j) (c (suc j)) (inv (U (j + suc q) -q U (suc j))) (inv (U (j + suc q) -q U j)) (inv (U (suc j + suc q) -q U (suc j)))
         (width-at (U (suc j)) (U (j + suc q)) e f) (wider (omega arith) (omega arith))
         ∙ sym (ins-mid U x k q (leveled U t q c) j (omega arith) (omega arith)
@@ -133,7 +135,7 @@ module _ {U W : ℕ → ℚ} {k : ℕ} {x : ℚ} (R : Refined U W k x) {n s : �
         (λ (h : k < suc j + suc q). ⊎-elim (λ (e : suc k ≡ suc j + suc q). left-end (sym e)) (λ (e : suc k < suc j + suc q). inner e b (split (suc j) k))
         (eq-or-lt-of-le {n = suc k} {m = suc j + suc q} h)) (split (suc j + suc q) k)
 
-module _ {U W : ℕ → ℚ} {k : ℕ} {x : ℚ} (R : Refined U W k x) {n s s₀ : ℕ} (K : Knots W n s) (S : Holds k s s₀) (t : ℚ) where
+module _ {U W : ℕ → ℚ} {k : ℕ} {x : ℚ} (R : Refined U W k x) {n s s₀ : ℕ} (K : Knots W n s) (S : OldSpan k s s₀) (t : ℚ) where
   pub boehm-deboor : (q b b₀ : ℕ) (c d C : ℕ → ℚ) → b + q ≡ s → b₀ + q ≡ s₀ → s + q < n → q ≤ k
       → ((m : ℕ) → m ≤ q → d m ≡ inserted U x k q C (b + m)) → ((m : ℕ) → m ≤ q → c m ≡ C (b₀ + m)) → deboor W t q b d ≡ deboor U t q b₀ c
   unfolding deboor
@@ -161,7 +163,7 @@ module _ {U W : ℕ → ℚ} {k : ℕ} {x : ℚ} (R : Refined U W k x) {n s s₀
       ∙ mix-cong refl (E m (omega arith)) (E (suc m) (omega arith) ∙ ap C (add-suc b₀ m))
       ∙ sym (leveled-at U t q C (b₀ + m)) ∙ ap (leveled U t q C) (sym (suc-add b₀ m)))
 
-module _ {U W : ℕ → ℚ} {k : ℕ} {x : ℚ} (R : Refined U W k x) {n s s₀ : ℕ} (K : Knots W (suc n) s) (S : Holds k s s₀) (in-range : suc s₀ < n) where
+module _ {U W : ℕ → ℚ} {k : ℕ} {x : ℚ} (R : Refined U W k x) {n s s₀ : ℕ} (K : Knots W (suc n) s) (S : OldSpan k s s₀) (in-range : suc s₀ < n) where
   -- Boehm: on every nonempty span of the refined knots the curve's sum is what it was
   pub boehm : (t : ℚ) (p b b₀ : ℕ) (C : ℕ → ℚ) → b + p ≡ s → b₀ + p ≡ s₀ → s + p < suc n → s₀ + p < n → p ≤ k
       → curve W t s p b (λ m. inserted U x k p C (b + m)) ≡ curve U t s₀ p b₀ (λ m. C (b₀ + m))

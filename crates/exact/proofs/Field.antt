@@ -10,7 +10,10 @@ use Prim.Native.Nat.{ℕ, zero, suc}
 use lib.Dec.{T, T-prop}
 use lib.IntN.{ℤ, pos, negsuc}
 use Rattle.ring.specs.Ring as Ring
-use Rattle.ring.specs.Ring.{CommRing, Re, atoms}
+use Rattle.ring.specs.Solved as Solved
+use Rattle.ring.specs.Ring.{CommRing}
+use Rattle.ring.specs.Solved.{atoms}
+use Rattle.ring.specs.Solved.{Re}
 use Rattle.ring.specs.Int.{_⊞_, _⊠_, ⊟_, den, nonneg, z0, z1, _∗_}
 use Rattle.exact.specs.Rational.{ℚ, frac, _+q_, _-q_, _*q_, _/q_, negq, inv, q0, q1, nn, _≤q_, _<q_}
 use Rattle.exact.proofs.Laws.{ℚ-ring, nn-0, nn-add, nn-mul, nn-antisym, nn-total, mul-inv, inv-0}
@@ -18,13 +21,13 @@ use Rattle.exact.proofs.Laws.{ℚ-ring, nn-0, nn-add, nn-mul, nn-antisy
 -- ---- the solver
 
 abbrev pub qr-add : {l : List ℚ} {x y : ℚ} → Re ℚ-ring l x → Re ℚ-ring l y → Re ℚ-ring l (x +q y)
-qr-add {l} r s = Ring.re-add ℚ-ring l r s
+qr-add {l} r s = Solved.re-add ℚ-ring l r s
 
 abbrev pub qr-mul : {l : List ℚ} {x y : ℚ} → Re ℚ-ring l x → Re ℚ-ring l y → Re ℚ-ring l (x *q y)
-qr-mul {l} r s = Ring.re-mul ℚ-ring l r s
+qr-mul {l} r s = Solved.re-mul ℚ-ring l r s
 
 abbrev pub qr-neg : {l : List ℚ} {x : ℚ} → Re ℚ-ring l x → Re ℚ-ring l (negq x)
-qr-neg {l} r = Ring.re-neg ℚ-ring l r
+qr-neg {l} r = Solved.re-neg ℚ-ring l r
 
 pub sub-is : (x y : ℚ) → x -q y ≡ x +q negq y
 unfolding _-q_
@@ -34,7 +37,7 @@ pub div-is : (x y : ℚ) → x /q y ≡ x *q inv y
 unfolding _/q_
 div-is x y = refl
 
-pub along : {l : List ℚ} {x y : ℚ} (r : Re ℚ-ring l x) → x ≡ y → Ring.poly ℚ-ring l (r .code) ≡ y
+pub along : {l : List ℚ} {x y : ℚ} (r : Re ℚ-ring l x) → x ≡ y → Solved.poly ℚ-ring l (r .code) ≡ y
 along r e = r .is ∙ e
 
 abbrev pub qr-sub : {l : List ℚ} {x y : ℚ} → Re ℚ-ring l x → Re ℚ-ring l y → Re ℚ-ring l (x -q y)
@@ -44,15 +47,15 @@ abbrev pub qr-div : {l : List ℚ} {x : ℚ} (y : ℚ) → Re ℚ-ring l x → R
 qr-div {l} {x} y r s = let t = qr-mul r s in record { code = t .code; is = along t (sym (div-is x y)) }
 
 abbrev pub qr-0 : {l : List ℚ} → Re ℚ-ring l q0
-qr-0 {l} = Ring.re-O ℚ-ring l
+qr-0 {l} = Solved.re-O ℚ-ring l
 
 abbrev pub qr-1 : {l : List ℚ} → Re ℚ-ring l q1
-qr-1 {l} = Ring.re-I ℚ-ring l
+qr-1 {l} = Solved.re-I ℚ-ring l
 
 pub ruleset qring = (atoms, qr-0, qr-1, qr-add, qr-sub, qr-mul, qr-div, qr-neg)
 
 pub q-ring : (l : List ℚ) {x y : ℚ} (r : Re ℚ-ring l (x +q negq y)) → T (Ring.isNil (r .code)) → x ≡ y
-q-ring l r h = Ring.ring ℚ-ring l r h
+q-ring l r h = Solved.ring ℚ-ring l r h
 
 pub q-combine : (k : ℚ) {u v x y : ℚ} → u ≡ v → x +q k *q v ≡ y +q k *q u → x ≡ y
 q-combine k h e = Ring.combine ℚ-ring k h e

@@ -13,7 +13,7 @@ use Rattle.exact.proofs.Laws.{mul-inv}
 use Rattle.exact.proofs.Field.{qring, q-ring, q-combine, ≤-trans, ≤-<-trans, <-≤-trans, pos-ne}
 use Rattle.exact.proofs.Sum.{Σ-cong}
 use Rattle.exact.proofs.Curve.{whole-curve}
-use Rattle.exact.proofs.Refined.{split, refined-is, Holds, held-is, old-knots, held-low, held-high, new-order, one-span, one-end, refined-span}
+use Rattle.exact.proofs.Refined.{split, refined-is, OldSpan, held-is, old-knots, held-low, held-high, new-order, one-span, one-end, refined-span}
 use Rattle.exact.proofs.Inserted.{inserted-pos}
 use Rattle.exact.proofs.Boehm.{boehm}
 
@@ -115,7 +115,7 @@ pub refined-in : (U : ℕ → ℚ) (x : ℚ) (k : ℕ) {p count s₀ : ℕ} → 
 refined-in U x k {p} {count} {s₀} from place low high S I =
     let R = refined-is U x k in
     let o = refined-span R I in
-    let H : Holds k (o .0) s₀ = o .1 in
+    let H : OldSpan k (o .0) s₀ = o .1 in
     let J : InSpan (refined U x k) (o .0) _ = o .2 in
     let f : p ≤ s₀ = S .first in
     let l : s₀ < count = S .last in

@@ -36,20 +36,21 @@ refined-is U x k = record {
       ∙ cond-no _ _ (eqb (suc i) (suc k)) (λ z. let y : suc i ≡ suc k = eqb→eq (suc i) (suc k) z in omega arith) ∙ ap U e;
 }
 
-pub record Holds (k s s₀ : ℕ) : Type 0 where
+-- span s of the refined knots lies in the old span s₀
+pub record OldSpan (k s s₀ : ℕ) : Type 0 where
   pub left : s ≤ k → s₀ ≡ s
   pub right : k < s → suc s₀ ≡ s
 
-pub held-is : (k s : ℕ) → Holds k s (held k s)
+pub held-is : (k s : ℕ) → OldSpan k s (held k s)
 unfolding held
 held-is k s = go (leb s k) (leb→le s k) (nleb→lt s k)
   where
-    go : (b : Bool) → (T b → s ≤ k) → (T (not b) → k < s) → Holds k s (cond b s (s - 1))
+    go : (b : Bool) → (T b → s ≤ k) → (T (not b) → k < s) → OldSpan k s (cond b s (s - 1))
     go true f g = let y : s ≤ k = f tt in record { left = λ h. refl; right = λ h. absurd (omega arith) }
     go false f g = let y : k < s = g tt in record { left = λ h. absurd (omega arith); right = λ h. omega arith }
 
 -- the old knots are in order where the refined ones are, and the span that holds a nonempty span is not empty
-module _ {U W : ℕ → ℚ} {k : ℕ} {x : ℚ} (R : Refined U W k x) {n s s₀ : ℕ} (K : Knots W (suc n) s) (S : Holds k s s₀) (in-range : suc s₀ < n) where
+module _ {U W : ℕ → ℚ} {k : ℕ} {x : ℚ} (R : Refined U W k x) {n s s₀ : ℕ} (K : Knots W (suc n) s) (S : OldSpan k s s₀) (in-range : suc s₀ < n) where
   left-gap : s ≤ k → U s <q U (suc s)
   left-gap sk = let e : s₀ ≡ s = S .left sk in subst (λ y. y <q U (suc s)) (R .before s sk) (⊎-elim
       (λ (h : suc s ≤ k). subst (λ y. W s <q y) (R .before (suc s) h) (K .gap))
@@ -134,25 +135,25 @@ module _ {U : ℕ → ℚ} {n : ℕ} (m : (i j : ℕ) → i ≤ j → j < n → 
       (λ h. not-both (A .from) (≤-trans (B .to) (m (suc b) a h in₁)))
 
 -- each parameter of an old span is in a refined span that it holds
-pub refined-span : {U W : ℕ → ℚ} {k : ℕ} {x : ℚ} (R : Refined U W k x) {s₀ : ℕ} {t : ℚ} → InSpan U s₀ t → (s : ℕ) × Holds k s s₀ × InSpan W s t
+pub refined-span : {U W : ℕ → ℚ} {k : ℕ} {x : ℚ} (R : Refined U W k x) {s₀ : ℕ} {t : ℚ} → InSpan U s₀ t → (s : ℕ) × OldSpan k s s₀ × InSpan W s t
 refined-span {U} {W} {k} {x} R {s₀} {t} I = ⊎-elim
     (λ (h : s₀ ≤ k). ⊎-elim at before (eq-or-lt-of-le {n = s₀} {m = k} h)) after (split s₀ k)
   where
-    before : s₀ < k → (s : ℕ) × Holds k s s₀ × InSpan W s t
+    before : s₀ < k → (s : ℕ) × OldSpan k s s₀ × InSpan W s t
     before h = (
       s₀,
       record { left = λ g. refl; right = λ g. absurd (omega arith) },
       record { from = subst (λ y. y ≤q t) (sym (R .before s₀ (omega arith))) (I .from); to = subst (λ y. t <q y) (sym (R .before (suc s₀) h)) (I .to) },
     )
 
-    after : k < s₀ → (s : ℕ) × Holds k s s₀ × InSpan W s t
+    after : k < s₀ → (s : ℕ) × OldSpan k s s₀ × InSpan W s t
     after h = (
       suc s₀,
       record { left = λ g. absurd (omega arith); right = λ g. refl },
       record { from = subst (λ y. y ≤q t) (sym (R .after s₀ h)) (I .from); to = subst (λ y. t <q y) (sym (R .after (suc s₀) (omega arith))) (I .to) },
     )
 
-    at : s₀ ≡ k → (s : ℕ) × Holds k s s₀ × InSpan W s t
+    at : s₀ ≡ k → (s : ℕ) × OldSpan k s s₀ × InSpan W s t
     at e = ⊎-elim
         (λ (h : x ≤q t). (
           suc s₀,

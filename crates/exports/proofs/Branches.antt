@@ -45,6 +45,10 @@ module _ {before after : List Float} {r : ℕ} where
   pub no-both : {p : Both} (f : Interval → Interval → Answer) → p ≡ Neither → Leaves (refused no-interval) before after r → Leaves (onBoth p f) before after r
   no-both f e = leaves-by (sym (ap (λ (k : Both). onBoth k f) e))
 
+  pub on-one : (n : New) (f : Interval → Interval → Answer) → Leaves (onBoth (bothOf n n) f) before after r → Leaves (onNew n (λ a. f a a)) before after r
+  on-one (Made a) f h = h
+  on-one Nothing f h = h
+
   -- the ends that were put are those of the operation's result
   pub ends-of : {i j : Interval} → i ≡ j → Leaves (ends i) before after r → Leaves (ends j) before after r
   ends-of e = leaves-by (ap ends e)

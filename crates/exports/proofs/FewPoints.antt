@@ -11,11 +11,11 @@ use lib.ListN.{length}
 use lib.Ieee.{Float}
 use Rattle.knots.specs.Curve.{countOf}
 use Rattle.knots.specs.declared.refusal.Refusal.{Refusal}
-use Rattle.insertion.specs.Fold.{Outcome, gives, refuses}
-use Rattle.insertion.specs.Start.{insertStart}
-use Rattle.insertion.specs.Whole.{answerOf, insertOutcome, InsertMeets}
-use Rattle.insertion.specs.declared.answer.EditAnswer.{EditAnswer}
-use Rattle.insertion.proofs.Starting.{start-open}
+use Rattle.edits.specs.Outcome.{Outcome, gives, refuses}
+use Rattle.insertion.specs.Whole.{insertStart, insertOutcome, InsertMeets}
+use Rattle.edits.specs.Whole.{answerOf}
+use Rattle.edits.specs.declared.answer.EditAnswer.{EditAnswer}
+use Rattle.insertion.proofs.StartOpen.{start-open}
 use Rattle.trimming.specs.Trim.{keptOf, trimStart, trimOutcome, TrimMeets}
 use Rattle.trimming.proofs.Ranges.{below-long, start-open as trim-open}
 use Rattle.elevation.specs.Whole.{elevatedCount, elevateStart, elevateOutcome, ElevateMeets}

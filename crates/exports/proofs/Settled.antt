@@ -7,12 +7,12 @@ use mathlib.Core.List.{List}
 use lib.ListN.{length}
 use lib.Ieee.{Float}
 use Rattle.knots.specs.declared.refusal.Refusal.{Refusal}
-use Rattle.evaluate.specs.Reverse.{reverseRefusal, ReverseMeets}
-use Rattle.evaluate.specs.IsoCurve.{isoRefusal, IsoMeets}
+use Rattle.made.specs.Reverse.{reverseRefusal, ReverseMeets}
+use Rattle.made.specs.IsoCurve.{isoRefusal, IsoMeets}
 use Rattle.exports.specs.Tables.{packedOf}
-use Rattle.insertion.specs.Fold.{Outcome}
-use Rattle.insertion.specs.Whole.{answerOf, EditMeets}
-use Rattle.insertion.specs.declared.answer.EditAnswer.{EditAnswer}
+use Rattle.edits.specs.Outcome.{Outcome}
+use Rattle.edits.specs.Whole.{answerOf, EditMeets}
+use Rattle.edits.specs.declared.answer.EditAnswer.{EditAnswer}
 use Rattle.exports.specs.Edits.{editNumber}
 use Rattle.many.specs.Rows.{answer, RowsMeet}
 use Rattle.many.specs.declared.answer.ManyAnswer.{ManyAnswer}

@@ -8,10 +8,10 @@ use lib.ListN.{length, drop, replicate}
 use lib.Ieee.{Float}
 use Rattle.knots.specs.Clear.{zeros}
 use Rattle.doubles.specs.Value.{zero+}
-use Rattle.evaluate.specs.declared.vector.Vector.{Vector}
+use Rattle.runs.specs.Point.{storedThree}
+use Rattle.runs.specs.declared.vector.Vector.{Vector}
 use Rattle.evaluate.specs.Numbers.{onto}
 use Rattle.exports.specs.Answer.{values, Leaves}
-use Rattle.exports.specs.Points.{storedThree}
 use Rattle.exports.proofs.Put.{leaves-long, kept}
 
 -- m and 6 more, m and 9 more
@@ -31,13 +31,15 @@ stored-three n z a b c l =
     let e : nine (n - 9) ≡ n = omega arith in
     subst (λ (k : ℕ). storedThree (storedThree (storedThree (replicate k z) 0 a) 3 b) 6 c ≡ onto a (onto b (onto c [])) ++ drop 9 (replicate k z)) e refl
 
-pub leaves-vectors : (a b : Vector) (before cleared one two : List Float) → cleared ≡ zeros (length before) → 6 ≤ length cleared → one ≡ storedThree cleared 0 a → two ≡ storedThree one 3 b → Leaves (values (onto a (onto b []))) before two 0
+pub leaves-vectors : (a b : Vector) (before cleared one two : List Float) → cleared ≡ zeros (length before) → 6 ≤ length cleared → one ≡ storedThree cleared 0 a → two ≡ storedThree one 3 b
+    → Leaves (values (onto a (onto b []))) before two 0
 leaves-vectors a b before cleared one two e room f g =
     let fits = subst (λ (n : ℕ). 6 ≤ n) (kept before cleared e) room in
     leaves-long (onto a (onto b [])) before two fits
     (g ∙ ap (λ (l : List Float). storedThree l 3 b) (f ∙ ap (λ (l : List Float). storedThree l 0 a) e) ∙ stored-two (length before) zero+ a b fits)
 
-pub leaves-three-vectors : (a b c : Vector) (before cleared one two three : List Float) → cleared ≡ zeros (length before) → 9 ≤ length cleared → one ≡ storedThree cleared 0 a → two ≡ storedThree one 3 b → three ≡ storedThree two 6 c → Leaves (values (onto a (onto b (onto c [])))) before three 0
+pub leaves-three-vectors : (a b c : Vector) (before cleared one two three : List Float) → cleared ≡ zeros (length before) → 9 ≤ length cleared → one ≡ storedThree cleared 0 a
+    → two ≡ storedThree one 3 b → three ≡ storedThree two 6 c → Leaves (values (onto a (onto b (onto c [])))) before three 0
 leaves-three-vectors a b c before cleared one two three e room f g h =
     let fits = subst (λ (n : ℕ). 9 ≤ n) (kept before cleared e) room in
     leaves-long (onto a (onto b (onto c []))) before three fits

@@ -7,7 +7,7 @@ use lib.ListN.{length, drop}
 use lib.Dec.{ltb}
 use lib.Ieee.{Float}
 use Rattle.knots.specs.Clear.{zeros}
-use Rattle.knots.specs.Refusal.{row, too-long}
+use Rattle.knots.specs.Refusal.{row, length-bad}
 use Rattle.knots.specs.declared.refusal.Refusal.{Refusal}
 use Rattle.exports.specs.Tables.{packedOf}
 
@@ -28,7 +28,7 @@ told r xs = answerBy (packedOf r) xs
 -- the number returned where n doubles are lent: 30 says that the answer has no room
 abbrev pub number : Answer → ℕ → ℕ
 number (refused k) n = k
-number (values xs) n = cond (ltb n (length xs)) (row too-long .0) 0
+number (values xs) n = cond (ltb n (length xs)) (row length-bad .0) 0
 
 -- the lent run of n doubles afterwards
 abbrev pub run : Answer → ℕ → List Float

@@ -1,8 +1,8 @@
 -- The number that an edit returns. Definitions only.
 use Prim.Native.Nat.{ℕ, _+_, _*_}
 use lib.ListN.{getD}
-use Rattle.insertion.specs.Numbers.{editAnswerRefusal, editAnswerValues}
-use Rattle.insertion.specs.declared.answer.EditAnswer.{EditAnswer}
+use Rattle.edits.specs.Numbers.{editAnswerRefusal, editAnswerValues}
+use Rattle.edits.specs.declared.answer.EditAnswer.{EditAnswer}
 use Rattle.exports.specs.Tables.{packedOf}
 
 -- how many points the formed curve has: the second of its numbers, 0 after a refusal

@@ -1,6 +1,7 @@
 -- The answers of the interval calls: the operation's result where the operands are intervals, else 99. Definitions only.
 use Prim.Native.Nat.{ℕ}
 use mathlib.Core.Bool.{cond}
+use lib.Dec.{eqb}
 use mathlib.Core.List.{[]}
 use lib.Ieee.{Float}
 use Rattle.interval.specs.declared.Interval.{Interval}
@@ -10,7 +11,7 @@ use Rattle.interval.specs.declared.Quotient.{Quotient}
 use Rattle.interval.specs.declared.Sign.{Sign}
 use Rattle.interval.specs.declared.Sign.the-variants.{Positive, Negative, Zero, Unknown}
 use Rattle.interval.specs.Numbers.{endsOnto, newValues, quotientValues}
-use Rattle.interval.specs.Ops.{containsOf, signOf}
+use Rattle.interval.specs.Ops.{containsOf, signOf, sqrOf, negOf, hullOf, addOf, subOf, mulOf}
 use Rattle.knots.specs.Numbers.{quotientRefusal}
 use Rattle.exports.specs.declared.operands.Both.{Both}
 use Rattle.exports.specs.declared.operands.Both.the-variants.{Are, Nothing as Neither}
@@ -35,6 +36,9 @@ abbrev pub quotientAnswer : Quotient → Answer
 quotientAnswer q = told (quotientRefusal q) (quotientValues q)
 
 -- ---- an operation on operands that are intervals
+abbrev pub operationOf : ℕ → Interval → Interval → Interval
+operationOf code a b = cond (eqb code 0) (sqrOf a) (cond (eqb code 1) (negOf a) (cond (eqb code 2) (hullOf a b) (cond (eqb code 3) (addOf a b) (cond (eqb code 4) (subOf a b) (mulOf a b)))))
+
 abbrev pub onNew : New → (Interval → Answer) → Answer
 onNew (Made a) f = f a
 onNew Nothing f = refused no-interval

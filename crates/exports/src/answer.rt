@@ -1,10 +1,12 @@
 // How an exported call ends: the number it returns, and what it leaves in the lent run.
+use crate::tables::packed;
 use interval::Interval;
 use knots::clear::clear;
+use knots::refusal::Refusal;
 ghost use mathlib.Core.Path.{_≡_};
 ghost use mathlib.Core.List.{_∷_, []};
 ghost use Rattle.interval.specs.Numbers.{endsOnto};
-ghost use Rattle.exports.specs.Answer.{Leaves, refused, values};
+ghost use Rattle.exports.specs.Answer.{Leaves, refused, told, values};
 
 // A refusal: the number is returned, and nothing but +0.0 is left.
 pub fn refuse(out: &mut [f64], number: u32) -> u32
@@ -12,6 +14,13 @@ pub fn refuse(out: &mut [f64], number: u32) -> u32
 {
     clear(out);
     number
+}
+
+// The refusal of an answer, packed.
+pub fn put_refusal(out: &mut [f64], r: Refusal) -> u32
+    ensures { λ n. ⌜ Leaves (told r []) (now (out .entry)) (now (out .exit)) n ⌝ }
+{
+    refuse(out, packed(r))
 }
 
 // One double, then +0.0; 30 where the run is empty.

@@ -1,38 +1,16 @@
 // Bounds of curves and surfaces. A box is 18 numbers: point, du and dv, three coordinates each, low before high.
-use crate::answer::refuse;
-use crate::tables::packed;
+use crate::answer::put_refusal;
 use bounds::answer::Bounded;
 use bounds::answer::NurbsBounds;
-use bounds::answer::Triple;
 use bounds::curve::bound_curve;
+use bounds::store::store_triple;
 use bounds::surface::bound_surface;
-use interval::Interval;
 use knots::clear::clear;
-ghost use mathlib.Core.Path.{_≡_};
-ghost use Prim.Native.Nat.{_+_, _<_};
-ghost use lib.ListN.{length};
 ghost use Rattle.bounds.specs.Curve.{boundOf};
 ghost use Rattle.bounds.specs.Numbers.{boundedValues};
 ghost use Rattle.bounds.specs.Surface.{surfaceOf};
 ghost use Rattle.exports.specs.Answer.{Leaves, values};
-ghost use Rattle.exports.specs.Boxes.{storedTwo, storedSix, boundedAnswer};
-
-fn store(out: &mut [f64], at: usize, i: Interval)
-    requires { ⌜ at + 1 < length (now out) ⌝ }
-    ensures { λ _. ⌜ now (out .exit) ≡ storedTwo (now (out .entry)) at i ⌝ }
-{
-    out[at] = i.lo();
-    out[at + 1] = i.hi();
-}
-
-fn store_triple(out: &mut [f64], at: usize, t: Triple)
-    requires { ⌜ at + 5 < length (now out) ⌝ }
-    ensures { λ _. ⌜ now (out .exit) ≡ storedSix (now (out .entry)) at t ⌝ }
-{
-    store(out, at, t.x);
-    store(out, at + 2, t.y);
-    store(out, at + 4, t.z);
-}
+ghost use Rattle.exports.specs.Boxes.{boundedAnswer};
 
 // The box, then +0.0; 30 where the run has no room for it.
 fn put_box(out: &mut [f64], b: NurbsBounds) -> u32
@@ -53,7 +31,7 @@ fn put_bounded(out: &mut [f64], a: Bounded) -> u32
 {
     match a {
         Bounded::Are(b) => put_box(out, b),
-        Bounded::Refused(r) => refuse(out, packed(r)),
+        Bounded::Refused(r) => put_refusal(out, r),
     }
 }
 
@@ -80,12 +58,12 @@ pub extern "C" fn tasulogi_bound_curve(
 // The bounds of a surface on a closed rectangle.
 #[no_mangle]
 pub extern "C" fn tasulogi_bound_surface(
-    u_degree: usize,
-    v_degree: usize,
-    u_knots: &[f64],
-    v_knots: &[f64],
-    u_count: usize,
-    v_count: usize,
+    p: usize,
+    q: usize,
+    uk: &[f64],
+    vk: &[f64],
+    un: usize,
+    vn: usize,
     points: &[f64],
     rational: bool,
     weights: &[f64],
@@ -95,17 +73,17 @@ pub extern "C" fn tasulogi_bound_surface(
     v_hi: f64,
     out: &mut [f64],
 ) -> u32
-    ensures { λ r. ⌜ Leaves (boundedAnswer (surfaceOf «u_degree» «v_degree» (now («u_knots» .entry)) (now («v_knots» .entry)) «u_count» «v_count» (now (points .entry)) rational (now (weights .entry)) «u_lo» «u_hi» «v_lo» «v_hi»)) (now (out .entry)) (now (out .exit)) r ⌝ }
+    ensures { λ r. ⌜ Leaves (boundedAnswer (surfaceOf p q (now (uk .entry)) (now (vk .entry)) un vn (now (points .entry)) rational (now (weights .entry)) «u_lo» «u_hi» «v_lo» «v_hi»)) (now (out .entry)) (now (out .exit)) r ⌝ }
 {
     put_bounded(
         out,
         bound_surface(
-            u_degree,
-            v_degree,
-            u_knots,
-            v_knots,
-            u_count,
-            v_count,
+            p,
+            q,
+            uk,
+            vk,
+            un,
+            vn,
             points,
             rational,
             weights,

@@ -12,10 +12,54 @@ ghost use mathlib.Core.Path.{_≡_};
 ghost use mathlib.Core.List.{_∷_, []};
 ghost use Rattle.interval.specs.Ops.{entire, newOf, pointOf, widthOf, hullOf, sqrOf, addOf, subOf, mulOf, negOf, divideOf, signOf};
 ghost use Rattle.exports.specs.Answer.{Leaves, values};
-ghost use Rattle.exports.specs.Intervals.{ends, newAnswer, quotientAnswer, onNew, onBoth, bothOf, signNumber, insideNumber};
+ghost use Rattle.exports.specs.Intervals.{operationOf, ends, newAnswer, quotientAnswer, onNew, onBoth, bothOf, signNumber, insideNumber};
 
 // What is returned where two doubles are no interval: document 01 has no number for it.
 const NO_INTERVAL: u32 = 99;
+
+// Which operation a call is. At each call it is known to the compiler, so nothing is left of the tests.
+const SQR: u32 = 0;
+
+const NEG: u32 = 1;
+
+const HULL: u32 = 2;
+
+const ADD: u32 = 3;
+
+const SUB: u32 = 4;
+
+const MUL: u32 = 5;
+
+fn operation(code: u32, a: Interval, b: Interval) -> Interval
+    ensures { λ r. ⌜ r ≡ operationOf code a b ⌝ }
+{
+    match code {
+        SQR => a.sqr(),
+        NEG => a.neg(),
+        HULL => a.hull(b),
+        ADD => a.add(b),
+        SUB => a.sub(b),
+        _ => a.mul(b),
+    }
+}
+
+// An operation on two operands.
+fn binary(code: u32, al: f64, ah: f64, bl: f64, bh: f64, out: &mut [f64]) -> u32
+    ensures { λ r. ⌜ Leaves (onBoth (bothOf (newOf al ah) (newOf bl bh)) (λ a b. ends (operationOf code a b))) (now (out .entry)) (now (out .exit)) r ⌝ }
+{
+    let p = pair(al, ah, bl, bh);
+    match p {
+        Both::Are(a, b) => put(out, operation(code, a, b)),
+        Both::Nothing => refuse(out, NO_INTERVAL),
+    }
+}
+
+// An operation on one operand.
+fn unary(code: u32, lo: f64, hi: f64, out: &mut [f64]) -> u32
+    ensures { λ r. ⌜ Leaves (onNew (newOf lo hi) (λ a. ends (operationOf code a a))) (now (out .entry)) (now (out .exit)) r ⌝ }
+{
+    binary(code, lo, hi, lo, hi, out)
+}
 
 // The whole line.
 #[no_mangle]
@@ -93,22 +137,14 @@ pub extern "C" fn tasulogi_interval_sign(lo: f64, hi: f64) -> u32
 pub extern "C" fn tasulogi_interval_sqr(lo: f64, hi: f64, out: &mut [f64]) -> u32
     ensures { λ r. ⌜ Leaves (onNew (newOf lo hi) (λ a. ends (sqrOf a))) (now (out .entry)) (now (out .exit)) r ⌝ }
 {
-    let n = Interval::new(lo, hi);
-    match n {
-        New::Made(a) => put(out, a.sqr()),
-        New::Nothing => refuse(out, NO_INTERVAL),
-    }
+    unary(SQR, lo, hi, out)
 }
 
 #[no_mangle]
 pub extern "C" fn tasulogi_interval_neg(lo: f64, hi: f64, out: &mut [f64]) -> u32
     ensures { λ r. ⌜ Leaves (onNew (newOf lo hi) (λ a. ends (negOf a))) (now (out .entry)) (now (out .exit)) r ⌝ }
 {
-    let n = Interval::new(lo, hi);
-    match n {
-        New::Made(a) => put(out, a.neg()),
-        New::Nothing => refuse(out, NO_INTERVAL),
-    }
+    unary(NEG, lo, hi, out)
 }
 
 // The least interval with both in it.
@@ -116,44 +152,28 @@ pub extern "C" fn tasulogi_interval_neg(lo: f64, hi: f64, out: &mut [f64]) -> u3
 pub extern "C" fn tasulogi_interval_hull(al: f64, ah: f64, bl: f64, bh: f64, out: &mut [f64]) -> u32
     ensures { λ r. ⌜ Leaves (onBoth (bothOf (newOf al ah) (newOf bl bh)) (λ a b. ends (hullOf a b))) (now (out .entry)) (now (out .exit)) r ⌝ }
 {
-    let p = pair(al, ah, bl, bh);
-    match p {
-        Both::Are(a, b) => put(out, a.hull(b)),
-        Both::Nothing => refuse(out, NO_INTERVAL),
-    }
+    binary(HULL, al, ah, bl, bh, out)
 }
 
 #[no_mangle]
 pub extern "C" fn tasulogi_interval_add(al: f64, ah: f64, bl: f64, bh: f64, out: &mut [f64]) -> u32
     ensures { λ r. ⌜ Leaves (onBoth (bothOf (newOf al ah) (newOf bl bh)) (λ a b. ends (addOf a b))) (now (out .entry)) (now (out .exit)) r ⌝ }
 {
-    let p = pair(al, ah, bl, bh);
-    match p {
-        Both::Are(a, b) => put(out, a.add(b)),
-        Both::Nothing => refuse(out, NO_INTERVAL),
-    }
+    binary(ADD, al, ah, bl, bh, out)
 }
 
 #[no_mangle]
 pub extern "C" fn tasulogi_interval_sub(al: f64, ah: f64, bl: f64, bh: f64, out: &mut [f64]) -> u32
     ensures { λ r. ⌜ Leaves (onBoth (bothOf (newOf al ah) (newOf bl bh)) (λ a b. ends (subOf a b))) (now (out .entry)) (now (out .exit)) r ⌝ }
 {
-    let p = pair(al, ah, bl, bh);
-    match p {
-        Both::Are(a, b) => put(out, a.sub(b)),
-        Both::Nothing => refuse(out, NO_INTERVAL),
-    }
+    binary(SUB, al, ah, bl, bh, out)
 }
 
 #[no_mangle]
 pub extern "C" fn tasulogi_interval_mul(al: f64, ah: f64, bl: f64, bh: f64, out: &mut [f64]) -> u32
     ensures { λ r. ⌜ Leaves (onBoth (bothOf (newOf al ah) (newOf bl bh)) (λ a b. ends (mulOf a b))) (now (out .entry)) (now (out .exit)) r ⌝ }
 {
-    let p = pair(al, ah, bl, bh);
-    match p {
-        Both::Are(a, b) => put(out, a.mul(b)),
-        Both::Nothing => refuse(out, NO_INTERVAL),
-    }
+    binary(MUL, al, ah, bl, bh, out)
 }
 
 // 26 where the divisor contains 0; 28 where no quotient can be formed.

@@ -1,10 +1,10 @@
 // The C face of the libraries: numbers and lent runs in, a number and filled runs out.
 mod answer;
 pub mod boxes;
-pub mod edits;
+pub mod curves;
+pub mod editing;
 pub mod floats;
 pub mod intervals;
-pub mod made;
 mod operands;
 pub mod points;
 pub mod rows;

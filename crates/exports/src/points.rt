@@ -1,33 +1,21 @@
 // Points with their derivatives, of curves and surfaces: three numbers for each, the point first.
-use crate::answer::refuse;
-use crate::tables::packed;
+use crate::answer::put_refusal;
 use evaluate::curve::CurveAnswer;
 use evaluate::curve::eval;
 use evaluate::curve2::CurveAnswer2;
 use evaluate::curve2::eval2;
 use evaluate::surface::SurfaceAnswer;
 use evaluate::surface::eval_surface;
-use evaluate::vector::Vector;
 use knots::clear::clear;
-ghost use mathlib.Core.Path.{_≡_};
+use runs::store::store_vector;
+use runs::vector::Vector;
 ghost use mathlib.Core.List.{[]};
-ghost use Prim.Native.Nat.{_+_, _<_};
-ghost use lib.ListN.{length};
 ghost use Rattle.evaluate.specs.Curve.{evalOf};
 ghost use Rattle.evaluate.specs.Curve2.{eval2Of};
 ghost use Rattle.evaluate.specs.Surface.{evalSurfaceOf};
 ghost use Rattle.evaluate.specs.Numbers.{onto};
 ghost use Rattle.exports.specs.Answer.{Leaves, values};
-ghost use Rattle.exports.specs.Points.{storedThree, curveAnswer, curve2Answer, surfaceAnswer};
-
-fn store_vector(out: &mut [f64], at: usize, v: Vector)
-    requires { ⌜ at + 2 < length (now out) ⌝ }
-    ensures { λ _. ⌜ now (out .exit) ≡ storedThree (now (out .entry)) at v ⌝ }
-{
-    out[at] = v.x;
-    out[at + 1] = v.y;
-    out[at + 2] = v.z;
-}
+ghost use Rattle.exports.specs.Points.{curveAnswer, curve2Answer, surfaceAnswer};
 
 // Two vectors, then +0.0; 30 where the run has no room for them.
 fn put_vectors(out: &mut [f64], a: Vector, b: Vector) -> u32
@@ -62,7 +50,7 @@ pub fn put_curve(out: &mut [f64], a: CurveAnswer) -> u32
 {
     match a {
         CurveAnswer::At(d) => put_vectors(out, d.point, d.d1),
-        CurveAnswer::Refused(r) => refuse(out, packed(r)),
+        CurveAnswer::Refused(r) => put_refusal(out, r),
     }
 }
 
@@ -97,19 +85,19 @@ pub extern "C" fn tasulogi_eval2(
 {
     match eval2(degree, knots, points, rational, weights, t) {
         CurveAnswer2::At(d) => put_three_vectors(out, d.point, d.d1, d.d2),
-        CurveAnswer2::Refused(r) => refuse(out, packed(r)),
+        CurveAnswer2::Refused(r) => put_refusal(out, r),
     }
 }
 
 // The point of a surface and its derivatives along u and v.
 #[no_mangle]
 pub extern "C" fn tasulogi_eval_surface(
-    u_degree: usize,
-    v_degree: usize,
-    u_knots: &[f64],
-    v_knots: &[f64],
-    u_count: usize,
-    v_count: usize,
+    p: usize,
+    q: usize,
+    uk: &[f64],
+    vk: &[f64],
+    un: usize,
+    vn: usize,
     points: &[f64],
     rational: bool,
     weights: &[f64],
@@ -117,22 +105,10 @@ pub extern "C" fn tasulogi_eval_surface(
     v: f64,
     out: &mut [f64],
 ) -> u32
-    ensures { λ r. ⌜ Leaves (surfaceAnswer (evalSurfaceOf «u_degree» «v_degree» (now («u_knots» .entry)) (now («v_knots» .entry)) «u_count» «v_count» (now (points .entry)) rational (now (weights .entry)) u v)) (now (out .entry)) (now (out .exit)) r ⌝ }
+    ensures { λ r. ⌜ Leaves (surfaceAnswer (evalSurfaceOf p q (now (uk .entry)) (now (vk .entry)) un vn (now (points .entry)) rational (now (weights .entry)) u v)) (now (out .entry)) (now (out .exit)) r ⌝ }
 {
-    match eval_surface(
-        u_degree,
-        v_degree,
-        u_knots,
-        v_knots,
-        u_count,
-        v_count,
-        points,
-        rational,
-        weights,
-        u,
-        v,
-    ) {
-        SurfaceAnswer::At(d) => put_three_vectors(out, d.point, d.du, d.dv),
-        SurfaceAnswer::Refused(r) => refuse(out, packed(r)),
+    match eval_surface(p, q, uk, vk, un, vn, points, rational, weights, u, v) {
+        SurfaceAnswer::At(s) => put_three_vectors(out, s.point, s.du, s.dv),
+        SurfaceAnswer::Refused(none) => put_refusal(out, none),
     }
 }

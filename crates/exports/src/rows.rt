@@ -4,7 +4,7 @@ use crate::tables::packed;
 use many::answer::ManyAnswer;
 use many::boxes::bound_spans;
 use many::points::eval_many;
-use many::points2::eval2_many;
+use many::points::eval2_many;
 ghost use mathlib.Core.Path.{_≡_};
 ghost use lib.ListN.{length};
 ghost use Rattle.many.specs.Rows.{answer};

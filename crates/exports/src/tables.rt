@@ -59,27 +59,17 @@ pub extern "C" fn tasulogi_curve_refusal(
 // 0 for a valid surface, else its refusal, packed.
 #[no_mangle]
 pub extern "C" fn tasulogi_surface_refusal(
-    u_degree: usize,
-    v_degree: usize,
-    u_knots: &[f64],
-    v_knots: &[f64],
-    u_count: usize,
-    v_count: usize,
+    p: usize,
+    q: usize,
+    uk: &[f64],
+    vk: &[f64],
+    un: usize,
+    vn: usize,
     points: &[f64],
     rational: bool,
     weights: &[f64],
 ) -> u32
-    ensures { λ r. ⌜ r ≡ packedOf (surfaceRefusal «u_degree» «v_degree» (now («u_knots» .entry)) (now («v_knots» .entry)) «u_count» «v_count» (now (points .entry)) rational (now (weights .entry))) ⌝ }
+    ensures { λ r. ⌜ r ≡ packedOf (surfaceRefusal p q (now (uk .entry)) (now (vk .entry)) un vn (now (points .entry)) rational (now (weights .entry))) ⌝ }
 {
-    packed(surface_refusal(
-        u_degree,
-        v_degree,
-        u_knots,
-        v_knots,
-        u_count,
-        v_count,
-        points,
-        rational,
-        weights,
-    ))
+    packed(surface_refusal(p, q, uk, vk, un, vn, points, rational, weights))
 }

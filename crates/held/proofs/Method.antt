@@ -144,7 +144,13 @@ module _ (k : ℕ) (R : RattleType) {M : Type 1} (𝓤 : URA M) (H : Heap 𝓤) 
       mach = T′.lowered d
 
       abbrev passed : Vals (apart k R) κs
-      passed = (vint w64 (d .degree) ∷ [], (sliceVal (d .knots .ptr) (length (d .knots .now)) ∷ [], (sliceVal (d .points .ptr) (length (d .points .now)) ∷ [], (vbool (d .rational) ∷ [], (sliceVal (d .weights .ptr) (length (d .weights .now)) ∷ [], low k κs xs)))))
+      passed = (
+        vint w64 (d .degree) ∷ [],
+        (
+          sliceVal (d .knots .ptr) (length (d .knots .now)) ∷ [],
+          (sliceVal (d .points .ptr) (length (d .points .now)) ∷ [], (vbool (d .rational) ∷ [], (sliceVal (d .weights .ptr) (length (d .weights .now)) ∷ [], low k κs xs))),
+        ),
+      )
 
       -- what the method is called at, and what the function is
       abbrev pub here : Held .Ghost

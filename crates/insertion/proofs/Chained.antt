@@ -16,15 +16,18 @@ use Rattle.knots.specs.Knots.{knotRefusal, ValidKnots}
 use Rattle.knots.specs.declared.refusal.Refusal.{Refusal}
 use Rattle.knots.proofs.Refusals.{skip}
 use Rattle.knots.proofs.Valid.{not-refused}
-use Rattle.insertion.specs.Rows.{given}
+use Rattle.edits.specs.Rows.{given}
 use Rattle.insertion.specs.Insert.{insertedKnots, insertedPoints, insertedWeights, insertRefusal}
-use Rattle.insertion.specs.Fold.{Outcome, gives, refuses, insertAll}
-use Rattle.insertion.specs.Whole.{givenOf}
-use Rattle.insertion.specs.Work.{rowNumber, laidAt, laid, knotsFrom, pointsFrom, weightsFrom, timesStart, timesOutcome, refusalOf, workIn}
-use Rattle.insertion.specs.Passes.{CurveIn}
-use Rattle.insertion.proofs.Laying.{knots-back, points-back, weights-back, goal-is}
-use Rattle.insertion.proofs.Laid.{laid-long, laid-in, laid-laid}
-use Rattle.insertion.proofs.Working.{work-fits}
+use Rattle.insertion.specs.Fold.{insertAll}
+use Rattle.edits.specs.Outcome.{Outcome, gives, refuses}
+use Rattle.edits.specs.Whole.{givenOf}
+use Rattle.edits.specs.Work.{rowNumber, laidAt, laid, knotsFrom, pointsFrom, weightsFrom, refusalOf, workIn}
+use Rattle.insertion.specs.Times.{timesStart, timesOutcome}
+use Rattle.edits.specs.Passes.{CurveIn}
+use Rattle.edits.proofs.IntoRun.{knots-back, points-back, weights-back}
+use Rattle.insertion.proofs.Outputs.{goal-is}
+use Rattle.edits.proofs.RunWithCurve.{laid-long, laid-in, laid-laid}
+use Rattle.edits.proofs.WorkCalls.{work-fits}
 use Rattle.insertion.proofs.Made.{made}
 
 abbrev refusalNumber : Outcome → ℕ
@@ -114,7 +117,8 @@ module _ (a p n : ℕ) (g : Bool) (d ks ps ws : List Float) (v : ValidKnots p n 
       laid-laid a d ks ps g ws ls qs vs (omega (arith, count)) (omega (arith, v .long)) (omega arith) (omega arith)
   over (refuses r) e = ap zeros (laid-long a d ks ps g ws)
 
-  pub chained : (w w₁ : List Float) (r : Refusal) → w ≡ L → r ≡ refusalOf (timesOutcome p n m a w g t) → w₁ ≡ workIn a g w (timesOutcome p n m a w g t) → (r ≡ refusalOf goal) × (w₁ ≡ workIn a g d goal)
+  pub chained : (w w₁ : List Float) (r : Refusal) → w ≡ L → r ≡ refusalOf (timesOutcome p n m a w g t) → w₁ ≡ workIn a g w (timesOutcome p n m a w g t)
+      → (r ≡ refusalOf goal) × (w₁ ≡ workIn a g d goal)
   chained w w₁ r e R Z = (
     R ∙ (ap (λ (l : List Float). refusalOf (timesOutcome p n m a l g t)) e ∙ ap refusalOf times-goal),
     Z ∙ (ap (λ (l : List Float). workIn a g l (timesOutcome p n m a l g t)) e ∙ (ap (workIn a g L) times-goal ∙ over goal refl)),

@@ -13,11 +13,11 @@ use Rattle.knots.specs.Knots.{ValidKnots}
 use Rattle.knots.specs.Span.{SpanAt, spanOf}
 use Rattle.knots.proofs.Refusals.{orElse-none}
 use Rattle.knots.proofs.Spans.{search-meets, span-is}
-use Rattle.basis.proofs.Whole.{at-tabulate}
-use Rattle.insertion.specs.Counts.{multiplicityOf}
+use Rattle.runs.proofs.Tabulated.{at-tabulate}
+use Rattle.edits.specs.Counts.{multiplicityOf}
 use Rattle.insertion.specs.Insert.{knotAt, moreKnots, spotRefusal, formRefusal, insertedKnots, insertRefusal}
 use Rattle.insertion.proofs.Storing.{knot-low, knot-high}
-use Rattle.insertion.proofs.Forming.{spot-open}
+use Rattle.insertion.proofs.Formed.{spot-open}
 
 -- where a knot that is not refused goes
 pub record Spot (p n : ℕ) (ks : List Float) (t : Float) : Type 0 where
@@ -44,5 +44,7 @@ module _ (p n : ℕ) (ks ps : List Float) (g : Bool) (ws : List Float) (t : Floa
       let x = S .from in
       let y = S .below in
       let l = v .long in
-      let c = v .count in
-      (at-tabulate (length ks + 1) (knotAt k t ks) p (omega arith) ∙ sym (knot-low k t ks p x), at-tabulate (length ks + 1) (knotAt k t ks) (n + 1) (omega arith) ∙ sym (knot-high k t ks n (omega arith)))
+      let c = v .count in (
+        at-tabulate (length ks + 1) (knotAt k t ks) p (omega arith) ∙ sym (knot-low k t ks p x),
+        at-tabulate (length ks + 1) (knotAt k t ks) (n + 1) (omega arith) ∙ sym (knot-high k t ks n (omega arith)),
+      )

@@ -19,17 +19,20 @@ use Rattle.knots.specs.Span.{spanOf}
 use Rattle.knots.specs.declared.refusal.Refusal.{Refusal}
 use Rattle.knots.proofs.Refusals.{orElse-none, passed, stop, skip}
 use Rattle.knots.proofs.Curves.{valid-formed}
-use Rattle.insertion.specs.Control.{isLifted, isBlended}
-use Rattle.insertion.specs.Counts.{multiplicityOf}
+use Rattle.edits.specs.Control.{isLifted, isBlended}
+use Rattle.edits.specs.Counts.{multiplicityOf}
 use Rattle.insertion.specs.Insert.{moreKnots, spotRefusal, lifted, blended, morePoints, moreWeights, formRefusal, insertedKnots, insertedPoints, insertedWeights, insertRefusal}
-use Rattle.insertion.specs.Fold.{Outcome, gives, refuses, insertAll}
-use Rattle.insertion.specs.Work.{knotsFrom, pointsFrom, weightsFrom}
-use Rattle.insertion.specs.Passes.{Untouched, Outside, Inserted, ListMeets}
-use Rattle.insertion.proofs.Forming.{untouched-less, outside-less}
+use Rattle.insertion.specs.Fold.{insertAll}
+use Rattle.edits.specs.Outcome.{Outcome, gives, refuses}
+use Rattle.edits.specs.Work.{knotsFrom, pointsFrom, weightsFrom}
+use Rattle.edits.specs.Passes.{Untouched, Outside}
+use Rattle.insertion.specs.Passes.{Inserted, ListMeets}
+use Rattle.insertion.proofs.Formed.{untouched-less, outside-less}
 
 -- ---- what an insertion that is not refused forms
 module _ (p n : ℕ) (ks ps : List Float) (g : Bool) (ws : List Float) (t : Float) where
-  pub inserted-formed : insertRefusal p n ks ps g ws t .number ≡ 0 → ValidKnots p (n + 1) (insertedKnots p n ks ps g ws t) × ValidControls (n + 1) (insertedPoints p n ks ps g ws t) g (insertedWeights p n ks ps g ws t)
+  pub inserted-formed : insertRefusal p n ks ps g ws t .number ≡ 0
+      → ValidKnots p (n + 1) (insertedKnots p n ks ps g ws t) × ValidControls (n + 1) (insertedPoints p n ks ps g ws t) g (insertedWeights p n ks ps g ws t)
   unfolding insertRefusal formRefusal insertedKnots insertedPoints insertedWeights
   inserted-formed h =
       let k = spanOf p n ks t in
@@ -92,7 +95,10 @@ module _ (a p : ℕ) (g : Bool) (n m : ℕ) (ts : List Float) (left : ℕ → Li
   turns-start A v = record {
     upto = omega arith;
     long = refl;
-    going = subst (λ (k : ℕ). Going a p g aim w₀ w₀ k (left 0)) (sym (add-zero n)) (record { valid = v; left = ap (insertAll p g n (knotsFrom a p n w₀) (pointsFrom n w₀) (weightsFrom g n w₀)) A; others = λ j u o. refl });
+    going =
+        subst
+        (λ (k : ℕ). Going a p g aim w₀ w₀ k (left 0)) (sym (add-zero n))
+        (record { valid = v; left = ap (insertAll p g n (knotsFrom a p n w₀) (pointsFrom n w₀) (weightsFrom g n w₀)) A; others = λ j u o. refl });
   }
 
   module _ (w₁ : List Float) (i : ℕ) (I : InTurns w₁ i) where

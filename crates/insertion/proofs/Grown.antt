@@ -15,9 +15,9 @@ use Rattle.knots.specs.Knots.{ValidKnots}
 use Rattle.knots.specs.Curve.{controlRefusal, formedRefusal}
 use Rattle.knots.specs.Span.{SpanAt}
 use Rattle.knots.proofs.Valid.{sorted, not-refused}
-use Rattle.basis.proofs.Whole.{at-tabulate, length-tabulate}
-use Rattle.basis.proofs.Cases.{lt-or-ge}
-use Rattle.insertion.specs.Counts.{bit, countBelow, multiplicityOf}
+use Rattle.runs.proofs.Tabulated.{at-tabulate, length-tabulate}
+use Rattle.runs.proofs.Cases.{lt-or-ge}
+use Rattle.edits.specs.Counts.{bit, countBelow, multiplicityOf}
 use Rattle.insertion.specs.Insert.{knotAt, moreKnots}
 use Rattle.insertion.proofs.Storing.{knot-low, knot-here, knot-high}
 

@@ -15,17 +15,18 @@ use Rattle.doubles.specs.Run.{at}
 use Rattle.knots.specs.Knots.{ValidKnots}
 use Rattle.knots.specs.Curve.{ValidControls}
 use Rattle.knots.specs.Span.{SpanAt, spanOf}
-use Rattle.basis.proofs.Whole.{at-tabulate, length-tabulate}
+use Rattle.runs.proofs.Tabulated.{at-tabulate, length-tabulate}
 use Rattle.insertion.specs.Placed.{Each}
-use Rattle.insertion.specs.Counts.{bit, countBelow, multiplicityOf, belowOf, allEqual}
-use Rattle.insertion.specs.Rows.{given}
+use Rattle.edits.specs.Counts.{bit, countBelow, multiplicityOf, belowOf, allEqual}
+use Rattle.edits.specs.Rows.{given}
 use Rattle.insertion.specs.Insert.{knotAt, moreKnots, inside, morePoints, moreWeights, insertedKnots, insertedPoints, insertedWeights, insertRefusal}
-use Rattle.insertion.specs.Fold.{Outcome, gives, refuses, insertAll}
-use Rattle.insertion.specs.Start.{clampedEnds}
+use Rattle.insertion.specs.Fold.{insertAll}
+use Rattle.edits.specs.Outcome.{Outcome, gives, refuses}
+use Rattle.edits.specs.Start.{clampedEnds}
 use Rattle.insertion.proofs.Storing.{knot-low, knot-high}
 use Rattle.insertion.proofs.Domain.{spot}
 use Rattle.insertion.proofs.Folds.{inserted-formed, inserted-valid}
-use Rattle.insertion.proofs.Counted.{count-grown}
+use Rattle.insertion.proofs.KnotCounts.{count-grown}
 
 -- ---- lists
 -- every number of a list lies strictly inside the domain
@@ -128,7 +129,8 @@ module _ (p n : ℕ) (ks ps : List Float) (g : Bool) (ws : List Float) (t : Floa
   one-back j b c = let s = goes .below in at-tabulate (length ks + 1) (knotAt (spanOf p n ks t) t ks) (j + 1) (omega arith) ∙ sym (knot-high (spanOf p n ks t) t ks j (omega arith))
 
   -- then the others
-  made-more : (ts ks' ps' ws' : List Float) → Made p g (n + 1) (insertedKnots p n ks ps g ws t) (insertedPoints p n ks ps g ws t) (insertedWeights p n ks ps g ws t) ts ks' ps' ws' → Made p g n ks ps ws (t ∷ ts) ks' ps' ws'
+  made-more : (ts ks' ps' ws' : List Float) → Made p g (n + 1) (insertedKnots p n ks ps g ws t) (insertedPoints p n ks ps g ws t) (insertedWeights p n ks ps g ws t) ts ks' ps' ws'
+      → Made p g n ks ps ws (t ∷ ts) ks' ps' ws'
   unfolding countIn
   made-more ts ks' ps' ws' M =
       let e : n + 1 + length ts ≡ n + suc (length ts) = omega arith in
@@ -174,7 +176,8 @@ made p g n ks ps ws (t ∷ ts) ks' ps' ws' v e =
     (λ z h. let q : _≡_ {A = ℕ} 0 1 = cc in absurd (omega arith)) e
 
 -- valid points and weights
-pub made-controls : (p : ℕ) (g : Bool) (n : ℕ) (ks ps ws ts ks' ps' ws' : List Float) → ValidControls n ps g ws → insertAll p g n ks ps ws ts ≡ gives ks' ps' ws' → ValidControls (n + length ts) ps' g ws'
+pub made-controls : (p : ℕ) (g : Bool) (n : ℕ) (ks ps ws ts ks' ps' ws' : List Float) → ValidControls n ps g ws → insertAll p g n ks ps ws ts ≡ gives ks' ps' ws'
+    → ValidControls (n + length ts) ps' g ws'
 unfolding insertAll
 made-controls p g n ks ps ws [] ks' ps' ws' v e =
     let b : ps ≡ ps' = cc in

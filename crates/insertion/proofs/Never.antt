@@ -17,14 +17,16 @@ use Rattle.knots.specs.Span.{SpanAt, spanOf}
 use Rattle.knots.specs.declared.refusal.Refusal.{Refusal}
 use Rattle.knots.proofs.Below.{and-left}
 use Rattle.knots.proofs.Spans.{search-meets, span-is}
-use Rattle.insertion.specs.Control.{isLifted, isBlended}
-use Rattle.insertion.specs.Counts.{bit, multiplicityOf}
+use Rattle.edits.specs.Control.{isLifted, isBlended}
+use Rattle.edits.specs.Counts.{bit, multiplicityOf}
 use Rattle.insertion.specs.Insert.{moreKnots, inside, spotRefusal, lifted, blended, morePoints, moreWeights, formRefusal, insertedKnots, insertedPoints, insertedWeights, insertRefusal}
-use Rattle.insertion.specs.Fold.{refuses, insertAll}
+use Rattle.insertion.specs.Fold.{insertAll}
+use Rattle.edits.specs.Outcome.{refuses}
 use Rattle.insertion.proofs.Grown.{grown-valid, controls-left}
-use Rattle.insertion.proofs.Forming.{points-left, spot-open}
+use Rattle.insertion.proofs.Forming.{points-left}
+use Rattle.insertion.proofs.Formed.{spot-open}
 use Rattle.insertion.proofs.Folds.{inserted-valid}
-use Rattle.insertion.proofs.Counted.{eq-self}
+use Rattle.insertion.proofs.KnotCounts.{eq-self}
 use Rattle.insertion.proofs.Made.{AllInside, countIn, each-map, by-number, others, one-front, one-back, one-counts}
 
 -- ---- what is refused once a knot's place is found: 8, 19, 20
@@ -43,7 +45,8 @@ module _ (r : Refusal) (l : Late r) where
 late-is : (m : ℕ) → 8 ≤ m → (8 < m → 19 ≤ m) → m ≤ 20 → (r : Refusal) → r .number ≡ m → Late r
 late-is m a b c r e = record { some = omega arith; gap = λ l. omega (arith, b (omega arith)); last = omega arith }
 
-late-formed : (a b c : Bool) (y r : Refusal) → (b ≡ true → cond (not c) (refuse point-not-finite) accepted ≡ y) → r ≡ cond (not a) (refuse control-bad) (cond (not b) (refuse edit-bad) y) → (r .number ≡ 0 → ⊥) → Late r
+late-formed : (a b c : Bool) (y r : Refusal) → (b ≡ true → cond (not c) (refuse point-not-finite) accepted ≡ y) → r ≡ cond (not a) (refuse control-bad) (cond (not b) (refuse edit-bad) y)
+    → (r .number ≡ 0 → ⊥) → Late r
 late-formed false b c y r k e h = late-is 19 (omega arith) (λ l. omega arith) (omega arith) r (ap (λ (x : Refusal). x .number) e)
 late-formed true false c y r k e h = late-is 20 (omega arith) (λ l. omega arith) (omega arith) r (ap (λ (x : Refusal). x .number) e)
 late-formed true true false y r k e h = late-is 8 (omega arith) (λ l. omega arith) (omega arith) r (ap (λ (x : Refusal). x .number) (e ∙ sym (k refl)))
@@ -78,7 +81,9 @@ module _ (p n : ℕ) (ks ps : List Float) (g : Bool) (ws : List Float) (t : Floa
       let h = blended p n k s t ks ps g ws in
       let P = morePoints p n k s t ks ps g ws in
       let W = moreWeights p n k s t ks ps g ws in
-      late-formed (allBelow (λ i. isLifted (lifted p n k s t ks ps g ws i)) n) (allBelow (λ i. isBlended (h i)) (n + 1)) (allFinite P) (formedRefusal p (n + 1) (moreKnots k t ks) P g W) (insertRefusal p n ks ps g ws t)
+      late-formed
+      (allBelow (λ i. isLifted (lifted p n k s t ks ps g ws i)) n) (allBelow (λ i. isBlended (h i)) (n + 1)) (allFinite P) (formedRefusal p (n + 1) (moreKnots k t ks) P g W)
+      (insertRefusal p n ks ps g ws t)
       (λ B. points-left (n + 1) P g h B ∙ controls-left p (n + 1) (moreKnots k t ks) P g W valid-next) form-left
 
 -- a list, every knot of it inside the domain, and with room for it

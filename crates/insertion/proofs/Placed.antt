@@ -27,17 +27,18 @@ use Rattle.knots.specs.Curve.{countOf, isWeight, ValidControls, ValidCurve}
 use Rattle.knots.specs.Span.{spanOf}
 use Rattle.knots.proofs.Below.{and-left, and-right}
 use Rattle.knots.proofs.Fractions.{table-span, table-end}
-use Rattle.basis.proofs.Whole.{at-tabulate, length-tabulate}
-use Rattle.basis.proofs.Cases.{lt-or-ge}
+use Rattle.runs.proofs.Tabulated.{at-tabulate, length-tabulate}
+use Rattle.runs.proofs.Cases.{lt-or-ge}
 use Rattle.insertion.specs.Insert.{knotAt, moreKnots, insertedKnots, insertedPoints, insertedWeights, insertRefusal}
-use Rattle.insertion.specs.Fold.{gives, refuses, insertAll}
-use Rattle.insertion.specs.Whole.{givenOf, insertOutcome}
-use Rattle.insertion.specs.Start.{insertStart}
+use Rattle.insertion.specs.Fold.{insertAll}
+use Rattle.edits.specs.Outcome.{gives, refuses}
+use Rattle.edits.specs.Whole.{givenOf}
+use Rattle.insertion.specs.Whole.{insertOutcome, insertStart}
 use Rattle.insertion.specs.Placed.{placed, weightValue, coordinateValue}
 use Rattle.insertion.proofs.Domain.{Spot, spot}
 use Rattle.insertion.proofs.Folds.{inserted-valid}
 use Rattle.insertion.proofs.Made.{by-number, others, Made, made, made-low, made-high}
-use Rattle.insertion.proofs.Starting.{start-open}
+use Rattle.insertion.proofs.StartOpen.{start-open}
 use Rattle.insertion.proofs.Textbook.{knot-refined}
 
 -- ---- one knot

@@ -15,8 +15,8 @@ use Rattle.doubles.proofs.Tested.{lt-asym, lt-ge-trans}
 use Rattle.doubles.proofs.Order.{val-eq}
 use Rattle.knots.specs.Knots.{ValidKnots}
 use Rattle.knots.proofs.Valid.{sorted}
-use Rattle.insertion.specs.Counts.{countBelow, multiplicityOf, belowOf}
-use Rattle.insertion.proofs.Counted.{refuted, count-within, count-early, lt-not-eq, level-eq, eq-level, below-rest, below-room}
+use Rattle.edits.specs.Counts.{countBelow, multiplicityOf, belowOf}
+use Rattle.insertion.proofs.KnotCounts.{refuted, count-within, count-early, lt-not-eq, level-eq, eq-level, below-rest, below-room}
 
 -- the knots that equal u stand one after the other, behind those below it
 pub equal-run : (p n : ℕ) (ks : List Float) → ValidKnots p n ks → (u : Float) → finite u ≡ true → (j : ℕ) → belowOf ks u ≤ j → j < belowOf ks u + multiplicityOf ks u → eq (at ks j) u ≡ true

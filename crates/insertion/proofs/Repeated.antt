@@ -13,19 +13,21 @@ use Rattle.doubles.proofs.Tested.{lt-irrefl, lt-asym, lt-trans, le-is}
 use Rattle.knots.specs.Knots.{ValidKnots}
 use Rattle.knots.specs.declared.refusal.Refusal.{Refusal}
 use Rattle.knots.proofs.Below.{and-true}
-use Rattle.insertion.specs.Counts.{bit, multiplicityOf, missingOf, belowOf}
-use Rattle.insertion.specs.Rows.{given}
+use Rattle.edits.specs.Counts.{bit, multiplicityOf, missingOf, belowOf}
+use Rattle.edits.specs.Rows.{given}
 use Rattle.insertion.specs.Insert.{inside}
-use Rattle.insertion.specs.Fold.{gives, refuses, insertAll}
-use Rattle.insertion.specs.Start.{clampedEnds}
-use Rattle.insertion.proofs.Counted.{gt-not-eq, lt-not-eq, eq-finite, eq-self, eq-lt-left, level-eq, not-both, refuted, multiplicity-same, multiplicity-most, multiplicity-low, multiplicity-high}
+use Rattle.insertion.specs.Fold.{insertAll}
+use Rattle.edits.specs.Outcome.{gives, refuses}
+use Rattle.edits.specs.Start.{clampedEnds}
+use Rattle.insertion.proofs.KnotCounts.{gt-not-eq, lt-not-eq, eq-finite, eq-self, eq-lt-left, level-eq, not-both, refuted, multiplicity-same, multiplicity-most, multiplicity-low, multiplicity-high}
 use Rattle.insertion.proofs.Made.{AllInside, countIn, each-append, each-replicate, count-append, count-replicate, andThen, insert-append, made, made-multiplicity, made-below, made-low, made-high, made-clamped}
 use Rattle.insertion.proofs.Never.{Late, inside-finite, late}
 
 -- ---- room
 module _ (p n : ℕ) (ks : List Float) (v : ValidKnots p n ks) where
   -- m times t, beside c numbers that equal u
-  pub room-more : (t u : Float) → finite t ≡ true → (m c : ℕ) → multiplicityOf ks t + m ≤ p + 1 → multiplicityOf ks u + c ≤ p + 1 → (eq t u ≡ true → c ≡ 0) → multiplicityOf ks u + (m * bit (eq t u) + c) ≤ p + 1
+  pub room-more : (t u : Float) → finite t ≡ true → (m c : ℕ) → multiplicityOf ks t + m ≤ p + 1 → multiplicityOf ks u + c ≤ p + 1 → (eq t u ≡ true → c ≡ 0)
+      → multiplicityOf ks u + (m * bit (eq t u) + c) ≤ p + 1
   room-more t u T m c a b h = go (eq t u) refl
     where
       go : (x : Bool) → eq t u ≡ x → multiplicityOf ks u + (m * bit (eq t u) + c) ≤ p + 1
@@ -70,14 +72,17 @@ module _ (p : ℕ) (g : Bool) (n : ℕ) (ks ps ws : List Float) (v : ValidKnots 
   pub repeated-next : (m : ℕ) → insertAll p g n ks ps ws (replicate (m + 1) t) ≡ andThen (insertAll p g n ks ps ws (replicate m t)) (λ ks' ps' ws'. insertAll p g (n + m) ks' ps' ws' (t ∷ []))
   repeated-next m =
       ap (insertAll p g n ks ps ws) (sym (replicate-append-replicate m 1 t))
-      ∙ (insert-append p g n ks ps ws (replicate m t) (t ∷ []) ∙ ap (λ (i : ℕ). andThen (insertAll p g n ks ps ws (replicate m t)) (λ ks' ps' ws'. insertAll p g (n + i) ks' ps' ws' (t ∷ []))) (length-replicate m t))
+      ∙ (insert-append p g n ks ps ws (replicate m t) (t ∷ [])
+      ∙ ap (λ (i : ℕ). andThen (insertAll p g n ks ps ws (replicate m t)) (λ ks' ps' ws'. insertAll p g (n + i) ks' ps' ws' (t ∷ []))) (length-replicate m t))
 
   module _ (I : inside (at ks p) (at ks n) t ≡ true) where
     pub repeated-late : (m : ℕ) → multiplicityOf ks t + m ≤ p + 1 → (r : Refusal) → insertAll p g n ks ps ws (replicate m t) ≡ refuses r → Late r
-    repeated-late m a r = late p g n ks ps ws (replicate m t) r v (each-replicate (λ x. inside (at ks p) (at ks n) x ≡ true) m t I) (room-replicate p n ks v t (inside-finite (at ks p) (at ks n) t I) m a)
+    repeated-late m a r =
+        late p g n ks ps ws (replicate m t) r v (each-replicate (λ x. inside (at ks p) (at ks n) x ≡ true) m t I) (room-replicate p n ks v t (inside-finite (at ks p) (at ks n) t I) m a)
 
     -- the source inserts t while it stands there less than degree + 1 times: so often it does
-    pub loop-on : (j : ℕ) → j < missingOf p ks t → (ks' ps' ws' : List Float) → insertAll p g n ks ps ws (replicate j t) ≡ gives ks' ps' ws' → (multiplicityOf ks' t ≡ multiplicityOf ks t + j) × (multiplicityOf ks' t < p + 1)
+    pub loop-on : (j : ℕ) → j < missingOf p ks t → (ks' ps' ws' : List Float) → insertAll p g n ks ps ws (replicate j t) ≡ gives ks' ps' ws'
+        → (multiplicityOf ks' t ≡ multiplicityOf ks t + j) × (multiplicityOf ks' t < p + 1)
     loop-on j l ks' ps' ws' e =
         let a = repeated j ks' ps' ws' e .multiplicity t in
         let b : bit (eq t t) ≡ 1 = ap bit (eq-self t (inside-finite (at ks p) (at ks n) t I)) in

@@ -11,12 +11,13 @@ use Rattle.exact.specs.Edit.{mixOf, blendBy, insertBy}
 use Rattle.doubles.specs.Run.{at, valAt}
 use Rattle.doubles.specs.Value.{val}
 use Rattle.basis.specs.Floats.{floats}
-use Rattle.evaluate.specs.Controls.{pointOf, weightOf}
-use Rattle.evaluate.specs.declared.vector.Vector.{Vector}
-use Rattle.insertion.specs.Control.{shareOf, liftOf, blendOf, lowerOf}
-use Rattle.insertion.specs.Rows.{liftAt, blendAt}
-use Rattle.insertion.specs.Insert.{knotAt}
-use Rattle.insertion.specs.declared.control.Control.{Control}
+use Rattle.runs.specs.Scale.{weightOf}
+use Rattle.runs.specs.Point.{pointOf}
+use Rattle.runs.specs.declared.vector.Vector.{Vector}
+use Rattle.edits.specs.Control.{shareOf, liftOf, blendOf, lowerOf}
+use Rattle.edits.specs.Rows.{liftAt}
+use Rattle.insertion.specs.Insert.{blendAt, knotAt}
+use Rattle.edits.specs.declared.control.Control.{Control}
 
 module _ (f : Control → Float) where
   pub chosen : (b : Bool) {c d : Control} {x y : Float} → f c ≡ x → f d ≡ y → f (cond b c d) ≡ cond b x y

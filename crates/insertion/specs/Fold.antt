@@ -5,13 +5,8 @@ use mathlib.Core.Bool.{Bool, cond}
 use mathlib.Core.List.{List, [], _∷_}
 use lib.Dec.{eqb}
 use lib.Ieee.{Float}
-use Rattle.knots.specs.declared.refusal.Refusal.{Refusal}
+use Rattle.edits.specs.Outcome.{Outcome, gives, refuses}
 use Rattle.insertion.specs.Insert.{insertedKnots, insertedPoints, insertedWeights, insertRefusal}
-
--- the curve that is formed: knots, points, weights; or the first refusal
-pub data Outcome : Type 0 where
-  gives : List Float → List Float → List Float → Outcome
-  refuses : Refusal → Outcome
 
 -- of a curve of degree p and n points, with weights where g is true
 unfoldable pub insertAll : ℕ → Bool → ℕ → List Float → List Float → List Float → List Float → Outcome

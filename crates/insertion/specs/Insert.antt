@@ -13,12 +13,12 @@ use Rattle.knots.specs.Refusal.{refuse, accepted, orElse, knot-outside, knot-fu
 use Rattle.knots.specs.Curve.{formedRefusal}
 use Rattle.knots.specs.Span.{spanOf}
 use Rattle.knots.specs.declared.refusal.Refusal.{Refusal}
-use Rattle.basis.specs.Basis.{tabulate}
-use Rattle.evaluate.specs.Controls.{pointOf}
-use Rattle.insertion.specs.Control.{isLifted, isBlended}
-use Rattle.insertion.specs.Counts.{multiplicityOf}
-use Rattle.insertion.specs.Rows.{liftAll, blendAt, lowerAt, weightIn, given}
-use Rattle.insertion.specs.declared.control.Control.{Control}
+use Rattle.runs.specs.Tabulate.{tabulate}
+use Rattle.runs.specs.Point.{pointOf}
+use Rattle.edits.specs.Control.{isLifted, isBlended, shareOf, blendOf}
+use Rattle.edits.specs.Counts.{multiplicityOf}
+use Rattle.edits.specs.Rows.{liftAll, lowerAt, weightIn, given}
+use Rattle.edits.specs.declared.control.Control.{Control}
 
 -- place j of the knots with t after place k
 unfoldable pub knotAt : ℕ → Float → List Float → ℕ → Float
@@ -34,6 +34,12 @@ inside lo hi t = finite t && (not (le t lo) && not (le hi t))
 -- 13, 14 of a knot that the curve has s times
 unfoldable pub spotRefusal : Float → Float → Float → ℕ → ℕ → Refusal
 spotRefusal lo hi t p s = cond (not (inside lo hi t)) (refuse knot-outside) (cond (ltb p s) (refuse knot-full) accepted)
+
+-- control i with the knot t more, of knots ks and degree p: k the last place whose knot is at most t, s the multiplicity of t
+unfoldable pub blendAt : ℕ → ℕ → ℕ → Float → List Float → (ℕ → Control) → ℕ → Control
+blendAt p k s t ks h i =
+    cond (leb i (k - p)) (h i)
+    (cond (leb i (k - s)) (blendOf (h (i - 1)) (h i) (shareOf t (at ks i) (at ks (i + p)))) (h (i - 1)))
 
 -- where t goes: k the last place whose knot is at most t, s its multiplicity
 module _ (p n k s : ℕ) (t : Float) (ks ps : List Float) (g : Bool) (ws : List Float) where

@@ -1,11 +1,6 @@
-pub mod Control
-pub mod Counts
-pub mod Rows
 pub mod Insert
 pub mod Fold
-pub mod Placed
-pub mod Start
+pub mod Times
 pub mod Whole
-pub mod Numbers
-pub mod Work
+pub mod Placed
 pub mod Passes

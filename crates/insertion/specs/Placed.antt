@@ -10,7 +10,7 @@ use Rattle.exact.specs.Boehm.{Insert}
 use Rattle.doubles.specs.Run.{at}
 use Rattle.doubles.specs.Value.{val, one+}
 use Rattle.knots.specs.Span.{spanOf}
-use Rattle.evaluate.specs.Controls.{coordinate}
+use Rattle.runs.specs.Coordinate.{coordinate}
 use Rattle.insertion.specs.Insert.{moreKnots}
 
 -- into a curve of degree p, n points and knots ks

@@ -1,19 +1,20 @@
 // Knots inserted into a curve: the public call.
-use crate::answer::EditAnswer;
-use crate::lay::lay_into;
-use crate::lay::store_curve;
 use crate::list::insert_all;
-use crate::runs::clear_from;
 use crate::start::insert_start;
-use crate::work::clear_all;
+use edits::answer::EditAnswer;
+use edits::work::clear_all;
+use edits::work::lay_curve;
+use edits::work::take_curve;
 use knots::refusal::Refusal;
+use runs::copy::clear_from;
 ghost use Prim.Native.Nat.{_+_, _*_, _/_, _≤_};
 ghost use lib.ListN.{length};
 ghost use Rattle.knots.specs.Curve.{ValidCurve};
-ghost use Rattle.insertion.specs.Rows.{given};
+ghost use Rattle.edits.specs.Rows.{given};
 ghost use Rattle.insertion.specs.Fold.{insertAll};
-ghost use Rattle.insertion.specs.Whole.{givenOf, InsertMeets};
-ghost use Rattle.insertion.specs.Passes.{OutMeets};
+ghost use Rattle.edits.specs.Whole.{givenOf};
+ghost use Rattle.insertion.specs.Whole.{InsertMeets};
+ghost use Rattle.edits.specs.Passes.{OutMeets};
 
 // The curve goes into scratch, the knots are inserted there, and what is formed goes to the outputs.
 fn insert_into(
@@ -38,12 +39,15 @@ fn insert_into(
     let n = points.len() / 3;
     let m = n + inserted.len();
     let a = m * 4;
-    lay_into(knots, points, rational, weights, a, work);
+    let laid = lay_curve(knots, points, rational, weights, a, work);
+    if laid.number != 0 {
+        return laid;
+    }
     let refusal = insert_all(degree, n, rational, inserted, a, work);
     if refusal.number != 0 {
         return refusal;
     }
-    store_curve(
+    take_curve(
         degree,
         m,
         0,
@@ -53,8 +57,7 @@ fn insert_into(
         out_knots,
         out_points,
         out_weights,
-    );
-    refusal
+    )
 }
 
 // The knots are inserted one by one, and the curve that is formed stands in the three outputs, +0.0 behind it. After a refusal, also one halfway through the list, they are +0.0. Scratch is left +0.0.

@@ -1,13 +1,13 @@
 // Several knots inserted into a curve that stands in a lent run.
 use crate::one::insert_one;
-use crate::rows::scale_of;
+use edits::rows::scale_in;
 use knots::refusal::Refusal;
 use knots::refusal::refuse;
 ghost use Prim.Native.Nat.{_+_, _*_, _≤_};
 ghost use lib.ListN.{length, replicate};
 ghost use Rattle.knots.specs.Knots.{ValidKnots};
 ghost use Rattle.insertion.specs.Fold.{insertAll};
-ghost use Rattle.insertion.specs.Work.{knotsFrom, pointsFrom, weightsFrom};
+ghost use Rattle.edits.specs.Work.{knotsFrom, pointsFrom, weightsFrom};
 ghost use Rattle.insertion.specs.Passes.{ListMeets};
 
 // Each knot goes into the curve that the one before it formed: all weights are divided by their largest anew, and the first point is the reference anew.
@@ -26,7 +26,7 @@ pub fn insert_all(
     let mut i = 0usize;
     while i < inserted.len() {
         let t = inserted[i];
-        let scale = scale_of(n + i, rational, work);
+        let scale = scale_in(n + i, rational, work);
         let refusal = insert_one(p, n + i, scale, rational, t, a, work);
         if refusal.number != 0 {
             return refusal;
@@ -52,7 +52,7 @@ pub fn insert_many(
 {
     let mut j = 0usize;
     while j < m {
-        let scale = scale_of(n + j, rational, work);
+        let scale = scale_in(n + j, rational, work);
         let refusal = insert_one(p, n + j, scale, rational, t, a, work);
         if refusal.number != 0 {
             return refusal;

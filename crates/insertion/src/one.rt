@@ -1,11 +1,11 @@
 // One knot inserted into a curve that stands in a lent run.
-use crate::counts::multiplicity;
-use crate::rows::Spot;
-use crate::rows::lift_rows;
-use crate::rows::lower_rows;
-use crate::rows::row_at;
-use crate::rows::vector_of;
-use crate::runs::put_knot;
+use crate::lower::Spot;
+use crate::lower::lower_rows;
+use crate::put_knot::put_knot;
+use edits::counts::multiplicity;
+use edits::rows::lift_in;
+use edits::rows::row_at;
+use edits::rows::vector_of;
 use interval::float::is_finite;
 use knots::refusal::Refusal;
 use knots::refusal::refuse;
@@ -15,8 +15,8 @@ ghost use Prim.Native.Nat.{_+_, _*_, _<_, _≤_};
 ghost use lib.ListN.{length};
 ghost use Rattle.knots.specs.Knots.{ValidKnots};
 ghost use Rattle.insertion.specs.Insert.{moreKnots, inside, spotRefusal};
-ghost use Rattle.insertion.specs.Work.{knotsFrom, pointsFrom, weightsFrom};
-ghost use Rattle.insertion.specs.Rows.{scaleOf};
+ghost use Rattle.edits.specs.Work.{knotsFrom, pointsFrom, weightsFrom};
+ghost use Rattle.edits.specs.Rows.{scaleOf};
 ghost use Rattle.insertion.specs.Passes.{Formed, Inserted};
 
 // Finite, and strictly inside the domain.
@@ -61,8 +61,9 @@ fn insert_at(
     ensures { λ r. ⌜ Formed a (spot .p) n (spot .k) (spot .s) (spot .t) (knotsFrom a (spot .p) n (now (work .entry))) (pointsFrom n (now (work .entry))) rational (weightsFrom rational n (now (work .entry))) (now (work .entry)) (now (work .exit)) r ⌝ }
 {
     let o = vector_of(row_at(rational, work, 0));
-    if !lift_rows(n, o, scale, rational, work) {
-        return refuse(19);
+    let lifted = lift_in(n, scale, rational, work);
+    if lifted.number != 0 {
+        return lifted;
     }
     let late = lower_rows(spot, n, a, o, rational, work);
     if late.number != 0 {

@@ -4,7 +4,7 @@ use mathlib.Core.Bool.{Bool, true, false, not, _||_, cond}
 use lib.Dec.{T}
 use lib.Ieee.{Float, binary64, neg, lt, isNan, fits, add, mul}
 use lib.Ieee.Fits.{neg-fits, add-fits, mul-fits}
-use Rattle.doubles.specs.Neighbour.{nextUp, nextDown, least4, greatest4}
+use Rattle.doubles.specs.Neighbour.{nextUp, nextDown, least4, greatest4, downFrom}
 use Rattle.doubles.specs.Value.{Number}
 use Rattle.doubles.proofs.Tests.{T-of, Tn-of, neg-neg}
 use Rattle.doubles.proofs.Neighbour.{neg-nan, neg-lt}
@@ -13,7 +13,6 @@ use Rattle.doubles.proofs.Products.{mul-neg, number-neg}
 use Rattle.doubles.proofs.Opposite.{Opposed, opposed-neg, add-opposed, mul-opposed, mul-swap}
 use Rattle.doubles.proofs.Symmetric.{up-same, farthest, farthest-up, ends, ends-swapped}
 use Rattle.doubles.proofs.Stepping.{up-nan}
-use Rattle.doubles.specs.Neighbour.{downFrom}
 use Rattle.interval.specs.declared.Interval.{Interval}
 use Rattle.interval.specs.Ops.{entire, checkedOf, someNan, addOf, mulOf, oppositesOf, isSymmetric}
 use Rattle.interval.proofs.Facts.{none-nan}
@@ -51,7 +50,8 @@ module _ (p q r s : Float) (h : Four Held p q r s) (a : Opposed p r) (b : Oppose
       go false true = refl
       go false false = refl
 
-  stepped : (l g : Float) → isNan r ≡ false → (nextDown l ≡ neg (nextUp (farthest r s))) × (nextUp g ≡ nextUp (farthest r s)) → checkedOf (nextDown l) (nextUp g) ≡ record { lo = neg (nextUp (farthest r s)); hi = nextUp (farthest r s) }
+  stepped : (l g : Float) → isNan r ≡ false → (nextDown l ≡ neg (nextUp (farthest r s))) × (nextUp g ≡ nextUp (farthest r s))
+      → checkedOf (nextDown l) (nextUp g) ≡ record { lo = neg (nextUp (farthest r s)); hi = nextUp (farthest r s) }
   unfolding checkedOf
   stepped l g n e =
       let m = farthest r s in

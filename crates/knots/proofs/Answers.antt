@@ -11,7 +11,7 @@ use lib.Ieee.{Float, nan, inf, fin, lt}
 use lib.Ieee.Scale.{finite}
 use borrow.Author.Tests.{eq-eqb, le-leb, lt-leb, not-false}
 use Rattle.doubles.specs.Run.{at}
-use Rattle.knots.specs.Refusal.{refuse, accepted, too-long, parameter-not-finite}
+use Rattle.knots.specs.Refusal.{refuse, accepted, length-bad, parameter-not-finite}
 use Rattle.knots.specs.Knots.{ValidKnots, knotRefusal}
 use Rattle.knots.specs.Curve.{overLong}
 use Rattle.knots.specs.Span.{SpanAt, SpanFound, SpanMeets, clamped, nonempty, halved, lastNonempty, searched, spanRefusal, spanAnswer}
@@ -89,7 +89,7 @@ module _ (p n : ℕ) (ks : List Float) (u : Float) where
   pub unrefused : spanRefusal p n ks u .number ≡ 0 → ValidKnots p n ks × (finite u ≡ true)
   unfolding spanRefusal
   unrefused h =
-      let a = passed (overLong true ks) (refuse too-long) _ (λ e. omega arith) h in
+      let a = passed (overLong true ks) (refuse length-bad) _ (λ e. omega arith) h in
       let b = orElse-none (knotRefusal p n ks) _ (a .1) in
       let c = passed (not (finite u)) (refuse parameter-not-finite) accepted (λ e. omega arith) (b .1) in
       (valid p n ks (b .0), not-false (finite u) (c .0))

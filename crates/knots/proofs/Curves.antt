@@ -12,7 +12,7 @@ use lib.Ieee.{Float}
 use lib.Ieee.Scale.{finite}
 use borrow.Author.Tests.{eqb-true, ltb-false, le-ltb, eq-eqb, not-false}
 use Rattle.doubles.specs.Run.{at}
-use Rattle.knots.specs.Refusal.{refuse, accepted, point-not-finite, weight-count, weight-bad, too-long, points-uneven}
+use Rattle.knots.specs.Refusal.{refuse, accepted, point-not-finite, weight-count, weight-bad, length-bad, points-uneven}
 use Rattle.knots.specs.Knots.{allFinite, knotRefusal, ValidKnots}
 use Rattle.knots.specs.Curve.{longest, overLong, anyLong, isWeight, allWeights, controlRefusal, countOf, formedRefusal, curveRefusal, Short, ValidControls, ValidCurve}
 use Rattle.knots.proofs.Below.{all-at, all-in}
@@ -98,7 +98,7 @@ module _ (p : ℕ) (ks ps : List Float) (g : Bool) (ws : List Float) where
   pub valid-curve : curveRefusal p ks ps g ws .number ≡ 0 → ValidCurve p ks ps g ws
   unfolding curveRefusal
   valid-curve h =
-      let a = passed (anyLong ks ps g ws) (refuse too-long) _ (λ e. omega arith) h in
+      let a = passed (anyLong ks ps g ws) (refuse length-bad) _ (λ e. omega arith) h in
       let b = passed (not (eqb (length ps % 3) 0)) (refuse points-uneven) _ (λ e. omega arith) (a .1) in
       let c = valid-formed p (countOf ps) ks ps g ws (b .1) in
       record {

@@ -5,7 +5,8 @@ use mathlib.Core.Path.{_≡_, refl, sym, _∙_, ap, subst}
 use mathlib.Core.List.{List, [], _∷_, _++_, append-nil}
 use native.Mathlib.Nat.{not-suc-le-zero, le-of-suc-le-suc, add-zero, add-suc, suc-add, sub-zero, zero-sub, suc-sub-suc}
 use native.Mathlib.Numerals.{add-one}
-use lib.ListN.{length, set, drop, replicate, drop-of-length-le}
+use native.Mathlib.Omega.{arith}
+use lib.ListN.{length, set, drop, replicate, drop-of-length-le, length-set}
 use lib.Seq.{sets}
 
 module _ {A : Type 0} (v : A) where
@@ -19,6 +20,25 @@ module _ {A : Type 0} (v : A) where
 
   pub fill-done : (n : ℕ) (d : List A) → length d ≤ n → replicate n v ++ drop n d ≡ replicate n v
   fill-done n d l = ap (λ (t : List A). replicate n v ++ t) (drop-of-length-le d l) ∙ append-nil (replicate n v)
+
+-- the loop that fills d with v has come to l after i stores
+pub record Filled {A : Type 0} (v : A) (d l : List A) (i : ℕ) : Type 0 where
+  pub within : i ≤ length d
+  pub long : length l ≡ length d
+  pub stored : l ≡ replicate i v ++ drop i d
+
+module _ {A : Type 0} {v : A} {d l : List A} {i : ℕ} (f : Filled v d l i) where
+  pub filled-more : i < length l → Filled v d (set l i v) (i + 1)
+  filled-more h =
+      let low : i < length d = rw (f .long) at h in
+      record { within = omega arith; long = length-set l i v ∙ f .long; stored = ap (λ (t : List A). set t i v) (f .stored) ∙ fill-more v i d low }
+
+  pub filled-all : length l ≤ i → l ≡ replicate (length d) v
+  filled-all h =
+      let long = f .long in
+      let within = f .within in
+      let e : i ≡ length d = omega arith in
+      f .stored ∙ (fill-done v i d (omega arith) ∙ ap (λ (n : ℕ). replicate n v) e)
 
 module _ {A : Type 0} where
   -- two runs of stores are one

@@ -13,3 +13,4 @@ pub mod Halving
 pub mod Spans
 pub mod Answers
 pub mod Walks
+pub mod Searches

@@ -9,7 +9,7 @@ use lib.Dec.{leb, ltb, eqb}
 use lib.Ieee.{Float}
 use lib.Ieee.Scale.{finite}
 use borrow.Author.Tests.{ltb-false, leb-false, lt-leb, le-ltb, eqb-true, eqb-false, eq-eqb, ne-eqb, not-false}
-use Rattle.knots.specs.Refusal.{refuse, accepted, degree-zero, few-points, knot-count, weight-count, parameter-not-finite, too-long, degree-high, points-uneven}
+use Rattle.knots.specs.Refusal.{refuse, accepted, degree-zero, few-points, knot-count, weight-count, parameter-not-finite, length-bad, degree-high, points-uneven}
 use Rattle.knots.specs.Knots.{ValidKnots}
 use Rattle.knots.specs.Curve.{countOf, ValidCurve}
 use Rattle.knots.specs.Shape.{degreeRefusal, finiteRefusal, roomRefusal, weightShape, knotShape, curveShape}
@@ -43,7 +43,7 @@ finite-none t h = simp h
 
 pub room-open : (a n : ℕ) → roomRefusal a n .number ≡ 0 → n ≤ a
 unfolding roomRefusal
-room-open a n h = ltb-false a n (passed (ltb a n) (refuse too-long) accepted (λ e. omega arith) h .0)
+room-open a n h = ltb-false a n (passed (ltb a n) (refuse length-bad) accepted (λ e. omega arith) h .0)
 
 pub weights-open : (n : ℕ) (g : Bool) (ws : List Float) → weightShape n g ws .number ≡ 0 → g ≡ true → length ws ≡ n
 unfolding weightShape

@@ -10,7 +10,7 @@ use lib.ListN.{length}
 use lib.Dec.{eqb}
 use lib.Ieee.{Float}
 use borrow.Author.Tests.{eqb-true, eq-eqb, not-false}
-use Rattle.knots.specs.Refusal.{refuse, accepted, along, net-size, too-long, points-uneven}
+use Rattle.knots.specs.Refusal.{refuse, accepted, along, net-size, length-bad, points-uneven}
 use Rattle.knots.specs.Knots.{knotRefusal}
 use Rattle.knots.specs.Curve.{overLong, anyLong, countOf, ValidControls}
 use Rattle.knots.specs.Surface.{netRefusal, surfaceRefusal, ValidSurface}
@@ -25,7 +25,7 @@ module _ (p q : ℕ) (us vs : List Float) (m n : ℕ) (ps : List Float) (g : Boo
       let x = orElse-none (netRefusal us vs m n ps g ws) _ h in
       let y = orElse-none (along 0 (knotRefusal p m us)) _ (x .1) in
       let z = orElse-none (along 1 (knotRefusal q n vs)) _ (y .1) in
-      let a = passed (overLong true us || anyLong vs ps g ws) (refuse too-long) _ (λ e. omega arith) (x .0) in
+      let a = passed (overLong true us || anyLong vs ps g ws) (refuse length-bad) _ (λ e. omega arith) (x .0) in
       let b = passed (not (eqb (length ps % 3) 0)) (refuse points-uneven) _ (λ e. omega arith) (a .1) in
       let c = passed (not (eqb (countOf ps) (m * n))) (refuse net-size) accepted (λ e. omega arith) (b .1) in
       let long = or-false (overLong true us) (anyLong vs ps g ws) (a .0) in

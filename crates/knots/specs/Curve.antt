@@ -12,7 +12,7 @@ use lib.Ieee.Scale.{finite}
 use Rattle.doubles.specs.Run.{at}
 use Rattle.doubles.specs.Value.{zero+}
 use Rattle.knots.specs.Below.{allBelow}
-use Rattle.knots.specs.Refusal.{refuse, accepted, orElse, point-not-finite, weight-count, weight-bad, too-long, points-uneven}
+use Rattle.knots.specs.Refusal.{refuse, accepted, orElse, point-not-finite, weight-count, weight-bad, length-bad, points-uneven}
 use Rattle.knots.specs.Knots.{allFinite, knotRefusal, ValidKnots}
 use Rattle.knots.specs.declared.refusal.Refusal.{Refusal}
 
@@ -51,7 +51,7 @@ formedRefusal p n ks ps g ws = orElse (knotRefusal p n ks) (controlRefusal n ps 
 
 unfoldable pub curveRefusal : ℕ → List Float → List Float → Bool → List Float → Refusal
 curveRefusal p ks ps g ws =
-    cond (anyLong ks ps g ws) (refuse too-long)
+    cond (anyLong ks ps g ws) (refuse length-bad)
     (cond (not (eqb (length ps % 3) 0)) (refuse points-uneven)
     (formedRefusal p (countOf ps) ks ps g ws))
 

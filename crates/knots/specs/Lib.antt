@@ -3,6 +3,7 @@ pub mod Refusal
 pub mod Clear
 pub mod Knots
 pub mod Curve
+pub mod Fine
 pub mod Surface
 pub mod Shape
 pub mod Span

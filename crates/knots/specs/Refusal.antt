@@ -36,7 +36,7 @@ pub data Reason : Type 0 where
   weight-ratio-low : Reason
   quotient-none : Reason
   weights-apart : Reason
-  too-long : Reason
+  length-bad : Reason
   degree-high : Reason
   points-uneven : Reason
   record-malformed : Reason
@@ -91,7 +91,7 @@ row denominator-zero = (26, U)
 row weight-ratio-low = (27, U)
 row quotient-none = (28, D)
 row weights-apart = (29, N)
-row too-long = (30, C)
+row length-bad = (30, C)
 row degree-high = (31, C)
 row points-uneven = (32, I)
 row record-malformed = (33, I)
@@ -102,7 +102,7 @@ reasons =
     ∷ point-not-finite ∷ weight-count ∷ weight-bad ∷ net-size ∷ parameter-not-finite ∷ knot-outside ∷ knot-full
     ∷ trim-bad ∷ degree-lowered ∷ ends-unclamped ∷ elevation-high ∷ control-bad ∷ edit-bad ∷ second-not-finite
     ∷ iso-outside ∷ iso-weight-bad ∷ range-bad ∷ range-in-no-span ∷ denominator-zero ∷ weight-ratio-low
-    ∷ quotient-none ∷ weights-apart ∷ too-long ∷ degree-high ∷ points-uneven ∷ record-malformed ∷ []
+    ∷ quotient-none ∷ weights-apart ∷ length-bad ∷ degree-high ∷ points-uneven ∷ record-malformed ∷ []
 
 -- the class of a number: that of the row which has it
 abbrev pub classIn : List Reason → ℕ → ℕ

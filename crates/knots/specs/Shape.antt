@@ -7,7 +7,7 @@ use lib.ListN.{length}
 use lib.Dec.{ltb, leb, eqb}
 use lib.Ieee.{Float}
 use lib.Ieee.Scale.{finite}
-use Rattle.knots.specs.Refusal.{refuse, accepted, along, orElse, degree-zero, few-points, knot-count, weight-count, net-size, parameter-not-finite, too-long, degree-high, points-uneven}
+use Rattle.knots.specs.Refusal.{refuse, accepted, along, orElse, degree-zero, few-points, knot-count, weight-count, net-size, parameter-not-finite, length-bad, degree-high, points-uneven}
 use Rattle.knots.specs.Curve.{countOf}
 use Rattle.knots.specs.declared.refusal.Refusal.{Refusal}
 
@@ -20,7 +20,7 @@ finiteRefusal t = cond (finite t) accepted (refuse parameter-not-finite)
 
 -- 30 of a lent run of a numbers that is to hold n
 unfoldable pub roomRefusal : ℕ → ℕ → Refusal
-roomRefusal a n = cond (ltb a n) (refuse too-long) accepted
+roomRefusal a n = cond (ltb a n) (refuse length-bad) accepted
 
 -- 9 of n points
 unfoldable pub weightShape : ℕ → Bool → List Float → Refusal

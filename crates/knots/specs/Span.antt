@@ -9,7 +9,7 @@ use lib.Dec.{leb, eqb}
 use lib.Ieee.{Float, lt, le}
 use lib.Ieee.Scale.{finite}
 use Rattle.doubles.specs.Run.{at}
-use Rattle.knots.specs.Refusal.{refuse, accepted, orElse, too-long, parameter-not-finite}
+use Rattle.knots.specs.Refusal.{refuse, accepted, orElse, length-bad, parameter-not-finite}
 use Rattle.knots.specs.Knots.{knotRefusal, ValidKnots}
 use Rattle.knots.specs.Curve.{overLong}
 use Rattle.knots.specs.declared.refusal.Refusal.{Refusal}
@@ -66,7 +66,7 @@ pub record SpanFound (p n : ℕ) (ks : List Float) (u : Float) (s : ℕ) : Type 
 -- its refusals: 30, 1 to 7, 12, in this order
 unfoldable pub spanRefusal : ℕ → ℕ → List Float → Float → Refusal
 spanRefusal p n ks u =
-    cond (overLong true ks) (refuse too-long)
+    cond (overLong true ks) (refuse length-bad)
     (orElse (knotRefusal p n ks)
     (cond (not (finite u)) (refuse parameter-not-finite) accepted))
 

@@ -8,14 +8,14 @@ use mathlib.Core.List.{List}
 use lib.ListN.{length}
 use lib.Dec.{eqb}
 use lib.Ieee.{Float}
-use Rattle.knots.specs.Refusal.{refuse, accepted, along, orElse, net-size, too-long, points-uneven}
+use Rattle.knots.specs.Refusal.{refuse, accepted, along, orElse, net-size, length-bad, points-uneven}
 use Rattle.knots.specs.Knots.{knotRefusal, ValidKnots}
 use Rattle.knots.specs.Curve.{longest, overLong, anyLong, countOf, controlRefusal, Short, ValidControls}
 use Rattle.knots.specs.declared.refusal.Refusal.{Refusal}
 
 unfoldable pub netRefusal : List Float → List Float → ℕ → ℕ → List Float → Bool → List Float → Refusal
 netRefusal us vs m n ps g ws =
-    cond (overLong true us || anyLong vs ps g ws) (refuse too-long)
+    cond (overLong true us || anyLong vs ps g ws) (refuse length-bad)
     (cond (not (eqb (length ps % 3) 0)) (refuse points-uneven)
     (cond (not (eqb (countOf ps) (m * n))) (refuse net-size) accepted))
 

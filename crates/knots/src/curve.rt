@@ -2,9 +2,10 @@
 use crate::knots::all_finite;
 use crate::knots::knot_refusal;
 use crate::limits::over_long;
+use crate::numbers::all_fine;
+use crate::numbers::is_fine;
 use crate::refusal::Refusal;
 use crate::refusal::refuse;
-use interval::float::is_finite;
 ghost use mathlib.Core.Path.{_≡_};
 ghost use Rattle.knots.specs.Curve.{isWeight, allWeights, controlRefusal, formedRefusal, anyLong, curveRefusal};
 
@@ -12,20 +13,14 @@ ghost use Rattle.knots.specs.Curve.{isWeight, allWeights, controlRefusal
 pub fn is_weight(x: f64) -> bool
     ensures { λ r. ⌜ r ≡ isWeight x ⌝ }
 {
-    if is_finite(x) { x > 0.0 } else { false }
+    is_fine(x, true)
 }
 
 // Every number of the run is a weight.
 pub fn all_weights(xs: &[f64]) -> bool
     ensures { λ r. ⌜ r ≡ allWeights (now (xs .entry)) ⌝ }
 {
-    let mut fine = true;
-    let mut i = 0usize;
-    while i < xs.len() {
-        fine = fine & is_weight(xs[i]);
-        i += 1;
-    }
-    fine
+    all_fine(xs, true)
 }
 
 // Refusals 8, 9, 10 of points and of the weights, where they are given.

@@ -1,5 +1,6 @@
 // Validation of a knot run: refusals 1 to 7.
 use crate::limits::is_sum;
+use crate::numbers::all_fine;
 use crate::refusal::Refusal;
 use crate::refusal::refuse;
 use interval::float::is_finite;
@@ -14,13 +15,7 @@ ghost use Rattle.knots.specs.Knots.{allFinite, inOrder, ordered, apart, 
 pub fn all_finite(xs: &[f64]) -> bool
     ensures { λ r. ⌜ r ≡ allFinite (now (xs .entry)) ⌝ }
 {
-    let mut fine = true;
-    let mut i = 0usize;
-    while i < xs.len() {
-        fine = fine & is_finite(xs[i]);
-        i += 1;
-    }
-    fine
+    all_fine(xs, false)
 }
 
 // No number exceeds the next. -0.0 and 0.0 are one number.

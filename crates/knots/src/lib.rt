@@ -3,6 +3,7 @@ pub mod clear;
 pub mod curve;
 pub mod knots;
 pub mod limits;
+mod numbers;
 pub mod refusal;
 pub mod shape;
 pub mod span;

@@ -1,13 +1,3 @@
-pub mod Digits
-pub mod Widths
 pub mod Lines
+pub mod Ranges
 pub mod Walked
-pub mod Storing
-pub mod Passes
-pub mod Places
-pub mod Rounding
-pub mod Decimals
-pub mod Patterns
-pub mod Enclosing
-pub mod Bytes
-pub mod InParts

@@ -12,8 +12,9 @@ use Rattle.bounds.specs.Curve.{boundAt}
 use Rattle.bounds.specs.Numbers.{boundedRefusal, boundedValues}
 use Rattle.bounds.specs.declared.answer.Triple.{Triple}
 use Rattle.bounds.specs.declared.answer.Bounded.{Bounded}
-use Rattle.listing.specs.Text.{decimal, spacedBits, refusedWord}
-use Rattle.listing.specs.Fixed.{fixed}
+use Rattle.decimals.specs.Text.{decimal, spacedBits}
+use Rattle.listing.specs.Text.{refusedWord}
+use Rattle.decimals.specs.Fixed.{fixed}
 
 -- the bits of both ends
 unfoldable pub spacedEnds : Interval → List ℕ

@@ -1,10 +1,6 @@
-pub mod Ascii
 pub mod Text
-pub mod Fixed
-pub mod Figures
-pub mod Stored
+pub mod Range
 pub mod Listing
 pub mod Boxes
-pub mod Drawing
-pub mod Drawn
+pub mod Ends
 pub mod Worked

@@ -28,7 +28,7 @@ use Rattle.knots.proofs.Refusals.{stop, skip}
 use Rattle.knots.proofs.Below.{and-right}
 use Rattle.knots.proofs.Curves.{curve-not-refused}
 use Rattle.knots.proofs.Fractions.{knots-of}
-use Rattle.bounds.specs.Range.{inSpan, firstFrom, spanOver}
+use Rattle.ranges.specs.Range.{inSpan, firstFrom, spanOver}
 use Rattle.bounds.specs.Curve.{boundOf, boundAt}
 use Rattle.interval.specs.declared.Interval.{Interval}
 use Rattle.bounds.specs.declared.answer.Triple.{Triple}
@@ -82,7 +82,8 @@ module _ (ks : List Float) where
   spans-add k zero s = let e : length (spansFrom (k + 0) ks s) ≡ length (spansFrom k ks s) = ap (λ (i : ℕ). length (spansFrom i ks s)) (add-zero k) in omega (arith, e)
   spans-add k (suc j) s =
       let a = spans-add k j s in
-      let b : length (spansFrom (k + suc j) ks s) ≡ length (spansFrom (k + j) ks s) + length (here (s + (k + j))) = ap (λ (i : ℕ). length (spansFrom i ks s)) (add-suc k j) ∙ (ap length (spans-suc (k + j) s) ∙ length-append (spansFrom (k + j) ks s) (here (s + (k + j)))) in
+      let b : length (spansFrom (k + suc j) ks s) ≡ length (spansFrom (k + j) ks s) + length (here (s + (k + j))) = ap (λ (i : ℕ). length (spansFrom i ks s)) (add-suc k j)
+      ∙ (ap length (spans-suc (k + j) s) ∙ length-append (spansFrom (k + j) ks s) (here (s + (k + j)))) in
       omega (arith, a, b)
 
   -- the first places have no more
@@ -236,8 +237,18 @@ module _ (p : ℕ) (ks ps : List Float) (g : Bool) (ws : List Float) (v : ValidC
             from = omega arith;
             upto = omega arith;
             count = count-here ks p s f i (I .count) h;
-            marks = subst (λ (y : List ℕ). InRows (markAt p ks ps g ws) 2 m₀ (spansFrom (s + 1 - p) ks p) ((i + 1) * 2) y) (sym em) (in-more (markAt p ks ps g ws) 2 (λ s. refl) m₀ (spansFrom (s - p) ks p) (spansFrom (s + 1 - p) ks p) s (i * 2) ((i + 1) * 2) m₁ (marksOf s w) (I .marks) (ap (marksOf s) row ∙ ap (λ (n : ℕ). s ∷ n ∷ []) (box-says (boundIn p ks ps g ws s) .number)) (omega arith) (omega arith) z);
-            boxes = subst (λ (y : List Float). InRows (boxAt p ks ps g ws) 18 b₀ (spansFrom (s + 1 - p) ks p) ((i + 1) * 18) y) (sym eb) (in-more (boxAt p ks ps g ws) 18 (λ s. box-says (boundIn p ks ps g ws s) .count) b₀ (spansFrom (s - p) ks p) (spansFrom (s + 1 - p) ks p) s (i * 18) ((i + 1) * 18) b₁ (boxOf w) (I .boxes) (ap boxOf row ∙ box-says (boundIn p ks ps g ws s) .numbers) (omega arith) (omega arith) z);
+            marks =
+                subst
+                (λ (y : List ℕ). InRows (markAt p ks ps g ws) 2 m₀ (spansFrom (s + 1 - p) ks p) ((i + 1) * 2) y) (sym em)
+                (in-more
+                (markAt p ks ps g ws) 2 (λ s. refl) m₀ (spansFrom (s - p) ks p) (spansFrom (s + 1 - p) ks p) s (i * 2) ((i + 1) * 2) m₁ (marksOf s w) (I .marks)
+                (ap (marksOf s) row ∙ ap (λ (n : ℕ). s ∷ n ∷ []) (box-says (boundIn p ks ps g ws s) .number)) (omega arith) (omega arith) z);
+            boxes =
+                subst
+                (λ (y : List Float). InRows (boxAt p ks ps g ws) 18 b₀ (spansFrom (s + 1 - p) ks p) ((i + 1) * 18) y) (sym eb)
+                (in-more
+                (boxAt p ks ps g ws) 18 (λ s. box-says (boundIn p ks ps g ws s) .count) b₀ (spansFrom (s - p) ks p) (spansFrom (s + 1 - p) ks p) s (i * 18) ((i + 1) * 18) b₁ (boxOf w) (I .boxes)
+                (ap boxOf row ∙ box-says (boundIn p ks ps g ws s) .numbers) (omega arith) (omega arith) z);
           }
 
     -- all are done
@@ -280,7 +291,8 @@ module _ (p : ℕ) (ks ps : List Float) (g : Bool) (ws : List Float) where
       er ∙ (ap₂ (λ (x y : ℕ). roomsRefusal x (n * 2) y (n * 18)) (ap length cm ∙ length-replicate a 0) (ap length cb ∙ length-replicate b zero+)
       ∙ (ap (λ (k : ℕ). roomsRefusal a (k * 2) b (k * 18)) en ∙ sym (simp (skip et ht))))
 
-  pub spans-fits : (a b n : ℕ) → n ≡ length (spansOf p ks ps) → (r : Refusal) → r ≡ roomsRefusal a (n * 2) b (n * 18) → r .number ≡ 0 → (length (spansOf p ks ps) * 2 ≤ a) × (length (spansOf p ks ps) * 18 ≤ b)
+  pub spans-fits : (a b n : ℕ) → n ≡ length (spansOf p ks ps) → (r : Refusal) → r ≡ roomsRefusal a (n * 2) b (n * 18) → r .number ≡ 0
+      → (length (spansOf p ks ps) * 2 ≤ a) × (length (spansOf p ks ps) * 18 ≤ b)
   spans-fits a b n en r er h =
       let z = rooms-open a (n * 2) b (n * 18) (ap (λ (x : Refusal). x .number) (sym er) ∙ h) in
       (omega (arith, z .0, en), omega (arith, z .1, en))

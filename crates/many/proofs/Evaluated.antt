@@ -16,32 +16,52 @@ use Rattle.doubles.specs.Run.{at}
 use Rattle.doubles.specs.Value.{zero+}
 use Rattle.knots.specs.Span.{spanOf, searched}
 use Rattle.knots.specs.Clear.{zeros}
-use Rattle.knots.specs.Refusal.{refuse, too-long, second-not-finite}
+use Rattle.knots.specs.Refusal.{refuse, length-bad, second-not-finite}
 use Rattle.knots.specs.Curve.{overLong, countOf, ValidCurve}
 use Rattle.knots.specs.declared.refusal.Refusal.{Refusal}
 use Rattle.knots.proofs.Refusals.{passed, orElse-none}
 use Rattle.knots.proofs.Curves.{within, curve-not-refused}
 use Rattle.evaluate.specs.Curve.{curveOf, looked, parameterRefusal, stepRefusal, evalRefusal, answer, evalAtOf, evalOf}
 use Rattle.evaluate.specs.Curve2.{curve2Of, finite2, answer2, eval2AtOf, eval2Of}
-use Rattle.evaluate.specs.declared.vector.Vector.{Vector}
+use Rattle.runs.specs.Point.{threeOf, storedThree}
+use Rattle.runs.specs.declared.vector.Vector.{Vector}
+use Rattle.runs.proofs.Stores.{sets-more, sets-three}
 use Rattle.evaluate.specs.declared.curve.CurveAnswer.the-variants.{At, Refused}
 use Rattle.knots.proofs.Shapes.{shape-none}
 use Rattle.evaluate.proofs.Steps.{parameter-open}
-use Rattle.evaluate.proofs.Searches.{searched-is}
+use Rattle.knots.proofs.Searches.{searched-is}
 use Rattle.evaluate.specs.declared.curve2.CurveAnswer2.{CurveAnswer2}
 use Rattle.evaluate.specs.declared.curve2.CurveAnswer2.the-variants as two
 use Rattle.many.specs.Rows.{tableRefusal}
-use Rattle.many.specs.Points.{pointsStart}
+use Rattle.many.specs.Points.{width, numbersOf, pointsStart}
 use Rattle.many.specs.declared.points.PointRow.{PointRow}
-use Rattle.many.specs.declared.points2.PointRow2.{PointRow2}
 use Rattle.many.proofs.Rows.{InRows, in-start, in-more, table-open, rooms-open}
 
 -- ---- a row
-abbrev pub bare : ℕ → Vector → Vector → PointRow
-bare n a b = record { number = n; point = a; d1 = b }
+abbrev pub bare : ℕ → Vector → Vector → Vector → PointRow
+bare n a b c = record { number = n; point = a; d1 = b; d2 = c }
 
-abbrev pub bare2 : ℕ → Vector → Vector → Vector → PointRow2
-bare2 n a b c = record { number = n; point = a; d1 = b; d2 = c }
+pub width-small : (b : Bool) → width b ≤ 18
+width-small true = omega arith
+width-small false = omega arith
+
+-- what the stores of a row leave
+module _ (b : Bool) (r : PointRow) (l : List Float) (i w : ℕ) (l₁ l₂ : List Float) (e : w ≡ width b) (e₁ : l₁ ≡ storedThree l (i * w) (r .point)) (e₂ : l₂ ≡ storedThree l₁ (i * w + 3) (r .d1)) where
+  two-are : l₂ ≡ storedThree (storedThree l (i * w) (r .point)) (i * w + 3) (r .d1)
+  two-are = e₂ ∙ ap (λ (m : List Float). storedThree m (i * w + 3) (r .d1)) e₁
+
+  -- c behind two vectors is what the flag asks for
+  is-row : (c : List Float) → cond b (threeOf (r .d2)) [] ≡ c → sets l (i * w) (threeOf (r .point) ++ (threeOf (r .d1) ++ c)) ≡ sets l (i * width b) (numbersOf b r)
+  is-row c h = ap₂ (λ (k : ℕ) (x : List Float). sets l (i * k) (threeOf (r .point) ++ (threeOf (r .d1) ++ x))) e (sym h)
+
+  pub row-short : b ≡ false → l₂ ≡ sets l (i * width b) (numbersOf b r)
+  row-short f = two-are ∙ (sets-more (threeOf (r .point)) (threeOf (r .d1)) l (i * w) (i * w + 3) refl ∙ is-row [] (ap (λ (x : Bool). cond x (threeOf (r .d2)) []) f))
+
+  pub row-long : b ≡ true → (l₃ : List Float) → l₃ ≡ storedThree l₂ (i * w + 6) (r .d2) → l₃ ≡ sets l (i * width b) (numbersOf b r)
+  row-long f l₃ e₃ =
+      (e₃ ∙ ap (λ (m : List Float). storedThree m (i * w + 6) (r .d2)) two-are)
+      ∙ (sets-three (threeOf (r .point)) (threeOf (r .d1)) (threeOf (r .d2)) l (i * w) (i * w + 3) (i * w + 6) refl (omega arith)
+      ∙ is-row (threeOf (r .d2)) (ap (λ (x : Bool). cond x (threeOf (r .d2)) []) f))
 
 module _ (p : ℕ) (ks ps : List Float) (g : Bool) (ws : List Float) where
   -- ---- one answer
@@ -114,7 +134,10 @@ module _ (f : Float → List ℕ) (fits : (t : Float) → length (f t) ≡ 1) (h
         record {
           upto = omega arith;
           numbers = subst (InRows f 1 n₀ (take (i + 1) ts) (i + 1)) (sym en) (in-more f 1 fits n₀ (take i ts) (take (i + 1) ts) (at ts i) i (i + 1) n₁ x (I .numbers) ex (omega arith) refl grown);
-          rows = subst (InRows h w r₀ (take (i + 1) ts) ((i + 1) * w)) (sym er) (in-more h w fits′ r₀ (take i ts) (take (i + 1) ts) (at ts i) (i * w) ((i + 1) * w) r₁ y (I .rows) ey (le-trans behind lr) next grown);
+          rows =
+              subst
+              (InRows h w r₀ (take (i + 1) ts) ((i + 1) * w)) (sym er)
+              (in-more h w fits′ r₀ (take i ts) (take (i + 1) ts) (at ts i) (i * w) ((i + 1) * w) r₁ y (I .rows) ey (le-trans behind lr) next grown);
         }
       where
         next : (i + 1) * w ≡ i * w + w
@@ -143,7 +166,7 @@ module _ (p : ℕ) (ks ps : List Float) (g : Bool) (ws ts : List Float) (w : ℕ
   pub points-open : (a b : ℕ) → pointsStart p ks ps g ws ts w a b .number ≡ 0 → PointsOpen a b
   unfolding pointsStart
   points-open a b h =
-      let x = passed (overLong true ts) (refuse too-long) _ (λ e. omega arith) h in
+      let x = passed (overLong true ts) (refuse length-bad) _ (λ e. omega arith) h in
       let y = orElse-none (tableRefusal p ks ps g ws) _ (x .1) in
       let z = rooms-open a (length ts) b (length ts * w) (y .1) in
       record {
@@ -154,5 +177,6 @@ module _ (p : ℕ) (ks ps : List Float) (g : Bool) (ws ts : List Float) (w : ℕ
       }
 
   -- lent runs by their own lengths
-  pub start-is : (a b : ℕ) (n₀ : List ℕ) (r₀ : List Float) → n₀ ≡ replicate a 0 → r₀ ≡ zeros b → (r : Refusal) → r ≡ pointsStart p ks ps g ws ts w (length n₀) (length r₀) → r ≡ pointsStart p ks ps g ws ts w a b
+  pub start-is : (a b : ℕ) (n₀ : List ℕ) (r₀ : List Float) → n₀ ≡ replicate a 0 → r₀ ≡ zeros b → (r : Refusal) → r ≡ pointsStart p ks ps g ws ts w (length n₀) (length r₀)
+      → r ≡ pointsStart p ks ps g ws ts w a b
   start-is a b n₀ r₀ cn cr r e = e ∙ ap₂ (pointsStart p ks ps g ws ts w) (ap length cn ∙ length-replicate a 0) (ap length cr ∙ length-replicate b zero+)

@@ -1,15 +1,15 @@
 -- Rows stored one after the other at the front of a run, at any type: each turn of a loop stores one more.
 -- Assumes nothing.
-use Prim.Native.Nat.{ℕ, suc, _+_, _-_, _*_, _≤_}
+use Prim.Native.Nat.{ℕ, _+_, _-_, _*_, _≤_}
 use mathlib.Core.Bool.{Bool}
 use mathlib.Core.Path.{_≡_, refl, sym, _∙_, ap, ap₂}
 use mathlib.Core.List.{List, [], _∷_, _++_, append-assoc, append-nil}
 use native.Mathlib.Omega.{arith}
 use native.Mathlib.Nat.{mul-le-mul}
-use lib.ListN.{length, set, take, drop, replicate, length-append}
+use lib.ListN.{length, take, drop, replicate, length-append}
 use lib.Seq.{sets, sets-eq, length-sets, take-at, drop-append-add, drop-drop}
 use Rattle.knots.specs.declared.refusal.Refusal.{Refusal}
-use Rattle.knots.proofs.Fill.{sets-append, drop-replicate}
+use Rattle.knots.proofs.Fill.{drop-replicate}
 use Rattle.knots.proofs.Refusals.{stop, skip, orElse-none}
 use lib.Ieee.{Float}
 use Rattle.doubles.specs.Value.{zero+}
@@ -20,24 +20,6 @@ use Rattle.knots.specs.Shape.{degreeRefusal, roomRefusal}
 use Rattle.knots.proofs.Shapes.{room-open}
 use Rattle.many.specs.Rows.{rowsBy, left, RowsMeet, tableRefusal, roomsRefusal}
 use Rattle.many.specs.declared.answer.ManyAnswer.the-variants.{Rows, Refused}
-
-module _ {Y : Type 0} where
-  -- two runs of stores, one behind the other
-  pub sets-more : (xs ys l : List Y) (i j : ℕ) → j ≡ i + length xs → sets (sets l i xs) j ys ≡ sets l i (xs ++ ys)
-  sets-more xs ys l i j e = ap (λ (k : ℕ). sets (sets l i xs) k ys) e ∙ sets-append l i xs ys
-
-  -- stores one by one
-  pub stored-two : (l : List Y) (i : ℕ) (a b : Y) → set (set l i a) (i + 1) b ≡ sets l i (a ∷ b ∷ [])
-  stored-two l i a b = let e : i + 1 ≡ suc i = omega arith in ap (λ (k : ℕ). set (set l i a) k b) e
-
-  pub stored-three : (l : List Y) (i : ℕ) (a b c : Y) → set (set (set l i a) (i + 1) b) (i + 2) c ≡ sets l i (a ∷ b ∷ c ∷ [])
-  stored-three l i a b c =
-      let e : i + 2 ≡ suc (suc i) = omega arith in
-      ap₂ (λ (m : List Y) (k : ℕ). set m k c) (stored-two l i a b) e
-
-  -- three runs of stores, one behind the other
-  pub sets-three : (xs ys zs l : List Y) (i j k : ℕ) → j ≡ i + length xs → k ≡ j + length ys → sets (sets (sets l i xs) j ys) k zs ≡ sets l i (xs ++ (ys ++ zs))
-  sets-three xs ys zs l i j k e h = sets-more ys zs (sets l i xs) j k h ∙ sets-more xs (ys ++ zs) l i j e
 
 module _ {X Y : Type 0} (f : X → List Y) where
   rows-snoc : (xs : List X) (x : X) → rowsBy f (xs ++ x ∷ []) ≡ rowsBy f xs ++ f x
@@ -99,7 +81,8 @@ module _ {X Y : Type 0} (f : X → List Y) (w : ℕ) (fits : (x : X) → length 
           ∙ (drop-append-add (rowsBy f xs) (drop k d) w ∙ (drop-drop w k d ∙ ap (λ (a : ℕ). drop a d) (sym q)))
 
   -- what is left of a run that was cleared before
-  pub in-end : (xs : List X) (k : ℕ) (now : List Y) (z : Y) (n : ℕ) (r : Refusal) → k ≡ length xs * w → now ≡ rowsBy f xs ++ drop k d → d ≡ replicate n z → r .number ≡ 0 → now ≡ left z r n (rowsBy f xs)
+  pub in-end : (xs : List X) (k : ℕ) (now : List Y) (z : Y) (n : ℕ) (r : Refusal) → k ≡ length xs * w → now ≡ rowsBy f xs ++ drop k d → d ≡ replicate n z → r .number ≡ 0
+      → now ≡ left z r n (rowsBy f xs)
   unfolding left
   in-end xs k now z n r p e c h =
       let m : length (rowsBy f xs) ≡ k = length-rows f w fits xs ∙ sym p in

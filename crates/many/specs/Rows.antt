@@ -13,12 +13,6 @@ use Rattle.knots.specs.Curve.{curveRefusal}
 use Rattle.knots.specs.Clear.{zeros}
 use Rattle.knots.specs.declared.refusal.Refusal.{Refusal}
 use Rattle.knots.specs.Shape.{degreeRefusal, roomRefusal}
-use Rattle.evaluate.specs.declared.vector.Vector.{Vector}
-use Rattle.evaluate.specs.Numbers.{onto}
-use Rattle.interval.specs.declared.Interval.{Interval}
-use Rattle.interval.specs.Numbers.{endsOnto}
-use Rattle.bounds.specs.Numbers.{sixOnto}
-use Rattle.bounds.specs.declared.answer.Triple.{Triple}
 use Rattle.many.specs.declared.answer.ManyAnswer.{ManyAnswer}
 use Rattle.many.specs.declared.answer.ManyAnswer.the-variants.{Rows, Refused}
 
@@ -54,13 +48,3 @@ tableRefusal p ks ps g ws = orElse (curveRefusal p ks ps g ws) (degreeRefusal p)
 -- 30 of two lent runs of a and b numbers that are to hold m and n
 unfoldable pub roomsRefusal : ℕ → ℕ → ℕ → ℕ → Refusal
 roomsRefusal a m b n = orElse (roomRefusal a m) (roomRefusal b n)
-
--- ---- the numbers of a point, and of three intervals
-abbrev pub threeOf : Vector → List Float
-threeOf v = onto v []
-
-abbrev pub twoOf : Interval → List Float
-twoOf i = endsOnto i []
-
-abbrev pub sixOf : Triple → List Float
-sixOf t = sixOnto t []

@@ -13,12 +13,12 @@ use Rattle.knots.specs.Curve.{countOf}
 use Rattle.knots.specs.Span.{nonempty}
 use Rattle.knots.specs.declared.refusal.Refusal.{Refusal}
 use Rattle.bounds.specs.Curve.{boundOf}
-use Rattle.bounds.specs.Numbers.{boundedRefusal, boundedValues}
+use Rattle.bounds.specs.Numbers.{boundedRefusal, boundedValues, sixOf}
 use Rattle.bounds.specs.declared.answer.Triple.{Triple}
 use Rattle.bounds.specs.declared.answer.NurbsBounds.{NurbsBounds}
 use Rattle.bounds.specs.declared.answer.Bounded.{Bounded}
 use Rattle.bounds.specs.declared.answer.Bounded.the-variants.{Are, Refused}
-use Rattle.many.specs.Rows.{RowsMeet, rowOf, tableRefusal, roomsRefusal, sixOf}
+use Rattle.many.specs.Rows.{RowsMeet, rowOf, tableRefusal, roomsRefusal}
 use Rattle.many.specs.declared.answer.ManyAnswer.{ManyAnswer}
 use Rattle.many.specs.declared.boxes.BoxRow.{BoxRow}
 

@@ -3,11 +3,11 @@ use crate::answer::ManyAnswer;
 use crate::start::rooms_refusal;
 use crate::start::table_refusal;
 use crate::store::clear_numbers;
-use crate::store::store_triple;
 use bounds::answer::Bounded;
 use bounds::answer::NurbsBounds;
 use bounds::answer::Triple;
 use bounds::curve::bound_span;
+use bounds::store::store_triple;
 use interval::Interval;
 use knots::clear::clear;
 ghost use mathlib.Core.Path.{_≡_};
@@ -52,7 +52,6 @@ fn row_of(a: Bounded) -> BoxRow
 // Row i of both runs, for span s.
 fn put_row(marks: &mut [u32], boxes: &mut [f64], i: usize, s: usize, row: BoxRow)
     requires { ⌜ i * 2 + 1 < length (now marks) ⌝ }
-    requires { ⌜ i * 18 + 17 < length (now boxes) ⌝ }
     requires { ⌜ i < 1048576 ⌝ }
     requires { ⌜ s < 1048576 ⌝ }
     ensures { λ _. ⌜ now (marks .exit) ≡ sets (now (marks .entry)) (i * 2) (marksOf s row) ⌝ }

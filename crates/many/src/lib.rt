@@ -2,6 +2,5 @@
 pub mod answer;
 pub mod boxes;
 pub mod points;
-pub mod points2;
 mod start;
 mod store;

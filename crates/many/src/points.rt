@@ -1,27 +1,52 @@
-// A curve at many parameters.
+// A curve with one derivative, or with two, at many parameters.
 use crate::answer::ManyAnswer;
 use crate::start::points_start;
 use crate::store::clear_numbers;
 use crate::store::origin;
-use crate::store::store_vector;
 use evaluate::curve::CurveAnswer;
 use evaluate::curve::eval_at;
-use evaluate::vector::Vector;
+use evaluate::curve2::CurveAnswer2;
+use evaluate::curve2::eval2_at;
 use knots::clear::clear;
+use knots::refusal::Refusal;
+use runs::store::store_vector;
+use runs::vector::Vector;
 ghost use mathlib.Core.Path.{_≡_};
 ghost use mathlib.Core.List.{_++_};
-ghost use Prim.Native.Nat.{_+_, _*_, _<_, _≤_};
+ghost use Prim.Native.Nat.{_*_, _<_, _≤_};
 ghost use lib.ListN.{length, drop, set};
 ghost use lib.Seq.{sets};
 ghost use Rattle.knots.specs.Curve.{ValidCurve};
 ghost use Rattle.many.specs.Rows.{rowsBy};
-ghost use Rattle.many.specs.Points.{pointRow, numbersOf, numberAt, numbersAt, PointsMeet};
+ghost use Rattle.many.specs.Points.{width as widthOf, noRow, pointRow, pointRow2, rowAt, numbersOf, numberAt, numbersAt, EachMeets, PointsMeet, Points2Meet};
 
-// What is stored of one answer: the number of its refusal or 0, then the point and the derivative.
+// What is stored of one answer: the number of its refusal or 0, then the point and the derivatives. Where one is asked for, d2 is not stored.
 struct PointRow {
     number: u32,
     point: Vector,
     d1: Vector,
+    d2: Vector,
+}
+
+// How many numbers a row has.
+fn width(two: bool) -> usize
+    ensures { λ r. ⌜ r ≡ widthOf two ⌝ }
+{
+    if two {
+        return 9;
+    }
+    6
+}
+
+fn no_row(r: Refusal) -> PointRow
+    ensures { λ a. ⌜ a ≡ noRow r ⌝ }
+{
+    PointRow {
+        number: r.number,
+        point: origin(),
+        d1: origin(),
+        d2: origin(),
+    }
 }
 
 fn row_of(a: CurveAnswer) -> PointRow
@@ -35,32 +60,70 @@ fn row_of(a: CurveAnswer) -> PointRow
                 number: 0,
                 point,
                 d1,
+                d2: origin(),
             }
         }
-        CurveAnswer::Refused(r) => PointRow {
-            number: r.number,
-            point: origin(),
-            d1: origin(),
-        },
+        CurveAnswer::Refused(r) => no_row(r),
     }
 }
 
+fn row2_of(a: CurveAnswer2) -> PointRow
+    ensures { λ r. ⌜ r ≡ pointRow2 a ⌝ }
+{
+    match a {
+        CurveAnswer2::At(d) => {
+            let point = d.point;
+            let d1 = d.d1;
+            let d2 = d.d2;
+            PointRow {
+                number: 0,
+                point,
+                d1,
+                d2,
+            }
+        }
+        CurveAnswer2::Refused(r) => no_row(r),
+    }
+}
+
+// The row of one parameter, on a curve that was validated.
+fn row_at(
+    two: bool,
+    degree: usize,
+    knots: &[f64],
+    points: &[f64],
+    rational: bool,
+    weights: &[f64],
+    t: f64,
+) -> PointRow
+    requires { ⌜ ValidCurve degree (now knots) (now points) rational (now weights) ⌝ }
+    ensures { λ r. ⌜ r ≡ rowAt degree (now (knots .entry)) (now (points .entry)) rational (now (weights .entry)) two t ⌝ }
+{
+    if two {
+        return row2_of(eval2_at(degree, knots, points, rational, weights, t));
+    }
+    row_of(eval_at(degree, knots, points, rational, weights, t))
+}
+
 // Row i of both runs.
-fn put_row(numbers: &mut [u32], rows: &mut [f64], i: usize, row: PointRow)
+fn put_row(two: bool, numbers: &mut [u32], rows: &mut [f64], i: usize, row: PointRow)
     requires { ⌜ i < length (now numbers) ⌝ }
-    requires { ⌜ i * 6 + 5 < length (now rows) ⌝ }
     requires { ⌜ i < 1048576 ⌝ }
     ensures { λ _. ⌜ now (numbers .exit) ≡ set (now (numbers .entry)) i (row .number) ⌝ }
-    ensures { λ _. ⌜ now (rows .exit) ≡ sets (now (rows .entry)) (i * 6) (numbersOf row) ⌝ }
+    ensures { λ _. ⌜ now (rows .exit) ≡ sets (now (rows .entry)) (i * widthOf two) (numbersOf two row) ⌝ }
 {
-    let at = i * 6;
+    let at = i * width(two);
     numbers[i] = row.number;
     store_vector(rows, at, row.point);
     store_vector(rows, at + 3, row.d1);
+    if two {
+        store_vector(rows, at + 6, row.d2);
+    }
 }
 
 // A row for each parameter, on a curve that was validated.
 fn eval_each(
+    two: bool,
     degree: usize,
     knots: &[f64],
     points: &[f64],
@@ -73,19 +136,56 @@ fn eval_each(
     requires { ⌜ ValidCurve degree (now knots) (now points) rational (now weights) ⌝ }
     requires { ⌜ length (now ts) ≤ 1048576 ⌝ }
     requires { ⌜ length (now ts) ≤ length (now numbers) ⌝ }
-    requires { ⌜ length (now ts) * 6 ≤ length (now rows) ⌝ }
-    ensures { λ _. ⌜ now (numbers .exit) ≡ rowsBy (numberAt degree (now (knots .entry)) (now (points .entry)) rational (now (weights .entry))) (now (ts .entry)) ++ drop (length (now (ts .entry))) (now (numbers .entry)) ⌝ }
-    ensures { λ _. ⌜ now (rows .exit) ≡ rowsBy (numbersAt degree (now (knots .entry)) (now (points .entry)) rational (now (weights .entry))) (now (ts .entry)) ++ drop (length (now (ts .entry)) * 6) (now (rows .entry)) ⌝ }
+    requires { ⌜ length (now ts) * widthOf two ≤ length (now rows) ⌝ }
+    ensures { λ _. ⌜ now (numbers .exit) ≡ rowsBy (numberAt degree (now (knots .entry)) (now (points .entry)) rational (now (weights .entry)) two) (now (ts .entry)) ++ drop (length (now (ts .entry))) (now (numbers .entry)) ⌝ }
+    ensures { λ _. ⌜ now (rows .exit) ≡ rowsBy (numbersAt degree (now (knots .entry)) (now (points .entry)) rational (now (weights .entry)) two) (now (ts .entry)) ++ drop (length (now (ts .entry)) * widthOf two) (now (rows .entry)) ⌝ }
 {
     let mut i = 0usize;
     while i < ts.len() {
-        let a = eval_at(degree, knots, points, rational, weights, ts[i]);
-        put_row(numbers, rows, i, row_of(a));
+        let row = row_at(two, degree, knots, points, rational, weights, ts[i]);
+        put_row(two, numbers, rows, i, row);
         i += 1;
     }
 }
 
-// The point and the first derivative at each parameter, one validation for all: six numbers a parameter, and the number of its own refusal or 0.
+// The point and its derivatives at each parameter, one validation for all: a row of numbers a parameter, and the number of its own refusal or 0.
+fn eval_all(
+    two: bool,
+    degree: usize,
+    knots: &[f64],
+    points: &[f64],
+    rational: bool,
+    weights: &[f64],
+    ts: &[f64],
+    numbers: &mut [u32],
+    rows: &mut [f64],
+) -> ManyAnswer
+    ensures { λ r. ⌜ EachMeets degree (now (knots .entry)) (now (points .entry)) rational (now (weights .entry)) two (now (ts .entry)) (length (now (numbers .entry))) (length (now (rows .entry))) (now (numbers .exit)) (now (rows .exit)) r ⌝ }
+{
+    clear_numbers(numbers);
+    clear(rows);
+    let a = numbers.len();
+    let b = rows.len();
+    let w = width(two);
+    let refusal = points_start(degree, knots, points, rational, weights, ts, w, a, b);
+    if refusal.number != 0 {
+        return ManyAnswer::Refused(refusal);
+    }
+    eval_each(
+        two,
+        degree,
+        knots,
+        points,
+        rational,
+        weights,
+        ts,
+        numbers,
+        rows,
+    );
+    ManyAnswer::Rows(ts.len())
+}
+
+// The point and the first derivative at each parameter: six numbers a row.
 pub fn eval_many(
     degree: usize,
     knots: &[f64],
@@ -98,22 +198,41 @@ pub fn eval_many(
 ) -> ManyAnswer
     ensures { λ r. ⌜ PointsMeet degree (now (knots .entry)) (now (points .entry)) rational (now (weights .entry)) (now (ts .entry)) (length (now (numbers .entry))) (length (now (rows .entry))) (now (numbers .exit)) (now (rows .exit)) r ⌝ }
 {
-    clear_numbers(numbers);
-    clear(rows);
-    let refusal = points_start(
+    eval_all(
+        false,
         degree,
         knots,
         points,
         rational,
         weights,
         ts,
-        6,
-        numbers.len(),
-        rows.len(),
-    );
-    if refusal.number != 0 {
-        return ManyAnswer::Refused(refusal);
-    }
-    eval_each(degree, knots, points, rational, weights, ts, numbers, rows);
-    ManyAnswer::Rows(ts.len())
+        numbers,
+        rows,
+    )
+}
+
+// The point and two derivatives at each parameter: nine numbers a row.
+pub fn eval2_many(
+    degree: usize,
+    knots: &[f64],
+    points: &[f64],
+    rational: bool,
+    weights: &[f64],
+    ts: &[f64],
+    numbers: &mut [u32],
+    rows: &mut [f64],
+) -> ManyAnswer
+    ensures { λ r. ⌜ Points2Meet degree (now (knots .entry)) (now (points .entry)) rational (now (weights .entry)) (now (ts .entry)) (length (now (numbers .entry))) (length (now (rows .entry))) (now (numbers .exit)) (now (rows .exit)) r ⌝ }
+{
+    eval_all(
+        true,
+        degree,
+        knots,
+        points,
+        rational,
+        weights,
+        ts,
+        numbers,
+        rows,
+    )
 }

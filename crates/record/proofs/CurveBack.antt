@@ -1,8 +1,8 @@
 -- A valid curve that was written is read back by `read_table` as the same curve, into any runs that have room for it.
 -- Assumes nothing.
-use Prim.Native.Nat.{ℕ, suc, _≤_, _<_}
+use Prim.Native.Nat.{ℕ, _≤_}
 use mathlib.Core.Bool.{Bool, true, false}
-use mathlib.Core.Path.{_≡_, refl, sym, _∙_, ap}
+use mathlib.Core.Path.{_≡_, refl, _∙_}
 use mathlib.Core.List.{List, [], _∷_}
 use mathlib.Core.Option.{some}
 use native.Mathlib.Omega.{arith}
@@ -10,10 +10,11 @@ use lib.ListN.{length, take, length-map}
 use lib.Ieee.{Float, binary64, toBits}
 use borrow.Author.Tests.{le-leb}
 use Rattle.knots.specs.Refusal.{accepted}
-use Rattle.knots.specs.Curve.{countOf, ValidCurve}
+use Rattle.knots.specs.Curve.{ValidCurve}
 use Rattle.knots.proofs.Curves.{curve-not-refused}
-use Rattle.record.specs.Format.{Table, given, rationalBy}
-use Rattle.record.specs.Reading.{layout, roomFor, numbers, padded, Lent}
+use Rattle.record.specs.Format.{given, rationalBy}
+use Rattle.record.specs.Reading.{layout, roomFor, numbers, Lent}
+use Rattle.runs.specs.Lent.{padded}
 use Rattle.record.specs.Validated.{refusalIn, ReadsTable}
 use Rattle.record.specs.Writing.{bits, chosen, tableFrom, ReadsBack, SameCurve}
 use Rattle.record.specs.declared.table.TableAnswer.{TableAnswer}
@@ -26,6 +27,7 @@ length-bits xs = length-map xs (λ (x : Float). toBits binary64 x)
 
 -- the front of a run that holds what was written
 front-back : (n : ℕ) (xs run : List Float) → numbers (bits xs) ≡ xs → run ≡ padded n (numbers (bits xs)) → take (length xs) run ≡ xs
+unfolding padded
 front-back n xs run back e = front-of n (length xs) (bits xs) run e (length-bits xs) ∙ back
 
 module _ (p : ℕ) (ks ps ws : List Float) where

@@ -5,8 +5,9 @@ use mathlib.Core.Path.{_≡_, sym, _∙_, ap}
 use mathlib.Core.List.{List}
 use lib.ListN.{length}
 use lib.Ieee.{Float}
-use Rattle.record.specs.Format.{Table, Holds, given}
-use Rattle.record.specs.Reading.{tableOf, handed, numbers, padded, Lent, ReadsLayout, ReadsNumbers}
+use Rattle.record.specs.Format.{Table, IsRecordOf, given}
+use Rattle.record.specs.Reading.{tableOf, handed, numbers, Lent, ReadsLayout, ReadsNumbers}
+use Rattle.runs.specs.Lent.{padded}
 use Rattle.record.specs.Validated.{unvalidated, ReadsTable}
 use Rattle.record.specs.Writing.{Writes}
 use Rattle.record.specs.declared.read.Record.{Record}
@@ -14,7 +15,7 @@ use Rattle.record.specs.declared.table.TableAnswer.{TableAnswer}
 use Rattle.record.specs.declared.write.Write.{Write}
 use Rattle.record.proofs.Tables.{some-same, complete}
 
-pub one-table : (s : List ℕ) (t u : Table) → Holds s t → Holds s u → t ≡ u
+pub one-table : (s : List ℕ) (t u : Table) → IsRecordOf s t → IsRecordOf s u → t ≡ u
 one-table s t u h k = some-same (sym (complete s t h) ∙ complete s u k)
 
 pub one-layout : (s : List ℕ) (r r′ : Record) → ReadsLayout s r → ReadsLayout s r′ → r ≡ r′

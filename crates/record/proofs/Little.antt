@@ -64,3 +64,8 @@ number-two i l = rw (getD-drop i l 0 0, drop-drop 1 i l, getD-drop (i + 1) l 0 0
 
 pub number-halves : (w i : ℕ) (l : List ℕ) → number (w + w) (drop i l) ≡ number w (drop i l) + 256 ^ w * number w (drop (i + w) l)
 number-halves w i l = number-add w w (drop i l) ∙ rw (drop-drop w i l)
+
+-- eight bytes by two and two
+pub number-quarters : (i : ℕ) (l : List ℕ)
+    → number 8 (drop i l) ≡ number 2 (drop i l) + 65536 * number 2 (drop (i + 2) l) + 4294967296 * (number 2 (drop (i + 4) l) + 65536 * number 2 (drop (i + 4 + 2) l))
+number-quarters i l = number-halves 4 i l ∙ rw (number-halves 2 i l, number-halves 2 (i + 4) l)

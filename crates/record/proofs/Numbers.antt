@@ -8,15 +8,16 @@ use mathlib.Core.Option.{Option, none, some}
 use native.Mathlib.Nat.{sub-zero}
 use native.Mathlib.Omega.{arith}
 use lib.ListN.{length, drop, length-map}
-use lib.Ieee.{Float, binary64, ofBits}
+use lib.Ieee.{Float}
 use lib.Dec.{eqb}
 use lib.Seq.{sets}
 use borrow.Author.Tests.{le-leb, leb-true, ne-eqb}
-use Rattle.knots.specs.Refusal.{refuse, too-long}
+use Rattle.knots.specs.Refusal.{refuse, length-bad}
 use Rattle.knots.specs.declared.refusal.Refusal.{Refusal}
 use Rattle.doubles.specs.Value.{zero+}
-use Rattle.record.specs.Format.{Table, Holds, Means, Patterns, given, rationalBy, optional}
-use Rattle.record.specs.Reading.{patterns, tableOf, layout, layoutOf, rational, roomFor, numbersOf, numbers, cleared, padded, blank, Lent, ReadsNumbers}
+use Rattle.record.specs.Format.{Table, IsRecordOf, Means, Patterns, given, rationalBy, optional}
+use Rattle.record.specs.Reading.{patterns, tableOf, layout, layoutOf, rational, roomFor, numbersOf, numbers, cleared, blank, Lent, ReadsNumbers}
+use Rattle.runs.specs.Lent.{padded}
 use Rattle.record.specs.declared.read.Layout.{Layout}
 use Rattle.record.specs.declared.read.Record.the-variants.{Fields, Refused}
 use Rattle.record.proofs.Tests.{both}
@@ -54,7 +55,7 @@ unfolding optional
 optional-long none h = absurd (omega arith)
 optional-long (some xs) h = rw (length-field, length-doubles)
 
-room-held : (s : List ℕ) (t : Table) → Holds s t → Room s (layout t)
+room-held : (s : List ℕ) (t : Table) → IsRecordOf s t → Room s (layout t)
 room-held s t h =
     let p = parts s t h .long in
     record {
@@ -70,7 +71,7 @@ numbers-room s l m e =
     subst (λ (k : Layout). Room s k) (found .2) (room-held s (found .0) (subst (λ (o : Option Table). Means s o) (found .1) m))
 
 -- runs of 8,192 numbers have room for every record: 30 is not met there
-pub always-room : (s : List ℕ) (t : Table) → Holds s t → roomFor (layout t) 8192 8192 8192 ≡ true
+pub always-room : (s : List ℕ) (t : Table) → IsRecordOf s t → roomFor (layout t) 8192 8192 8192 ≡ true
 always-room s t h =
     let p = parts s t h .long in
     let w = length-given (t .weights) in
@@ -86,6 +87,7 @@ weights-at s i (some xs) q small e = run-complete s i (i + 3) _ 4 refl xs [] q s
 
 -- a cleared run with a front of numbers
 filled : (n : ℕ) (xs ys : List ℕ) → ys ≡ xs → length xs ≤ n → sets (cleared n) 0 (numbers ys) ≡ padded n (numbers xs)
+unfolding padded
 filled n xs ys e h = rw e (sets-front n zero+ (numbers xs) (rw length-map h))
 
 -- the promise, of cleared runs into which the numbers of a layout were stored
@@ -97,7 +99,7 @@ Filled s k p w l =
     (sets (cleared (length w)) 0 (numbers (patterns (l .weights) (drop (11 + 8 * l .knots + 8 * l .points + 3) s))))
     (Fields l)
 
-read-held : (s : List ℕ) (t : Table) (k p w : List Float) → Holds s t → tableOf s ≡ some t → roomFor (layout t) (length k) (length p) (length w) ≡ true → Filled s k p w (layout t)
+read-held : (s : List ℕ) (t : Table) (k p w : List Float) → IsRecordOf s t → tableOf s ≡ some t → roomFor (layout t) (length k) (length p) (length w) ≡ true → Filled s k p w (layout t)
 read-held s t k p w h o room =
     let at = parts s t h in
     let long = at .long in
@@ -119,12 +121,13 @@ pub numbers-read : (s : List ℕ) (l : Layout) (k p w : List Float) → Means s 
 numbers-read s l k p w m e room =
     let found = layout-some (tableOf s) l e in
     let t = found .0 in
-    let h : Holds s t = subst (λ (o : Option Table). Means s o) (found .1) m in
+    let h : IsRecordOf s t = subst (λ (o : Option Table). Means s o) (found .1) m in
     let room′ = subst (λ (x : Layout). roomFor x (length k) (length p) (length w) ≡ true) (sym (found .2)) room in
     subst (λ (x : Layout). Filled s k p w x) (found .2) (read-held s t k p w h (found .1) room′)
 
 -- cleared runs
 pub blank-runs : (k p w : List Float) → Lent blank k p w (cleared (length k)) (cleared (length p)) (cleared (length w))
+unfolding padded
 blank-runs k p w = record { knots = rw sub-zero; points = rw sub-zero; weights = rw sub-zero }
 
 pub numbers-refused : (s : List ℕ) (k p w : List Float) (x : Refusal) → Means s (tableOf s) → Refused x ≡ numbersOf (tableOf s) (length k) (length p) (length w) →
@@ -136,7 +139,7 @@ numbers-refused s k p w x m e =
 pub no-record : (s : List ℕ) (k p w : ℕ) (x : Refusal) → Refused x ≡ layoutOf (tableOf s) → Refused x ≡ numbersOf (tableOf s) k p w
 no-record s k p w x e = e ∙ rw (layout-none (tableOf s) x e)
 
-pub no-room : (s : List ℕ) (l : Layout) (k p w : ℕ) → Fields l ≡ layoutOf (tableOf s) → roomFor l k p w ≡ false → Refused (refuse too-long) ≡ numbersOf (tableOf s) k p w
+pub no-room : (s : List ℕ) (l : Layout) (k p w : ℕ) → Fields l ≡ layoutOf (tableOf s) → roomFor l k p w ≡ false → Refused (refuse length-bad) ≡ numbersOf (tableOf s) k p w
 no-room s l k p w e room =
     let found = layout-some (tableOf s) l e in
     let none-for : roomFor (layout (found .0)) k p w ≡ false = subst (λ (x : Layout). roomFor x k p w ≡ false) (sym (found .2)) room in

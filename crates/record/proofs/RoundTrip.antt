@@ -11,9 +11,9 @@ use lib.Seq.{take-at}
 use lib.Ieee.{Float, nan, binary64, fits}
 use lib.Ieee.Bits.{ofBits-toBits, toBits-lt}
 use borrow.Author.Tests.{ltb-true, leb-true}
-use Rattle.knots.specs.Refusal.{refuse, too-long}
+use Rattle.knots.specs.Refusal.{refuse, length-bad}
 use Rattle.knots.specs.declared.refusal.Refusal.{Refusal}
-use Rattle.record.specs.Format.{Patterns, Holds, encode, given}
+use Rattle.record.specs.Format.{Patterns, IsRecordOf, encode, given}
 use Rattle.record.specs.Reading.{numbers}
 use Rattle.record.specs.Writing.{bits, chosen, tableFrom, holdable, writable, Writes, ReadsBack}
 use Rattle.record.specs.declared.write.Write.{Write}
@@ -42,7 +42,7 @@ refused-written e = let z : _≡_ {A = ℕ} 0 1 = cc in omega arith
 
 module _ (p : ℕ) (ks ps : List Float) (rational : Bool) (ws : List Float) (dk : Doubles ks) (dp : Doubles ps) (dw : Doubles ws) where
   -- the record of a call's numbers holds their table
-  pub holds-encode : holdable (tableFrom p ks ps rational ws) ≡ true → Holds (encode (tableFrom p ks ps rational ws)) (tableFrom p ks ps rational ws)
+  pub holds-encode : holdable (tableFrom p ks ps rational ws) ≡ true → IsRecordOf (encode (tableFrom p ks ps rational ws)) (tableFrom p ks ps rational ws)
   holds-encode h =
       let ok = both _ _ h in
       record {
@@ -59,7 +59,7 @@ module _ (p : ℕ) (ks ps : List Float) (rational : Bool) (ws : List Float) (dk 
       record {
         table = λ n e.
             let t = tableFrom p ks ps rational ws in
-            let yes = held (Refused (refuse too-long)) (Written n) refused-written (writable t (length before)) (Written (length (encode t))) (sym (w .answer) ∙ e) in
+            let yes = held (Refused (refuse length-bad)) (Written n) refused-written (writable t (length before)) (Written (length (encode t))) (sym (w .answer) ∙ e) in
             let n-is : length (encode t) ≡ n = cc in
             let out : after ≡ encode t ++ replicate (length before - length (encode t)) 0 = w .left ∙ rw (yes .0) in
             rw (out, take-at (encode t) (replicate (length before - length (encode t)) 0) n n-is) (complete (encode t) t (holds-encode (both _ _ (yes .0) .0)));

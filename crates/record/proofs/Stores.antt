@@ -1,7 +1,7 @@
 -- Stores into a run, one after another: `sets l i vs` is the run l with vs stored from place i on.
 -- Assumes nothing.
 use Prim.Native.Nat.{ℕ, _+_, _-_, _*_, _/_, _^_, _≤_, _<_}
-use mathlib.Core.Path.{_≡_, _∙_}
+use mathlib.Core.Path.{_≡_, _∙_, ap}
 use mathlib.Core.List.{List, [], _∷_, _++_}
 use native.Mathlib.Nat.{zero-add}
 use native.Mathlib.Omega.{arith}
@@ -37,6 +37,14 @@ pub little-halves : (w i n : ℕ) (l : List ℕ) → sets (sets l i (little w n)
 little-halves w i n l =
     let e = sets-append l i (little w n) (little w (n / 256 ^ w)) in
     rw length-little at e ∙ rw (little-add w w n)
+
+-- eight bytes by two and two
+pub little-quarters : (i n : ℕ) (l : List ℕ)
+    → sets (sets (sets (sets l i (little 2 n)) (i + 2) (little 2 (n / 65536))) (i + 4) (little 2 (n / 4294967296))) (i + 4 + 2) (little 2 (n / 4294967296 / 65536)) ≡ sets l i (little 8 n)
+little-quarters i n l =
+    let h = n / 4294967296 in
+    ap (λ (t : List ℕ). sets (sets t (i + 4) (little 2 h)) (i + 4 + 2) (little 2 (h / 65536))) (little-halves 2 i n l)
+    ∙ (little-halves 2 (i + 4) h (sets l i (little 4 n)) ∙ little-halves 4 i n l)
 
 -- one double more after j of them
 pub run-more : (j a : ℕ) (xs : List Float) (l : List ℕ) → j < length xs →

@@ -11,7 +11,7 @@ use lib.ListN.{length, drop, length-append, drop-of-length-le}
 use lib.Dec.{eqb}
 use lib.Seq.{drop-at}
 use borrow.Author.Tests.{le-ltb, eq-eqb, ne-eqb, ltb-false, eqb-true}
-use Rattle.record.specs.Format.{little, doubles, field, optional, encode, given, Table, Patterns, Holds, Means}
+use Rattle.record.specs.Format.{little, doubles, field, optional, encode, given, Table, Patterns, IsRecordOf, Means}
 use Rattle.record.specs.Reading.{patterns, degreeOf, runOf, tableAt, endOf, tableOf}
 use Rattle.record.specs.declared.field.Count.the-variants.{Is}
 use Rattle.record.proofs.Tests.{either, past, held, counted}
@@ -67,7 +67,7 @@ module _ (s : List ℕ) (p k n : ℕ) where
 
 -- ---- the whole record
 
-pub sound : (s : List ℕ) (t : Table) → Bytes s → tableOf s ≡ some t → Holds s t
+pub sound : (s : List ℕ) (t : Table) → Bytes s → tableOf s ≡ some t → IsRecordOf s t
 unfolding tableOf encode Ends
 sound s t b e =
     let short = past none (some t) none-some _ _ e in
@@ -80,7 +80,7 @@ sound s t b e =
     let fk = run-sound s 5 8 (8 + 8 * k) 2 refl k b refl (ks .1) in
     let fp = run-sound s (8 + 8 * k) (11 + 8 * k) (11 + 8 * k + 8 * n) 3 (points-start k) n b refl (ps .1) in
     let end = end-sound s (d .0) k n t b (ps .2) in
-    subst (λ (u : Table). Holds s u) (end .1)
+    subst (λ (u : Table). IsRecordOf s u) (end .1)
     (record {
       bytes = rw (end .2, fp, fk, fd .1);
       short = ltb-false _ _ (short .0);
@@ -110,7 +110,7 @@ pub record Parts (s : List ℕ) (t : Table) : Type 0 where
   pub points : patterns (length (t .points)) (drop (11 + 8 * length (t .knots)) s) ≡ t .points
   pub end : drop (11 + 8 * length (t .knots) + 8 * length (t .points)) s ≡ optional 4 (t .weights)
 
-pub parts : (s : List ℕ) (t : Table) → Holds s t → Parts s t
+pub parts : (s : List ℕ) (t : Table) → IsRecordOf s t → Parts s t
 unfolding encode
 parts s t h =
     let ks = t .knots in
@@ -136,7 +136,7 @@ parts s t h =
       end = fp .2;
     }
 
-pub complete : (s : List ℕ) (t : Table) → Holds s t → tableOf s ≡ some t
+pub complete : (s : List ℕ) (t : Table) → IsRecordOf s t → tableOf s ≡ some t
 unfolding tableOf
 complete s t h =
     let p = parts s t h in

@@ -12,12 +12,13 @@ use lib.Dec.{eqb}
 use borrow.Author.Tests.{eqb-true}
 use lib.Ieee.{Float, binary64, ofBits}
 use Rattle.knots.specs.declared.refusal.Refusal.{Refusal}
-use Rattle.knots.specs.Refusal.{refuse, too-long}
+use Rattle.knots.specs.Refusal.{refuse, length-bad}
 use Rattle.knots.specs.Curve.{curveRefusal}
 use Rattle.knots.proofs.Curves.{valid-curve}
 use Rattle.knots.proofs.Refusals.{stop, skip}
 use Rattle.record.specs.Format.{Table, given, rationalBy}
-use Rattle.record.specs.Reading.{tableOf, layout, rational, roomFor, numbersOf, numbers, handed, cleared, padded, Lent, ReadsNumbers}
+use Rattle.record.specs.Reading.{tableOf, layout, rational, roomFor, numbersOf, numbers, cleared, Lent, ReadsNumbers}
+use Rattle.runs.specs.Lent.{padded}
 use Rattle.record.specs.Validated.{refusalIn, curveIn, answerOf, numberOf, valuesOf, ReadsTable}
 use Rattle.record.specs.Numbers.{tableAnswerRefusal, tableAnswerValues}
 use Rattle.record.specs.declared.table.TableAnswer.{TableAnswer}
@@ -39,7 +40,7 @@ module _ (k p w : ℕ) where
     where
       go : (b : Bool) → roomFor (layout t) k p w ≡ b → (u : Table) × (some t ≡ some u) × (layout u ≡ l) × (roomFor (layout u) k p w ≡ true)
       go true h = let f : R.Fields l ≡ R.Fields (layout t) = e ∙ rw h in (t, refl, cc, h)
-      go false h = let f : R.Fields l ≡ R.Refused (refuse too-long) = e ∙ rw h in absurd (fields-refused f)
+      go false h = let f : R.Fields l ≡ R.Refused (refuse length-bad) = e ∙ rw h in absurd (fields-refused f)
 
   -- a refusal of the numbers is the answer
   pub numbers-none : (o : Option Table) (x : Refusal) → R.Refused x ≡ numbersOf o k p w → Refused x ≡ answerOf o k p w
@@ -48,15 +49,17 @@ module _ (k p w : ℕ) where
     where
       go : (b : Bool) → roomFor (layout t) k p w ≡ b → Refused x ≡ answerOf (some t) k p w
       go true h = let f : R.Refused x ≡ R.Fields (layout t) = e ∙ rw h in absurd (fields-refused (sym f))
-      go false h = let f : R.Refused x ≡ R.Refused (refuse too-long) = e ∙ rw h in rw h (cc)
+      go false h = let f : R.Refused x ≡ R.Refused (refuse length-bad) = e ∙ rw h in rw h (cc)
 
 -- ---- the numbers in the runs
 
 -- the front of a padded run
 pub front-of : (n m : ℕ) (xs : List ℕ) (run : List Float) → run ≡ padded n (numbers xs) → length xs ≡ m → take m run ≡ numbers xs
+unfolding padded
 front-of n m xs run e h = rw e (take-at (numbers xs) _ m (length-map xs (λ (x : ℕ). ofBits binary64 x) ∙ h))
 
-refusal-same : (t : Table) {d : ℕ} {ks ps ws : List Float} {g : Bool} → d ≡ t .degree → ks ≡ numbers (t .knots) → ps ≡ numbers (t .points) → g ≡ rationalBy (t .weights) → ws ≡ numbers (given (t .weights)) → curveRefusal d ks ps g ws ≡ refusalIn t
+refusal-same : (t : Table) {d : ℕ} {ks ps ws : List Float} {g : Bool} → d ≡ t .degree → ks ≡ numbers (t .knots) → ps ≡ numbers (t .points) → g ≡ rationalBy (t .weights)
+    → ws ≡ numbers (given (t .weights)) → curveRefusal d ks ps g ws ≡ refusalIn t
 unfolding refusalIn
 refusal-same t a b c d e = rw (a, b, c, d, e)
 
@@ -69,7 +72,7 @@ said (some t) k p w r e = ap (λ (a : TableAnswer). tableAnswerRefusal a .number
     by-curve true h = sym (h refl)
     by-curve false h = refl
 
-    by-room : (b : Bool) → tableAnswerRefusal (cond b (curveIn t) (Refused (refuse too-long))) .number ≡ cond b (refusalIn t .number) (refuse too-long .number)
+    by-room : (b : Bool) → tableAnswerRefusal (cond b (curveIn t) (Refused (refuse length-bad))) .number ≡ cond b (refusalIn t .number) (refuse length-bad .number)
     by-room true = by-curve (eqb (refusalIn t .number) 0) (eqb-true (refusalIn t .number) 0)
     by-room false = refl
 
@@ -85,7 +88,7 @@ listed (some t) k p w r e = ap tableAnswerValues e ∙ by-room (roomFor (layout 
     by-curve true = refl
     by-curve false = refl
 
-    by-room : (b : Bool) → tableAnswerValues (cond b (curveIn t) (Refused (refuse too-long))) ≡ cond b (cond (eqb (refusalIn t .number) 0) (lengths t) []) []
+    by-room : (b : Bool) → tableAnswerValues (cond b (curveIn t) (Refused (refuse length-bad))) ≡ cond b (cond (eqb (refusalIn t .number) 0) (lengths t) []) []
     by-room true = by-curve (eqb (refusalIn t .number) 0)
     by-room false = refl
 

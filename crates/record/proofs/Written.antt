@@ -9,7 +9,7 @@ use lib.ListN.{length, replicate, length-append, length-map}
 use borrow.Author.Tests.{le-leb, lt-leb}
 use lib.Ieee.{Float}
 use lib.Seq.{sets}
-use Rattle.knots.specs.Refusal.{refuse, too-long}
+use Rattle.knots.specs.Refusal.{refuse, length-bad}
 use Rattle.record.specs.Format.{little, doubles, head, field, optional, encode, Table}
 use Rattle.record.specs.Writing.{bits, chosen, tableFrom, weightBytes, sizeOf, holdable, Writes}
 use Rattle.record.specs.declared.field.Count.the-variants.{Is, Bad}
@@ -97,11 +97,11 @@ module _ (p : ℕ) (ks ps : List Float) (rational : Bool) (ws : List Float) wher
 
 module _ (t : Table) (before : List ℕ) where
   -- the format does not hold the table
-  pub writes-none : holdable t ≡ false → Writes t before (replicate (length before) 0) (Refused (refuse too-long))
+  pub writes-none : holdable t ≡ false → Writes t before (replicate (length before) 0) (Refused (refuse length-bad))
   writes-none h = record { answer = rw h; left = rw h }
 
   -- the output is too small
-  pub writes-short : holdable t ≡ true → length before < length (encode t) → Writes t before (replicate (length before) 0) (Refused (refuse too-long))
+  pub writes-short : holdable t ≡ true → length before < length (encode t) → Writes t before (replicate (length before) 0) (Refused (refuse length-bad))
   writes-short h l = record { answer = rw (h, lt-leb _ _ l); left = rw (h, lt-leb _ _ l) }
 
   pub writes-all : holdable t ≡ true → length (encode t) ≤ length before → Writes t before (sets (replicate (length before) 0) 0 (encode t)) (Written (length (encode t)))

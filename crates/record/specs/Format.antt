@@ -57,7 +57,7 @@ rationalBy (some []) = false
 rationalBy (some (x ∷ xs)) = true
 
 -- the bytes s are the record of the table t. That each payload is below 65,536 bytes follows from the record's own length
-pub record Holds (s : List ℕ) (t : Table) : Type 0 where
+pub record IsRecordOf (s : List ℕ) (t : Table) : Type 0 where
   pub bytes : s ≡ encode t
   pub short : length s ≤ 65536
   pub degree : t .degree < 65536
@@ -67,5 +67,5 @@ pub record Holds (s : List ℕ) (t : Table) : Type 0 where
 
 -- what bytes mean: a table that they are the record of, or none if there is no such table
 abbrev pub Means : List ℕ → Option Table → Type 0
-Means s none = (t : Table) → Holds s t → ⊥
-Means s (some t) = Holds s t
+Means s none = (t : Table) → IsRecordOf s t → ⊥
+Means s (some t) = IsRecordOf s t

@@ -3,13 +3,14 @@
 use Prim.Native.Nat.{ℕ, zero, suc, _+_, _-_, _*_, _/_, _%_, _<_}
 use mathlib.Core.Bool.{Bool, true, false, not, cond, _&&_}
 use mathlib.Core.Path.{_≡_}
-use mathlib.Core.List.{List, [], _∷_, _++_, map}
+use mathlib.Core.List.{List, [], _∷_, map}
 use mathlib.Core.Option.{Option, none, some}
 use lib.ListN.{length, getD, drop}
 use lib.Dec.{leb, ltb, eqb}
 use lib.Ieee.{Float, binary64, ofBits}
-use Rattle.knots.specs.Refusal.{refuse, too-long, record-malformed}
+use Rattle.knots.specs.Refusal.{refuse, length-bad, record-malformed}
 use Rattle.knots.specs.Clear.{zeros}
+use Rattle.runs.specs.Lent.{padded}
 use Rattle.record.specs.Format.{Table, Means, given}
 use Rattle.record.specs.declared.field.Count.{Count}
 use Rattle.record.specs.declared.field.Count.the-variants.{Is, Bad}
@@ -110,7 +111,7 @@ roomFor l k p w = leb (l .knots) k && (leb (l .points) p && leb (l .weights) w)
 -- the answer of `read_numbers`: 33, then 30, else the layout
 abbrev pub numbersOf : Option Table → ℕ → ℕ → ℕ → Record
 numbersOf none k p w = Refused (refuse record-malformed)
-numbersOf (some t) k p w = cond (roomFor (layout t) k p w) (Fields (layout t)) (Refused (refuse too-long))
+numbersOf (some t) k p w = cond (roomFor (layout t) k p w) (Fields (layout t)) (Refused (refuse length-bad))
 
 -- the table that an answer hands over: one without numbers after a refusal
 abbrev pub blank : Table
@@ -128,10 +129,6 @@ numbers xs = map (λ (x : ℕ). ofBits binary64 x) xs
 -- what clearing leaves in a run of n numbers: the one word of another crate that the contracts here cite
 abbrev pub cleared : ℕ → List Float
 cleared n = zeros n
-
--- a run of n numbers that starts with xs and ends in +0.0
-abbrev pub padded : ℕ → List Float → List Float
-padded n xs = xs ++ cleared (n - length xs)
 
 -- lent runs k, p, w hold k′, p′, w′ afterwards: the numbers of a table, and +0.0 behind them
 pub record Lent (t : Table) (k p w k′ p′ w′ : List Float) : Type 0 where

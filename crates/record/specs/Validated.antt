@@ -9,7 +9,7 @@ use lib.ListN.{length, take}
 use lib.Dec.{eqb}
 use lib.Ieee.{Float}
 use Rattle.knots.specs.declared.refusal.Refusal.{Refusal}
-use Rattle.knots.specs.Refusal.{refuse, too-long, record-malformed}
+use Rattle.knots.specs.Refusal.{refuse, length-bad, record-malformed}
 use Rattle.knots.specs.Curve.{curveRefusal, ValidCurve}
 use Rattle.record.specs.Format.{Table, Means, given, rationalBy}
 use Rattle.record.specs.Reading.{tableOf, layout, roomFor, handed, numbers, Lent}
@@ -31,12 +31,12 @@ curveIn t = cond (eqb (refusalIn t .number) 0) (Curve (layout t) (rationalBy (t 
 -- the answer of `read_table`: 33, then 30 for a run with too little room, then the curve's own refusal, else the curve
 abbrev pub answerOf : Option Table → ℕ → ℕ → ℕ → TableAnswer
 answerOf none k p w = Refused (refuse record-malformed)
-answerOf (some t) k p w = cond (roomFor (layout t) k p w) (curveIn t) (Refused (refuse too-long))
+answerOf (some t) k p w = cond (roomFor (layout t) k p w) (curveIn t) (Refused (refuse length-bad))
 
 -- its number: 33, then 30 for a run with too little room, then the curve's own; 0 where there is none
 abbrev pub numberOf : Option Table → ℕ → ℕ → ℕ → ℕ
 numberOf none k p w = refuse record-malformed .number
-numberOf (some t) k p w = cond (roomFor (layout t) k p w) (refusalIn t .number) (refuse too-long .number)
+numberOf (some t) k p w = cond (roomFor (layout t) k p w) (refusalIn t .number) (refuse length-bad .number)
 
 -- its values: the degree and the lengths of the three runs, none after a refusal
 abbrev pub valuesOf : Option Table → ℕ → ℕ → ℕ → List ℕ

@@ -8,7 +8,7 @@ use mathlib.Core.Option.{Option, none, some}
 use lib.ListN.{length, take, replicate}
 use lib.Dec.{leb, ltb}
 use lib.Ieee.{Float, binary64, toBits}
-use Rattle.knots.specs.Refusal.{refuse, too-long}
+use Rattle.knots.specs.Refusal.{refuse, length-bad}
 use Rattle.record.specs.Format.{Table, encode}
 use Rattle.record.specs.Reading.{tableOf, layout, numbers}
 use Rattle.record.specs.declared.field.Count.{Count}
@@ -46,7 +46,7 @@ sizeOf p k n more = cond (ltb p 65536 && leb (11 + 8 * k + 8 * n + more) 65536) 
 
 -- the promise of `write_record`: 30 and zeros, or the record, its length, and zeros after it
 pub record Writes (t : Table) (before after : List ℕ) (r : Write) : Type 0 where
-  pub answer : r ≡ cond (writable t (length before)) (Written (length (encode t))) (Refused (refuse too-long))
+  pub answer : r ≡ cond (writable t (length before)) (Written (length (encode t))) (Refused (refuse length-bad))
   pub left : after ≡ cond (writable t (length before)) (encode t ++ replicate (length before - length (encode t)) 0) (replicate (length before) 0)
 
 -- what is read of what was written: the table, with the doubles of the call bit for bit (a NaN as the one NaN)

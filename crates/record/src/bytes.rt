@@ -25,22 +25,13 @@ pub fn u16_at(s: &[u8], i: usize) -> u64
     low + 256 * high
 }
 
-fn u32_at(s: &[u8], i: usize) -> u64
-    requires { ⌜ i + 3 < length (now s) ⌝ }
-    ensures { λ r. ⌜ r ≡ number 4 (drop i (now (s .entry))) ⌝ }
-    ensures { λ r. ⌜ r < 4294967296 ⌝ }
-{
-    let low = u16_at(s, i);
-    let high = u16_at(s, i + 2);
-    low + 65536 * high
-}
-
 fn u64_at(s: &[u8], i: usize) -> u64
     requires { ⌜ i + 7 < length (now s) ⌝ }
     ensures { λ r. ⌜ r ≡ number 8 (drop i (now (s .entry))) ⌝ }
 {
-    let low = u32_at(s, i);
-    let high = u32_at(s, i + 4);
+    let middle = i + 4;
+    let low = u16_at(s, i) + 65536 * u16_at(s, i + 2);
+    let high = u16_at(s, middle) + 65536 * u16_at(s, middle + 2);
     low + 4294967296 * high
 }
 
@@ -65,18 +56,14 @@ pub fn put_u16(out: &mut [u8], i: usize, n: u64)
     out[i + 1] = lowest(n / 256);
 }
 
-fn put_u32(out: &mut [u8], i: usize, n: u64)
-    requires { ⌜ i + 3 < length (now out) ⌝ }
-    ensures { λ _. ⌜ now (out .exit) ≡ sets (now (out .entry)) i (little 4 n) ⌝ }
-{
-    put_u16(out, i, n);
-    put_u16(out, i + 2, n / 65536);
-}
-
 pub fn put_u64(out: &mut [u8], i: usize, n: u64)
     requires { ⌜ i + 7 < length (now out) ⌝ }
     ensures { λ _. ⌜ now (out .exit) ≡ sets (now (out .entry)) i (little 8 n) ⌝ }
 {
-    put_u32(out, i, n);
-    put_u32(out, i + 4, n / 4294967296);
+    let middle = i + 4;
+    let high = n / 4294967296;
+    put_u16(out, i, n);
+    put_u16(out, i + 2, n / 65536);
+    put_u16(out, middle, high);
+    put_u16(out, middle + 2, high / 65536);
 }

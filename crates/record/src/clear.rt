@@ -2,12 +2,12 @@
 ghost use mathlib.Core.Path.{_≡_};
 ghost use lib.ListN.{length, replicate};
 
-pub fn clear_bytes(out: &mut [u8])
-    ensures { λ _. ⌜ now (out .exit) ≡ replicate (length (now (out .entry))) 0 ⌝ }
+pub fn clear_bytes(bytes: &mut [u8])
+    ensures { λ _. ⌜ now (bytes .exit) ≡ replicate (length (now (bytes .entry))) 0 ⌝ }
 {
-    let mut i = 0usize;
-    while i < out.len() {
-        out[i] = 0;
-        i += 1;
+    let mut at = 0usize;
+    while at < bytes.len() {
+        bytes[at] = 0;
+        at += 1;
     }
 }

@@ -20,7 +20,7 @@ pub enum TableAnswer {
 }
 
 // The curve's own refusal, of the numbers at the fronts of three runs.
-fn front_refusal(l: Layout, knots: &[f64], points: &[f64], weights: &[f64]) -> Refusal
+fn layout_refusal(l: Layout, knots: &[f64], points: &[f64], weights: &[f64]) -> Refusal
     requires { ⌜ l .knots ≤ length (now knots) ⌝ }
     requires { ⌜ l .points ≤ length (now points) ⌝ }
     requires { ⌜ l .weights ≤ length (now weights) ⌝ }
@@ -52,7 +52,7 @@ pub fn read_table(
     match read {
         Record::Refused(refusal) => TableAnswer::Refused(refusal),
         Record::Fields(layout) => {
-            let refusal = front_refusal(layout, knots, points, weights);
+            let refusal = layout_refusal(layout, knots, points, weights);
             if refusal.number != 0 {
                 clear(knots);
                 clear(points);

@@ -26,7 +26,8 @@ zero-judged x want either o z = record {
     says (inr s) = s .1 .1
 
 -- all else is judged by the bits
-pub bits-judged : (x : Float) (want : ℕ) (either : Bool) → T (fits binary64 x) → (either ≡ true → Zero x → ⊥) → Judges (Same x want either) (eqb (toBits binary64 x) (toBits binary64 (ofBits binary64 want)))
+pub bits-judged : (x : Float) (want : ℕ) (either : Bool) → T (fits binary64 x) → (either ≡ true → Zero x → ⊥)
+    → Judges (Same x want either) (eqb (toBits binary64 x) (toBits binary64 (ofBits binary64 want)))
 bits-judged x want either p other = record {
   holds = λ e. inl (one-pattern x (ofBits binary64 want) p (ofBits-fits binary64 want) (eqb-true _ _ e));
   says = λ s. says s;

@@ -36,6 +36,22 @@ pub fn ends(i: Interval, either: bool) -> bool {
     are_ends(i, lo, hi, either)
 }
 
+// Reads a number and a direction: the refusal has them.
+pub fn refused(number: u32, direction: u32) -> bool {
+    let want = word();
+    let along = word();
+    if number as u64 == want {
+        direction as u64 == along
+    } else {
+        false
+    }
+}
+
+// Reads two words, which say that nothing is refused.
+pub fn accepted() -> bool {
+    refused(0, 2)
+}
+
 // Writes the outcome of one call behind its heading, as `add       300 cases, 0 differ`.
 pub fn print(count: u64, differ: u64) {
     io::print_decimal(1, count);

@@ -13,7 +13,7 @@ pub fn flag() -> bool {
 }
 
 // The length of the next run, whose numbers go to the front; a length that has no room counts as 0.
-pub fn run(out: &mut [f64]) -> usize
+fn fill(out: &mut [f64]) -> usize
     ensures { λ r. ⌜ r ≤ length (now (out .exit)) ⌝ }
 {
     let n = size();
@@ -26,4 +26,10 @@ pub fn run(out: &mut [f64]) -> usize
         i += 1;
     }
     n
+}
+
+// The next run, which stands in the room that is lent.
+pub fn run<'a>(room: &'a mut [f64]) -> &'a mut [f64] {
+    let n = fill(room);
+    &mut room[..n]
 }

@@ -4,9 +4,9 @@ ghost use mathlib.Core.Path.{_≡_};
 ghost use Prim.Native.Nat.{_<_};
 ghost use Rattle.replaying.specs.Digits.{digitOf, hex};
 
-// Writes the next heading: a name in ten bytes, filled up with spaces.
+// Writes the next heading: a name in sixteen bytes, filled up with spaces.
 pub fn print_heading() {
-    let mut text = [0u8; 10];
+    let mut text = [0u8; 16];
     let n = io::read_full(0, &mut text);
     io::write_all(1, &text[..n]);
 }

@@ -8,7 +8,10 @@ use lib.Dec.{T}
 use lib.IntN as Z
 use lib.IntN.{ℤ, pos, negsuc, sucℤ, predℤ, natAbs}
 use Rattle.ring.specs.Ring as Ring
-use Rattle.ring.specs.Ring.{CommRing, Re, atoms}
+use Rattle.ring.specs.Solved as Solved
+use Rattle.ring.specs.Ring.{CommRing}
+use Rattle.ring.specs.Solved.{atoms}
+use Rattle.ring.specs.Solved.{Re}
 
 infixl 6 _⊞_
 infixl 7 _⊠_
@@ -92,24 +95,24 @@ unfolding _⊞_ _⊠_ ⊟_ z0 z1
 -- ---- the solver
 
 abbrev pub zr-add : {l : List ℤ} {x y : ℤ} → Re ℤ-ring l x → Re ℤ-ring l y → Re ℤ-ring l (x ⊞ y)
-zr-add {l} r s = Ring.re-add ℤ-ring l r s
+zr-add {l} r s = Solved.re-add ℤ-ring l r s
 
 abbrev pub zr-mul : {l : List ℤ} {x y : ℤ} → Re ℤ-ring l x → Re ℤ-ring l y → Re ℤ-ring l (x ⊠ y)
-zr-mul {l} r s = Ring.re-mul ℤ-ring l r s
+zr-mul {l} r s = Solved.re-mul ℤ-ring l r s
 
 abbrev pub zr-neg : {l : List ℤ} {x : ℤ} → Re ℤ-ring l x → Re ℤ-ring l (⊟ x)
-zr-neg {l} r = Ring.re-neg ℤ-ring l r
+zr-neg {l} r = Solved.re-neg ℤ-ring l r
 
 abbrev pub zr-0 : {l : List ℤ} → Re ℤ-ring l z0
-zr-0 {l} = Ring.re-O ℤ-ring l
+zr-0 {l} = Solved.re-O ℤ-ring l
 
 abbrev pub zr-1 : {l : List ℤ} → Re ℤ-ring l z1
-zr-1 {l} = Ring.re-I ℤ-ring l
+zr-1 {l} = Solved.re-I ℤ-ring l
 
 pub ruleset zring = (atoms, zr-0, zr-1, zr-add, zr-mul, zr-neg)
 
 pub z-ring : (l : List ℤ) {x y : ℤ} (r : Re ℤ-ring l (x ⊞ ⊟ y)) → T (Ring.isNil (r .code)) → x ≡ y
-z-ring l r h = Ring.ring ℤ-ring l r h
+z-ring l r h = Solved.ring ℤ-ring l r h
 
 pub z-combine : (k : ℤ) {u v x y : ℤ} → u ≡ v → x ⊞ k ⊠ v ≡ y ⊞ k ⊠ u → x ≡ y
 z-combine k h e = Ring.combine ℤ-ring k h e

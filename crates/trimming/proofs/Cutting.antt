@@ -16,25 +16,26 @@ use Rattle.knots.specs.Knots.{ValidKnots}
 use Rattle.knots.specs.Curve.{countOf, formedRefusal, ValidCurve}
 use Rattle.knots.specs.declared.refusal.Refusal.{Refusal}
 use Rattle.knots.proofs.Refusals.{stop, skip}
-use Rattle.basis.proofs.Whole.{length-tabulate, at-tabulate}
-use Rattle.evaluate.specs.Lent.{padded, leftIn}
-use Rattle.evaluate.proofs.Overlays.{take-padded}
-use Rattle.insertion.specs.Counts.{missingOf, belowOf}
-use Rattle.insertion.specs.Rows.{given}
-use Rattle.insertion.specs.Fold.{Outcome, refuses, insertAll}
-use Rattle.insertion.specs.Whole.{givenOf}
-use Rattle.insertion.specs.Work.{laid, knotsFrom, pointsFrom, weightsFrom, refusalOf, workIn, takeRefusal}
-use Rattle.insertion.specs.Passes.{OutMeets}
-use Rattle.insertion.specs.declared.answer.EditAnswer.{EditAnswer}
-use Rattle.insertion.specs.declared.answer.EditAnswer.the-variants.{Formed, Refused}
-use Rattle.insertion.proofs.RowLoops.{knot-from}
-use Rattle.insertion.proofs.Starting.{out-fits, thirds}
-use Rattle.insertion.proofs.Laid.{laid-long}
-use Rattle.insertion.proofs.Working.{take-fits}
+use Rattle.runs.proofs.Tabulated.{length-tabulate, at-tabulate}
+use Rattle.runs.specs.Lent.{padded, leftIn}
+use Rattle.runs.proofs.Overlays.{take-padded}
+use Rattle.edits.specs.Counts.{missingOf, belowOf}
+use Rattle.edits.specs.Rows.{given}
+use Rattle.insertion.specs.Fold.{insertAll}
+use Rattle.edits.specs.Outcome.{Outcome, refuses}
+use Rattle.edits.specs.Whole.{givenOf}
+use Rattle.edits.specs.Work.{laid, knotsFrom, pointsFrom, weightsFrom, refusalOf, workIn, takeRefusal}
+use Rattle.edits.specs.Passes.{OutMeets}
+use Rattle.edits.specs.declared.answer.EditAnswer.{EditAnswer}
+use Rattle.edits.specs.declared.answer.EditAnswer.the-variants.{Formed, Refused}
+use Rattle.edits.proofs.RowReads.{knot-from}
+use Rattle.edits.proofs.Starting.{out-fits, thirds}
+use Rattle.edits.proofs.RunWithCurve.{laid-long}
+use Rattle.edits.proofs.WorkCalls.{take-fits}
 use Rattle.insertion.proofs.Made.{made}
 use Rattle.insertion.proofs.Repeated.{ends-long}
 use Rattle.insertion.proofs.Chained.{knots-are, points-are, weights-are, refused-is, given-is}
-use Rattle.insertion.proofs.Outcomes.{edit-refused, edit-late, edit-formed, edit-unique}
+use Rattle.edits.proofs.Outcomes.{edit-refused, edit-late, edit-formed, edit-unique}
 use Rattle.trimming.specs.Trim.{endsOf, keptOf, cutRefusal, cutCurve, cutOf, trimStart, trimOutcome, TrimMeets}
 use Rattle.trimming.specs.Passes.{CutDone}
 use Rattle.trimming.proofs.Ends.{given-long}
@@ -99,7 +100,8 @@ cut-weights n f m true xs ws b W = weights-cut 0 0 n f m true xs [] [] ws b W
 cut-weights n f m false xs ws b W = refl
 
 -- ---- the curve at the front of the outputs
-pub taken-open : (p m f : ℕ) (g : Bool) (a l b c d : ℕ) (r : Refusal) → r ≡ takeRefusal p m f g a l b c d → (f + m) * 4 ≤ a → a + (f + m + p + 1) ≤ l → m + p + 1 ≤ b → m * 3 ≤ c → given g m ≤ d → r .number ≡ 0
+pub taken-open : (p m f : ℕ) (g : Bool) (a l b c d : ℕ) (r : Refusal) → r ≡ takeRefusal p m f g a l b c d → (f + m) * 4 ≤ a → a + (f + m + p + 1) ≤ l → m + p + 1 ≤ b → m * 3 ≤ c → given g m ≤ d
+    → r .number ≡ 0
 taken-open p m f g a l b c d r e x y u v w = ap (λ (q : Refusal). q .number) (e ∙ sym (take-fits p m f g a l b c d x y _ (out-fits p m g b c d u v w)))
 
 -- ---- the cut of an outcome
@@ -116,16 +118,22 @@ module _ (a p n f m : ℕ) (g : Bool) (l : ℕ) (b : f + m ≤ n) (x : n * 4 ≤
       n0 = omega arith
 
       K : knotsFrom (a + f) p m xs ≡ take (m + p + 1) (drop f ks)
-      K = ap (knotsFrom (a + f) p m) E ∙ cut-knots a p n f m g (laid a (zeros l) ks ps g ws) ks ps ws b (knots-are a p n g (zeros l) ks ps ws v P W 0 nan (omega arith) (omega (arith, z))) (long-enough)
+      K =
+          ap (knotsFrom (a + f) p m) E
+          ∙ cut-knots a p n f m g (laid a (zeros l) ks ps g ws) ks ps ws b (knots-are a p n g (zeros l) ks ps ws v P W 0 nan (omega arith) (omega (arith, z))) (long-enough)
         where
           long-enough : a + (n + p + 1) ≤ length (laid a (zeros l) ks ps g ws)
           long-enough = omega (arith, laid-long a (zeros l) ks ps g ws, z)
 
       Q : pointsFrom m (drop (f * 4) xs) ≡ take (m * 3) (drop (f * 3) ps)
-      Q = ap (λ (u : List Float). pointsFrom m (drop (f * 4) u)) E ∙ cut-points a p n f m g (laid a (zeros l) ks ps g ws) ks ps ws b (points-are a p n g (zeros l) ks ps ws v P W 0 nan (omega arith) (omega (arith, z)))
+      Q =
+          ap (λ (u : List Float). pointsFrom m (drop (f * 4) u)) E
+          ∙ cut-points a p n f m g (laid a (zeros l) ks ps g ws) ks ps ws b (points-are a p n g (zeros l) ks ps ws v P W 0 nan (omega arith) (omega (arith, z)))
 
       V′ : weightsFrom g m (drop (f * 4) xs) ≡ take (given g m) (drop f ws)
-      V′ = ap (λ (u : List Float). weightsFrom g m (drop (f * 4) u)) E ∙ cut-weights n f m g (laid a (zeros l) ks ps g ws) ws b (weights-are a p n g (zeros l) ks ps ws v P W 0 nan (omega arith) (omega (arith, z)))
+      V′ =
+          ap (λ (u : List Float). weightsFrom g m (drop (f * 4) u)) E
+          ∙ cut-weights n f m g (laid a (zeros l) ks ps g ws) ws b (weights-are a p n g (zeros l) ks ps ws v P W 0 nan (omega arith) (omega (arith, z)))
 
       R : r ≡ cutRefusal p g f m ks ps ws
       R = D .refusal ∙ moved K Q V′
@@ -150,7 +158,11 @@ cut-done p m g a f xs k₁ p₁ w₁ A B C q r z l K P W R =
     let w : w₁ ≡ padded C (weightsFrom g m (drop (f * 4) xs)) = W ∙ simp e in
     let kl : length (knotsFrom (a + f) p m xs) ≡ m + p + 1 = length-take (m + p + 1) (drop (a + f) xs) ∙ omega (arith, length-drop (a + f) xs) in
     record {
-      refusal = R ∙ moved (take-padded (m + p + 1) A (knotsFrom (a + f) p m xs) k₁ kl k) (take-padded (m * 3) B (pointsFrom m (drop (f * 4) xs)) p₁ (length-tabulate (m * 3) _) x) (take-padded (given g m) C (weightsFrom g m (drop (f * 4) xs)) w₁ (length-tabulate (given g m) _) w);
+      refusal =
+          R
+          ∙ moved
+          (take-padded (m + p + 1) A (knotsFrom (a + f) p m xs) k₁ kl k) (take-padded (m * 3) B (pointsFrom m (drop (f * 4) xs)) p₁ (length-tabulate (m * 3) _) x)
+          (take-padded (given g m) C (weightsFrom g m (drop (f * 4) xs)) w₁ (length-tabulate (given g m) _) w);
       knots = k;
       points = x;
       weights = w;
@@ -178,7 +190,8 @@ module _ (p : ℕ) (ks ps : List Float) (g : Bool) (ws : List Float) (v : ValidC
     unfolding OutMeets
     into-refused r e h = rw (refused-is p g (countOf ps) ks ps (givenOf g ws) (endsOf p ks lo hi) r e h) ((refl, h))
 
-    pub into-cut : (a l f m : ℕ) → f ≡ F → m ≡ M → F + M ≤ N → N * 4 ≤ a → a + (N + p + 1) ≤ l → (q : Refusal) → q ≡ refusalOf aim → q .number ≡ 0 → (xs : List Float) → xs ≡ workIn a g (zeros l) aim → (r : Refusal)
+    pub into-cut : (a l f m : ℕ) → f ≡ F → m ≡ M → F + M ≤ N → N * 4 ≤ a → a + (N + p + 1) ≤ l → (q : Refusal) → q ≡ refusalOf aim → q .number ≡ 0 → (xs : List Float) → xs ≡ workIn a g (zeros l) aim
+        → (r : Refusal)
         → CutDone p m g (knotsFrom (a + f) p m xs) (pointsFrom m (drop (f * 4) xs)) (weightsFrom g m (drop (f * 4) xs)) A B C k₁ p₁ w₁ r → OutMeets A B C (cutOf p g F M aim) k₁ p₁ w₁ r
     unfolding endsOf
     into-cut a l f m f≡ m≡ b x y q Q z xs E r D =

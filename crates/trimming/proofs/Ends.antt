@@ -13,13 +13,15 @@ use Rattle.knots.specs.Clear.{zeros}
 use Rattle.knots.specs.Knots.{ValidKnots}
 use Rattle.knots.specs.Curve.{countOf, ValidCurve}
 use Rattle.knots.specs.declared.refusal.Refusal.{Refusal}
-use Rattle.insertion.specs.Counts.{missingOf}
-use Rattle.insertion.specs.Rows.{given}
-use Rattle.insertion.specs.Fold.{Outcome, gives, refuses, insertAll}
-use Rattle.insertion.specs.Whole.{givenOf}
-use Rattle.insertion.specs.Work.{laid, layOutcome, timesOutcome, refusalOf, workIn}
-use Rattle.insertion.proofs.Starting.{room-none, thirds}
-use Rattle.insertion.proofs.Working.{lay-fits, work-fits}
+use Rattle.edits.specs.Counts.{missingOf}
+use Rattle.edits.specs.Rows.{given}
+use Rattle.insertion.specs.Fold.{insertAll}
+use Rattle.edits.specs.Outcome.{Outcome, gives, refuses}
+use Rattle.edits.specs.Whole.{givenOf}
+use Rattle.edits.specs.Work.{laid, layOutcome, refusalOf, workIn}
+use Rattle.insertion.specs.Times.{timesOutcome}
+use Rattle.edits.proofs.Starting.{room-none, thirds}
+use Rattle.edits.proofs.WorkCalls.{lay-fits, work-fits}
 use Rattle.insertion.proofs.Made.{made, andThen, insert-append}
 use Rattle.insertion.proofs.Chained.{laid-given, chained, refused-is, given-is}
 use Rattle.trimming.specs.Trim.{endsOf}
@@ -60,7 +62,10 @@ module _ (a p : ℕ) (ks ps : List Float) (g : Bool) (ws : List Float) (v : Vali
 
   -- ---- the curve is laid
   lays : layOutcome ks ps g ws a l ≡ gives ks ps ws
-  lays = lay-fits ks ps g ws a l accepted accepted (sym (room-none (length ws) (given g n) (given-fits g n ws (v .controls .weights)))) refl (work-fits n (length ks) a l (omega arith) (omega (arith, v .knots .long))) refl
+  lays =
+      lay-fits
+      ks ps g ws a l accepted accepted (sym (room-none (length ws) (given g n) (given-fits g n ws (v .controls .weights)))) refl
+      (work-fits n (length ks) a l (omega arith) (omega (arith, v .knots .long))) refl
 
   pub laid-none : (r : Refusal) → r ≡ refusalOf (layOutcome ks ps g ws a l) → r .number ≡ 0
   laid-none r e = ap (λ (q : Refusal). q .number) (e ∙ ap refusalOf lays)
@@ -87,7 +92,8 @@ module _ (a p : ℕ) (ks ps : List Float) (g : Bool) (ws : List Float) (v : Vali
         (ap refusalOf (sym e), after .1 ∙ (ap (workIn a g Z) f ∙ ap (workIn a g Z) (sym e)))
 
     -- ---- the second
-    pub second-done : r₁ .number ≡ 0 → (m′ : ℕ) → m′ ≡ Y → (w₃ : List Float) (r₂ : Refusal) → r₂ ≡ refusalOf (timesOutcome p (n + m) m′ a w₂ g hi) → w₃ ≡ workIn a g w₂ (timesOutcome p (n + m) m′ a w₂ g hi)
+    pub second-done : r₁ .number ≡ 0 → (m′ : ℕ) → m′ ≡ Y → (w₃ : List Float) (r₂ : Refusal) → r₂ ≡ refusalOf (timesOutcome p (n + m) m′ a w₂ g hi)
+        → w₃ ≡ workIn a g w₂ (timesOutcome p (n + m) m′ a w₂ g hi)
         → (r₂ ≡ refusalOf goal) × (w₃ ≡ workIn a g Z goal)
     second-done z m′ M′ w₃ r₂ R₂ Z₂ =
         let G = given-is p g n ks ps W (replicate X lo) r₁ (after .0) z in
@@ -96,7 +102,10 @@ module _ (a p : ℕ) (ks ps : List Float) (g : Bool) (ws : List Float) (v : Vali
         let k = length-replicate X lo in
         let s : n + length (replicate X lo) ≡ n + X = ap (λ (i : ℕ). n + i) k in
         let e : goal ≡ insertAll p g (n + X) (G .knots) (G .points) (G .weights) (replicate Y hi) =
-        joined ∙ (ap (λ (o : Outcome). andThen o (λ ls qs vs. insertAll p g (n + length (replicate X lo)) ls qs vs (replicate Y hi))) f ∙ ap (λ (i : ℕ). insertAll p g i (G .knots) (G .points) (G .weights) (replicate Y hi)) s) in
+        joined
+        ∙ (ap (λ (o : Outcome). andThen o (λ ls qs vs. insertAll p g (n + length (replicate X lo)) ls qs vs (replicate Y hi))) f
+        ∙ ap (λ (i : ℕ). insertAll p g i (G .knots) (G .points) (G .weights) (replicate Y hi)) s)
+        in
         let c = chained a p (n + X) g Z (G .knots) (G .points) (G .weights) (subst (λ (i : ℕ). ValidKnots p i (G .knots)) s (D .valid))
         (D .points (thirds (v .triples)) ∙ ap (λ (i : ℕ). i * 3) s) (D .weights (given-long g n ws (v .controls .weights)) ∙ ap (given g) s) Y hi (omega arith) (omega (arith, zeros-long)) w₂ w₃ r₂
         (after .1 ∙ ap (workIn a g Z) f)

@@ -17,10 +17,10 @@ use Rattle.knots.specs.Curve.{countOf, ValidCurve}
 use Rattle.knots.specs.declared.refusal.Refusal.{Refusal}
 use Rattle.knots.proofs.Below.{and-left, and-right}
 use Rattle.knots.proofs.Refusals.{orElse-none, passed, stop, skip}
-use Rattle.insertion.specs.Counts.{multiplicityOf, missingOf, belowOf}
-use Rattle.insertion.specs.Start.{clampedEnds, editStart, outRoom, scratchRoom}
-use Rattle.insertion.proofs.Counted.{below-mono, below-room}
-use Rattle.insertion.proofs.Starting.{OutOpen, out-open, scratch-open, edit-open}
+use Rattle.edits.specs.Counts.{multiplicityOf, missingOf, belowOf}
+use Rattle.edits.specs.Start.{clampedEnds, editStart, outRoom, scratchRoom}
+use Rattle.insertion.proofs.KnotCounts.{below-mono, below-room}
+use Rattle.edits.proofs.Starting.{OutOpen, out-open, scratch-open, edit-open}
 use Rattle.trimming.specs.Trim.{inRange, keptOf, rangeRefusal, trimStart}
 
 -- a range of a valid run
@@ -54,7 +54,8 @@ pub below-long : (ks : List Float) (t : Float) → belowOf ks t ≤ length ks
 below-long ks t = let b = below-room ks t in omega arith
 
 -- what is taken lies in the curve that is formed
-pub kept-fits : (p n : ℕ) (ks : List Float) → ValidKnots p n ks → (lo hi : Float) → belowOf ks lo ≤ belowOf ks hi → multiplicityOf ks hi ≤ p + 1 → belowOf ks lo + keptOf p ks lo hi ≤ n + (missingOf p ks lo + missingOf p ks hi)
+pub kept-fits : (p n : ℕ) (ks : List Float) → ValidKnots p n ks → (lo hi : Float) → belowOf ks lo ≤ belowOf ks hi → multiplicityOf ks hi ≤ p + 1
+    → belowOf ks lo + keptOf p ks lo hi ≤ n + (missingOf p ks lo + missingOf p ks hi)
 unfolding keptOf
 kept-fits p n ks v lo hi b m = let l = v .long in omega (arith, below-room ks hi)
 
@@ -68,7 +69,8 @@ module _ (p : ℕ) (ks : List Float) (n : ℕ) (g : Bool) (lo hi : Float) (a b c
   unfolding rangeRefusal
   range-out h r e z = simp (h, stop e z) e
 
-  pub range-scratch : inRange (at ks p) (at ks n) lo hi ≡ true → (q : Refusal) → q ≡ outRoom p (keptOf p ks lo hi) g a b c → q .number ≡ 0 → (r : Refusal) → r ≡ scratchRoom p (n + (missingOf p ks lo + missingOf p ks hi)) d → r ≡ rangeRefusal p ks n g lo hi a b c d
+  pub range-scratch : inRange (at ks p) (at ks n) lo hi ≡ true → (q : Refusal) → q ≡ outRoom p (keptOf p ks lo hi) g a b c → q .number ≡ 0 → (r : Refusal)
+      → r ≡ scratchRoom p (n + (missingOf p ks lo + missingOf p ks hi)) d → r ≡ rangeRefusal p ks n g lo hi a b c d
   unfolding rangeRefusal
   range-scratch h q Q z r e = simp (h, skip Q z) e
 

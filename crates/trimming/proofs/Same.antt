@@ -22,10 +22,11 @@ use Rattle.doubles.proofs.Value.{val-le}
 use Rattle.knots.specs.Knots.{ValidKnots}
 use Rattle.knots.specs.Curve.{countOf}
 use Rattle.knots.proofs.Fractions.{in-order, table-span, table-end}
-use Rattle.insertion.specs.Counts.{belowOf}
-use Rattle.insertion.specs.Rows.{given}
-use Rattle.insertion.specs.Fold.{Outcome, gives, refuses, insertAll}
-use Rattle.insertion.specs.Whole.{givenOf}
+use Rattle.edits.specs.Counts.{belowOf}
+use Rattle.edits.specs.Rows.{given}
+use Rattle.insertion.specs.Fold.{insertAll}
+use Rattle.edits.specs.Outcome.{Outcome, gives, refuses}
+use Rattle.edits.specs.Whole.{givenOf}
 use Rattle.insertion.specs.Placed.{placed, weightValue, coordinateValue}
 use Rattle.insertion.proofs.Made.{by-number}
 use Rattle.insertion.proofs.Repeated.{Cut}

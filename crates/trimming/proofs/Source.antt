@@ -17,11 +17,12 @@ use Rattle.knots.specs.Curve.{countOf, isWeight, ValidControls}
 use Rattle.knots.specs.declared.refusal.Refusal.{Refusal}
 use Rattle.knots.proofs.Valid.{sorted}
 use Rattle.knots.proofs.Curves.{formed-not-refused}
-use Rattle.insertion.specs.Counts.{multiplicityOf, belowOf}
-use Rattle.insertion.specs.Rows.{given}
-use Rattle.insertion.specs.Fold.{gives, refuses, insertAll}
-use Rattle.insertion.specs.Whole.{givenOf}
-use Rattle.insertion.proofs.Counted.{not-both, eq-self, lt-not-eq, below-past, below-first, below-rest, below-room}
+use Rattle.edits.specs.Counts.{multiplicityOf, belowOf}
+use Rattle.edits.specs.Rows.{given}
+use Rattle.insertion.specs.Fold.{insertAll}
+use Rattle.edits.specs.Outcome.{gives, refuses}
+use Rattle.edits.specs.Whole.{givenOf}
+use Rattle.insertion.proofs.KnotCounts.{not-both, eq-self, lt-not-eq, below-past, below-first, below-rest, below-room}
 use Rattle.insertion.proofs.Made.{made, made-controls}
 use Rattle.insertion.proofs.Never.{Late, late-not}
 use Rattle.insertion.proofs.Repeated.{repeated, Cut, cut-late, cut-made}
@@ -66,7 +67,8 @@ module _ (p : ℕ) (ks ps : List Float) (g : Bool) (ws : List Float) (lo hi : Fl
   never-14 r e = late-not r (ends-late r e) 14 (omega arith) (omega arith)
 
   -- ---- the source inserts an end while it stands there less than degree + 1 times: each time it stands there once more
-  pub low-loop : (j : ℕ) (ks' ps' ws' : List Float) → insertAll p g (countOf ps) ks ps (givenOf g ws) (replicate j lo) ≡ gives ks' ps' ws' → (multiplicityOf ks' lo ≡ multiplicityOf ks lo + j) × (multiplicityOf ks' hi ≡ multiplicityOf ks hi)
+  pub low-loop : (j : ℕ) (ks' ps' ws' : List Float) → insertAll p g (countOf ps) ks ps (givenOf g ws) (replicate j lo) ≡ gives ks' ps' ws'
+      → (multiplicityOf ks' lo ≡ multiplicityOf ks lo + j) × (multiplicityOf ks' hi ≡ multiplicityOf ks hi)
   low-loop j ks' ps' ws' e =
       let R = repeated p g (countOf ps) ks ps (givenOf g ws) (o .curve .knots) lo j ks' ps' ws' e in
       (R .multiplicity lo ∙ rw (eq-self lo (range .low)) (omega arith), R .multiplicity hi ∙ rw (lt-not-eq lo hi (range .less)) (omega arith))

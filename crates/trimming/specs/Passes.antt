@@ -7,7 +7,7 @@ use mathlib.Core.List.{List}
 use lib.Ieee.{Float}
 use Rattle.knots.specs.Curve.{formedRefusal}
 use Rattle.knots.specs.declared.refusal.Refusal.{Refusal}
-use Rattle.evaluate.specs.Lent.{padded}
+use Rattle.runs.specs.Lent.{padded}
 
 -- a curve of m points stands at the front of three runs of a, b and c numbers, and r is its refusal
 pub record CutDone (p m : ℕ) (g : Bool) (ks ps ws : List Float) (a b c : ℕ) (k₁ p₁ w₁ : List Float) (r : Refusal) : Type 0 where

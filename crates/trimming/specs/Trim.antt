@@ -12,12 +12,13 @@ use Rattle.doubles.specs.Run.{at}
 use Rattle.knots.specs.Refusal.{refuse, orElse, trim-bad}
 use Rattle.knots.specs.Curve.{countOf, formedRefusal}
 use Rattle.knots.specs.declared.refusal.Refusal.{Refusal}
-use Rattle.insertion.specs.Counts.{missingOf, belowOf}
-use Rattle.insertion.specs.Rows.{given}
-use Rattle.insertion.specs.Fold.{Outcome, gives, refuses, insertAll}
-use Rattle.insertion.specs.Start.{editStart, outRoom, scratchRoom}
-use Rattle.insertion.specs.Whole.{givenOf, EditMeets}
-use Rattle.insertion.specs.declared.answer.EditAnswer.{EditAnswer}
+use Rattle.edits.specs.Counts.{missingOf, belowOf}
+use Rattle.edits.specs.Rows.{given}
+use Rattle.insertion.specs.Fold.{insertAll}
+use Rattle.edits.specs.Outcome.{Outcome, gives, refuses}
+use Rattle.edits.specs.Start.{editStart, outRoom, scratchRoom}
+use Rattle.edits.specs.Whole.{givenOf, EditMeets}
+use Rattle.edits.specs.declared.answer.EditAnswer.{EditAnswer}
 
 -- 15 is given where this fails: finite ends, lo below hi, inside the domain from a to b
 unfoldable pub inRange : Float → Float → Float → Float → Bool

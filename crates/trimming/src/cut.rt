@@ -1,20 +1,20 @@
 // Both ends are inserted in scratch, and what lies between goes to the outputs.
-use insertion::counts::missing;
-use insertion::work::front_refusal;
-use insertion::work::insert_times;
-use insertion::work::lay_curve;
-use insertion::work::take_curve;
+use edits::counts::missing;
+use edits::work::front_refusal;
+use edits::work::lay_curve;
+use edits::work::take_curve;
+use insertion::times::insert_times;
 use knots::refusal::Refusal;
 ghost use mathlib.Core.Path.{_≡_};
 ghost use Prim.Native.Nat.{_+_, _*_, _/_, _≤_};
 ghost use lib.ListN.{length, drop};
 ghost use Rattle.knots.specs.Clear.{zeros};
 ghost use Rattle.knots.specs.Curve.{ValidCurve};
-ghost use Rattle.insertion.specs.Counts.{missingOf};
-ghost use Rattle.insertion.specs.Rows.{given};
+ghost use Rattle.edits.specs.Counts.{missingOf};
+ghost use Rattle.edits.specs.Rows.{given};
 ghost use Rattle.insertion.specs.Fold.{insertAll};
-ghost use Rattle.insertion.specs.Whole.{givenOf};
-ghost use Rattle.insertion.specs.Work.{knotsFrom, pointsFrom, weightsFrom, refusalOf, workIn};
+ghost use Rattle.edits.specs.Whole.{givenOf};
+ghost use Rattle.edits.specs.Work.{knotsFrom, pointsFrom, weightsFrom, refusalOf, workIn};
 ghost use Rattle.trimming.specs.Trim.{endsOf};
 ghost use Rattle.trimming.specs.Passes.{CutDone};
 

@@ -1,9 +1,9 @@
 // The refusals of a cut before anything is formed.
-use insertion::counts::below;
-use insertion::counts::missing;
-use insertion::start::edit_start;
-use insertion::start::out_room;
-use insertion::start::scratch_room;
+use edits::counts::below;
+use edits::counts::missing;
+use edits::start::edit_start;
+use edits::start::out_room;
+use edits::start::scratch_room;
 use interval::float::is_finite;
 use knots::refusal::Refusal;
 use knots::refusal::refuse;
@@ -11,7 +11,7 @@ ghost use mathlib.Core.Path.{_≡_};
 ghost use Prim.Native.Nat.{_+_, _≤_, _<_};
 ghost use lib.ListN.{length};
 ghost use Rattle.knots.specs.Knots.{ValidKnots};
-ghost use Rattle.insertion.specs.Counts.{belowOf};
+ghost use Rattle.edits.specs.Counts.{belowOf};
 ghost use Rattle.trimming.specs.Trim.{inRange, keptOf, rangeRefusal, trimStart};
 
 // Finite ends, lo below hi, and both in the domain from a to b.

@@ -3,20 +3,20 @@ use crate::cut::cut;
 use crate::cut::insert_ends;
 use crate::start::kept;
 use crate::start::trim_start;
-use insertion::answer::EditAnswer;
-use insertion::counts::below;
-use insertion::counts::missing;
-use insertion::work::clear_all;
+use edits::answer::EditAnswer;
+use edits::counts::below;
+use edits::counts::missing;
+use edits::work::clear_all;
 use knots::clear::clear;
 use knots::refusal::Refusal;
 ghost use Prim.Native.Nat.{_+_, _*_, _/_, _≤_};
 ghost use lib.ListN.{length};
 ghost use Rattle.knots.specs.Curve.{ValidCurve};
-ghost use Rattle.insertion.specs.Counts.{belowOf, missingOf};
-ghost use Rattle.insertion.specs.Rows.{given};
+ghost use Rattle.edits.specs.Counts.{belowOf, missingOf};
+ghost use Rattle.edits.specs.Rows.{given};
 ghost use Rattle.insertion.specs.Fold.{insertAll};
-ghost use Rattle.insertion.specs.Whole.{givenOf};
-ghost use Rattle.insertion.specs.Passes.{OutMeets};
+ghost use Rattle.edits.specs.Whole.{givenOf};
+ghost use Rattle.edits.specs.Passes.{OutMeets};
 ghost use Rattle.trimming.specs.Trim.{keptOf, endsOf, cutOf, TrimMeets};
 
 // Both ends are inserted in scratch, and what lies between goes to the outputs.

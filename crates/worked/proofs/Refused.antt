@@ -9,8 +9,8 @@ use Rattle.knots.specs.Below.{allBelow}
 use Rattle.knots.specs.Knots.{allFinite, inOrder, ordered}
 use Rattle.knots.specs.Curve.{overLong, anyLong, isWeight, allWeights}
 use Rattle.knots.specs.Shape.{knotShape, weightShape, curveShape}
-use Rattle.bounds.specs.Range.{inSpan, takenSpan, rangeRefusal}
-use Rattle.bounds.specs.Read.{readRefusal, placeRefusal, startRefusal}
+use Rattle.ranges.specs.Range.{inSpan, takenSpan, rangeRefusal}
+use Rattle.ranges.specs.Read.{readRefusal, placeRefusal, startRefusal}
 use Rattle.bounds.specs.Curve.{boundAt}
 use Rattle.bounds.specs.Numbers.{boundedRefusal}
 use Rattle.worked.specs.Table.{d, doubles, half, one, two, three, minus}

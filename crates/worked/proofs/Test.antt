@@ -18,31 +18,33 @@ use Rattle.knots.specs.Shape.{roomRefusal}
 use Rattle.knots.specs.Span.{clamped, lastAfter, spanOf, spanRefusal, spanAnswer}
 use Rattle.basis.specs.Basis.{leftOf, rightOf}
 use Rattle.basis.specs.Ders.{inReach, dersAt, dersTable, basisTable}
-use Rattle.evaluate.specs.Controls.{largestFrom, weightOf}
-use Rattle.evaluate.specs.Lent.{padded}
-use Rattle.insertion.specs.Control as C
-use Rattle.insertion.specs.Counts.{countBelow, multiplicityOf, belowOf, largestOf, allEqual}
-use Rattle.insertion.specs.Rows.{scaleOf, liftAt, blendAt, lowerAt}
-use Rattle.insertion.specs.Insert.{knotAt, moreKnots, inside, spotRefusal, morePoints, moreWeights, formRefusal, insertedKnots, insertedPoints, insertedWeights, insertRefusal}
+use Rattle.runs.specs.Weight.{weightAt}
+use Rattle.runs.specs.Scale.{weightOf}
+use Rattle.runs.specs.Larger.{largestFrom}
+use Rattle.runs.specs.Lent.{padded}
+use Rattle.edits.specs.Control as C
+use Rattle.edits.specs.Counts.{countBelow, multiplicityOf, belowOf, largestOf, allEqual}
+use Rattle.edits.specs.Rows.{scaleOf, liftAt, lowerAt}
+use Rattle.insertion.specs.Insert.{blendAt, knotAt, moreKnots, inside, spotRefusal, morePoints, moreWeights, formRefusal, insertedKnots, insertedPoints, insertedWeights, insertRefusal}
 use Rattle.insertion.specs.Fold.{insertAll}
-use Rattle.insertion.specs.Start.{clampedEnds, editStart, outRoom, scratchRoom, insertStart}
-use Rattle.insertion.specs.Whole.{insertOutcome}
+use Rattle.edits.specs.Start.{clampedEnds, editStart, outRoom, scratchRoom}
+use Rattle.insertion.specs.Whole.{insertStart, insertOutcome}
 use Rattle.trimming.specs.Trim as Trim
 use Rattle.elevation.specs.Breaks.{breaksFrom, breaksOf, isFull, fullCount, missingAll}
 use Rattle.elevation.specs.Raise.{raiseShare, raiseOnce, raiseTimes}
 use Rattle.elevation.specs.Elevate as E
 use Rattle.elevation.specs.Whole.{elevatedCount, raiseStart, elevated, elevateStart, elevateOutcome}
-use Rattle.bounds.specs.Jet.{constantOf, parameterOf, jetSub, jetAdd, jetMul, jetScale}
-use Rattle.bounds.specs.Net.{shareOf, mixJet, mixOf, shareAt, levelOf, refusalFrom, netOf, refusalLevels, lastBy, deboorOf}
-use Rattle.bounds.specs.Range as R
+use Rattle.jets.specs.Jet.{constantOf, parameterOf, jetSub, jetAdd, jetMul, jetScale}
+use Rattle.jets.specs.Net.{shareOf, mixJet, mixOf, shareAt, levelOf, refusalFrom, netOf, refusalLevels, lastBy, deboorOf}
+use Rattle.ranges.specs.Range as R
 use Rattle.bounds.specs.Start as S
-use Rattle.bounds.specs.Cartesian.{coordinateOf, cartesianOf}
+use Rattle.jets.specs.Cartesian.{coordinateOf, cartesianOf}
 use Rattle.bounds.specs.Answer.{boundsOf}
 use Rattle.bounds.specs.Curve.{spanBound, boundOf}
 use Rattle.worked.specs.Table.{Row, rows, same, all}
 
 pub all-hold : T (all rows)
-unfolding rows nextOf basisOf tableOf derivativeOf factorOf dersOf upFrom downFrom newOf pointOf containsOf checkedOf addOf subOf mulOf sqrOf someNan reciprocalOf divideOf allBelow allFinite inOrder ordered apart orderRefusal knotRefusal overLong anyLong isWeight allWeights controlRefusal formedRefusal curveRefusal roomRefusal clamped lastAfter spanOf spanRefusal spanAnswer leftOf rightOf inReach dersAt dersTable basisTable largestFrom weightOf padded C.liftOf C.isLifted C.isBlended C.shareOf C.blendOf C.lowerOf countBelow multiplicityOf belowOf largestOf allEqual scaleOf liftAt blendAt lowerAt knotAt moreKnots inside spotRefusal morePoints moreWeights formRefusal insertedKnots insertedPoints insertedWeights insertRefusal insertAll clampedEnds editStart outRoom scratchRoom insertStart insertOutcome Trim.inRange Trim.endsOf Trim.keptOf Trim.rangeRefusal Trim.cutRefusal Trim.cutCurve Trim.trimStart Trim.trimOutcome breaksFrom breaksOf isFull fullCount missingAll raiseShare raiseOnce raiseTimes E.extractedCount E.raisedCount E.breakKnots E.raisedKnots E.controlsOf E.segmentOf E.addedBy E.keptFrom E.keptAll E.allBlended E.pointsOf E.weightsOf E.raisedControls E.raisedPoints E.raisedWeights E.raisedRefusal E.raisedOutcome E.raiseAll elevatedCount raiseStart elevated elevateStart elevateOutcome constantOf jetSub jetAdd jetMul jetScale shareOf mixJet mixOf shareAt levelOf refusalFrom netOf refusalLevels lastBy deboorOf R.inSpan R.firstFrom R.spanOver R.rangeRefusal R.weightAt S.maxFrom S.minFrom S.rangeOf S.weightsOf S.movedOf S.controlOf S.pointAt S.startAt S.rowOf coordinateOf cartesianOf boundsOf parameterOf spanBound boundOf ofBits toBits ofInt isNan lt le eq add sub mul div neg
+unfolding rows nextOf basisOf tableOf derivativeOf factorOf dersOf upFrom downFrom newOf pointOf containsOf checkedOf addOf subOf mulOf sqrOf someNan reciprocalOf divideOf allBelow allFinite inOrder ordered apart orderRefusal knotRefusal overLong anyLong isWeight allWeights controlRefusal formedRefusal curveRefusal roomRefusal clamped lastAfter spanOf spanRefusal spanAnswer leftOf rightOf inReach dersAt dersTable basisTable largestFrom weightOf padded C.liftOf C.isLifted C.isBlended C.shareOf C.blendOf C.lowerOf countBelow multiplicityOf belowOf largestOf allEqual scaleOf liftAt blendAt lowerAt knotAt moreKnots inside spotRefusal morePoints moreWeights formRefusal insertedKnots insertedPoints insertedWeights insertRefusal insertAll clampedEnds editStart outRoom scratchRoom insertStart insertOutcome Trim.inRange Trim.endsOf Trim.keptOf Trim.rangeRefusal Trim.cutRefusal Trim.cutCurve Trim.trimStart Trim.trimOutcome breaksFrom breaksOf isFull fullCount missingAll raiseShare raiseOnce raiseTimes E.extractedCount E.raisedCount E.breakKnots E.raisedKnots E.controlsOf E.segmentOf E.addedBy E.keptFrom E.keptAll E.allBlended E.pointsOf E.weightsOf E.raisedControls E.raisedPoints E.raisedWeights E.raisedRefusal E.raisedOutcome E.raiseAll elevatedCount raiseStart elevated elevateStart elevateOutcome constantOf jetSub jetAdd jetMul jetScale shareOf mixJet mixOf shareAt levelOf refusalFrom netOf refusalLevels lastBy deboorOf R.inSpan R.firstFrom R.spanOver R.rangeRefusal weightAt S.maxFrom S.minFrom S.rangeOf S.weightsOf S.movedOf S.controlOf S.startAt S.rowOf coordinateOf cartesianOf boundsOf parameterOf spanBound boundOf ofBits toBits ofInt isNan lt le eq add sub mul div neg
 all-hold = tt
 
 same-is : (xs ys : List ℕ) → T (same xs ys) → xs ≡ ys

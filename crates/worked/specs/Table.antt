@@ -15,12 +15,13 @@ use Rattle.knots.specs.Span.{spanAnswer}
 use Rattle.knots.specs.Numbers.{spanAnswerValues}
 use Rattle.basis.specs.Basis.{cell}
 use Rattle.basis.specs.Ders.{basisTable}
-use Rattle.insertion.specs.Fold.{Outcome}
-use Rattle.insertion.specs.Whole.{answerOf, knotsIn, pointsIn, insertOutcome}
-use Rattle.insertion.specs.Numbers.{editAnswerValues}
+use Rattle.edits.specs.Outcome.{Outcome}
+use Rattle.edits.specs.Whole.{answerOf, knotsIn, pointsIn}
+use Rattle.insertion.specs.Whole.{insertOutcome}
+use Rattle.edits.specs.Numbers.{editAnswerValues}
 use Rattle.trimming.specs.Trim.{trimOutcome}
 use Rattle.elevation.specs.Whole.{elevatedCount, elevateOutcome}
-use Rattle.bounds.specs.Range.{spanOver}
+use Rattle.ranges.specs.Range.{spanOver}
 use Rattle.bounds.specs.Curve.{boundOf}
 use Rattle.bounds.specs.Numbers.{boundedRefusal}
 

@@ -1,9 +1,16 @@
 //! What a call with lent runs has to answer, and our answer beside it.
 use super::Desk;
+use crate::face::tasulogi_class_of;
 use crate::lent::Match;
 use crate::rng::Rng;
-use crate::tables::{class_agrees, hex};
-use oracle::{BCurve, Point3};
+use crate::tables::hex;
+use oracle::{BCurve, Point3, class_of};
+
+/// What our class of a returned number is beside document 01's.
+pub fn class_agrees(number: u32) -> bool {
+    let ours = tasulogi_class_of(number % 100);
+    number == 0 || b"IDUCN".get(ours as usize) == Some(&(class_of(number % 100) as u8))
+}
 
 pub fn point(p: Point3) -> [u64; 3] {
     [p.x, p.y, p.z].map(f64::to_bits)

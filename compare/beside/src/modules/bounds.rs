@@ -5,12 +5,11 @@ mod exact;
 mod list;
 
 use super::answered::{Asked, Wanted, compared};
-use super::{Desk, Module, Place};
-use crate::BLOCK;
+use super::{Desk, Module};
 use crate::rng::Rng;
 use crate::tables::FEATURES;
 use crate::tables::make::Care;
-use crate::tally::Call;
+use crate::tally::{BLOCK, Call, Place};
 use calls::{BOX, CurveCase, SurfaceCase};
 
 const CARE: Care = Care { steep: [400, 300, 100, 15, 4, 2], broken: 6, long: 20_000 };

@@ -3,11 +3,11 @@ mod bench;
 mod calls;
 
 use super::answered::{Asked, Wanted, compared};
-use super::{Desk, Module, Place};
+use super::{Desk, Module};
 use crate::rng::Rng;
 use crate::tables::FEATURES;
 use crate::tables::make::Care;
-use crate::tally::Call;
+use crate::tally::{Call, Place};
 use calls::{Case, Edit};
 
 /// By row: elevation takes a curve apart at each knot, so few of its curves are steep.

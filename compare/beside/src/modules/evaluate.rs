@@ -4,10 +4,10 @@ pub mod calls;
 mod list;
 
 use super::answered::{Asked, Wanted, compared, room};
-use super::{Desk, Module, Place};
+use super::{Desk, Module};
 use crate::tables::make::Care;
 use crate::tables::{FEATURES, double_literal};
-use crate::tally::Call;
+use crate::tally::{Call, Place};
 use calls::{CurveCase, Order, SurfaceCase};
 
 const CARE: Care = Care { steep: [300, 300, 200, 100, 20, 20], broken: 6, long: 20_000 };

@@ -5,10 +5,10 @@ mod exact;
 mod list;
 mod operands;
 
-use super::{Desk, Module, Place};
+use super::{Desk, Module};
 use crate::lent::{Match, matched};
 use crate::tables::hex;
-use crate::tally::Call;
+use crate::tally::{Call, Place};
 use calls::{Answer, CALLS, IntervalCall, Ours};
 use operands::{X, operands};
 

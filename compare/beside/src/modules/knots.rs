@@ -3,12 +3,14 @@ mod bench;
 mod calls;
 mod list;
 
-use super::{Desk, Module, Place};
+use super::answered::class_agrees;
+use super::{Desk, Module};
 use crate::face::{tasulogi_class_of, tasulogi_curve_refusal, tasulogi_surface_refusal};
 use crate::rng::Rng;
+use crate::tables::at;
 use crate::tables::make::{self, Care};
-use crate::tables::{Curve, FEATURES, class_agrees, double_literal, hex, literal};
-use crate::tally::{Call, Tally};
+use crate::tables::{Curve, FEATURES, double_literal, hex, literal};
+use crate::tally::{Call, Place, Tally};
 use calls::*;
 
 const CARE: Care = Care { steep: [200, 300, 200, 150, 50, 30], broken: 32, long: 6000 };
@@ -97,7 +99,7 @@ fn spanned(desk: &mut Desk) -> Option<String> {
     let c = made_curve(desk);
     let r = &mut desk.r;
     let k = Run { degree: c.degree, count: count(r, &c), knots: &c.knots };
-    let u = make::parameter(r, &c.knots);
+    let u = at::parameter(r, &c.knots);
     let want = span(&k, u);
     let got = our_span(&k, u);
     let (number, agrees) = match want {
@@ -129,7 +131,7 @@ fn clamped(desk: &mut Desk) -> Option<String> {
     let c = made_curve(desk);
     let r = &mut desk.r;
     let k = Run { degree: c.degree, count: count(r, &c), knots: &c.knots };
-    let u = make::parameter(r, &c.knots);
+    let u = at::parameter(r, &c.knots);
     let want = clamp(&k, u);
     let got = our_clamp(&k, u);
     let number = if want > u { 1 } else { 2 * (want < u) as u32 };

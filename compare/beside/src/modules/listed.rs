@@ -1,11 +1,11 @@
-//! Lists of tables and answers as words: what the replaying crates read.
+//! Lists of tables and answers as words: what crates/replay reads.
 use super::answered::Wanted;
 use crate::rng::Rng;
 use crate::tables::{Curve, Surface};
 use std::collections::BTreeMap;
 use std::io::{Result, Write};
 
-/// The most numbers of a run that a replaying crate has room for.
+/// The most numbers of a run that crates/replay has room for.
 const ROOM: usize = 512;
 
 /// One pattern for every NaN, so that every machine writes one list.
@@ -124,12 +124,12 @@ fn in_turn(of: Vec<Listed>, most: usize) -> Vec<Listed> {
     ranked.into_iter().take(most).map(|c| c.1).collect()
 }
 
-/// A heading of ten bytes and the number of cases, then a case a line; and the line that is to be printed.
+/// A heading of sixteen bytes and the number of cases, then a case a line; and the line that is to be printed.
 pub fn write(stdin: &mut dyn Write, stdout: &mut dyn Write, name: &str, cases: &[Listed]) -> Result<()> {
-    writeln!(stdin, "{name:<10}{:016x}", cases.len())?;
+    writeln!(stdin, "{name:<16}{:016x}", cases.len())?;
     for c in cases {
         let line: Vec<String> = c.words.iter().map(|w| format!("{w:016x}")).collect();
         writeln!(stdin, "{}", line.join(" "))?;
     }
-    writeln!(stdout, "{name:<10}{} cases, 0 differ", cases.len())
+    writeln!(stdout, "{name:<16}{} cases, 0 differ", cases.len())
 }

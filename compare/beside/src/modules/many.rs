@@ -4,12 +4,13 @@ mod bench;
 use super::answered::{Wanted, room};
 use super::bounds::calls as bounds;
 use super::evaluate::calls as evaluate;
-use super::{Desk, Module, Place};
+use super::{Desk, Module};
 use crate::face::*;
 use crate::lent::Match;
+use crate::tables::at;
 use crate::tables::make::{self, Care};
 use crate::tables::{Curve, FEATURES, LIMIT};
-use crate::tally::Call;
+use crate::tally::{Call, Place};
 use evaluate::Order;
 
 const CARE: Care = Care { steep: [300, 300, 200, 100, 10, 10], broken: 8, long: 8000 };
@@ -107,7 +108,7 @@ fn points(desk: &mut Desk, order: Order) -> Option<String> {
     let (row, width) = if order == Order::Two { (2, 9) } else { (0, 6) };
     let table = made(desk);
     let n = if desk.r.below(20_000) == 0 { LIMIT + 1 } else { desk.r.below(9) as usize };
-    let ts: Vec<f64> = (0..n).map(|i| if i < 9 { make::parameter(&mut desk.r, &table.knots) } else { 0.0 }).collect();
+    let ts: Vec<f64> = (0..n).map(|i| if i < 9 { at::parameter(&mut desk.r, &table.knots) } else { 0.0 }).collect();
     desk.tally.count(ts.iter().take(9));
     let refusal = if n > LIMIT { 30 } else { whole(&table) };
     let mut case = evaluate::CurveCase { table, t: 0.0 };

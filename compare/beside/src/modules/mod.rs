@@ -1,7 +1,7 @@
 //! The modules that are compared. A later one is one file here and one word in `ALL`.
 use crate::lent::Lent;
 use crate::rng::Rng;
-use crate::tally::{Call, Tally};
+use crate::tally::{Call, Place, Tally};
 use std::io::{Result, Write};
 
 mod answered;
@@ -16,13 +16,6 @@ mod timed;
 
 pub use timed::Times;
 
-/// Where a case stands in a run.
-#[derive(Clone, Copy, PartialEq, Eq, PartialOrd, Ord)]
-pub struct Place {
-    pub block: u64,
-    pub case: u64,
-}
-
 /// What a thread makes and compares its cases with.
 pub struct Desk {
     pub r: Rng,
@@ -30,7 +23,7 @@ pub struct Desk {
     pub tally: Tally,
 }
 
-/// Writes a list and what its reader prints.
+/// Writes a part of the replayed list and what its reader prints.
 pub type List = fn(&mut dyn Write, &mut dyn Write) -> Result<()>;
 
 pub struct Module {
@@ -43,7 +36,7 @@ pub struct Module {
     pub default_cases: u64,
     /// Makes a case and compares it; its text where it differs.
     pub case: fn(Place, &mut Desk) -> Option<String>,
-    /// Writes the list that `crates/replay_NAME` reads, where there is one, and the lines that it then has to print.
+    /// Writes the module's part of the list that `crates/replay` reads, where there is one, and the lines that it then has to print.
     pub list: Option<List>,
     /// Times against the Rust, the best of so many rounds.
     pub bench: fn(u32) -> Vec<Times>,

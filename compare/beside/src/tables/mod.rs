@@ -1,7 +1,8 @@
 //! Curves and surfaces as the exported calls take them, what the Rust makes of them, and how a case is told.
+pub mod at;
 pub mod make;
 
-use oracle::{BCurve, BSurface, Point3, Refusal, class_of, refusal};
+use oracle::{BCurve, BSurface, Point3, Refusal, refusal};
 
 /// The most numbers that an input run may have.
 pub const LIMIT: usize = 1_048_576;
@@ -121,12 +122,6 @@ impl Surface {
             weights_literal(self.rational, &self.weights)
         )
     }
-}
-
-/// What our class of a returned number is beside document 01's.
-pub fn class_agrees(number: u32) -> bool {
-    let ours = crate::face::tasulogi_class_of(number % 100);
-    number == 0 || b"IDUCN".get(ours as usize) == Some(&(class_of(number % 100) as u8))
 }
 
 const MOST_TOLD: usize = 300;

@@ -18,12 +18,15 @@ use Rattle.interval.proofs.float.next_down.Reads as next-down-reads
 use Rattle.interval.proofs.float.next_up.Reads as next-up-reads
 
 -- the interval of both reciprocals
-made : (c : tie.After-new) → c .new .result ≡ newOf (nextDown (fmin (div binary64 one+ (c .before .before .before .before .before .before .before .before .before .args .b .lo)) (div binary64 one+ (c .before .before .before .before .before .before .before .before .before .args .b .hi)))) (nextUp (fmax (div binary64 one+ (c .before .before .before .before .before .before .before .before .before .args .b .lo)) (div binary64 one+ (c .before .before .before .before .before .before .before .before .before .args .b .hi))))
+made : (c : tie.After-new)
+    → c .new .result ≡ newOf (nextDown (fmin (div binary64 one+ (c .before .before .before .before .before .before .before .before .before .args .b .lo)) (div binary64 one+ (c .before .before .before .before .before .before .before .before .before .args .b .hi)))) (nextUp (fmax (div binary64 one+ (c .before .before .before .before .before .before .before .before .before .args .b .lo)) (div binary64 one+ (c .before .before .before .before .before .before .before .before .before .args .b .hi))))
 unfolding ofBits
 made c =
     c .new .ensures
     ∙ ap (λ (z : Float). newOf z (c .before .next-up .result)) (c .before .before .before .next-down .ensures ∙ ap nextDown (c .before .before .before .before .min .ensures))
-    ∙ ap (λ (z : Float). newOf (nextDown (fmin (div binary64 one+ (c .before .before .before .before .before .before .before .before .before .args .b .lo)) (div binary64 one+ (c .before .before .before .before .before .before .before .before .before .args .b .hi)))) z) (c .before .next-up .ensures ∙ ap nextUp (c .before .before .max .ensures))
+    ∙ ap
+    (λ (z : Float). newOf (nextDown (fmin (div binary64 one+ (c .before .before .before .before .before .before .before .before .before .args .b .lo)) (div binary64 one+ (c .before .before .before .before .before .before .before .before .before .args .b .hi)))) z)
+    (c .before .next-up .ensures ∙ ap nextUp (c .before .before .max .ensures))
 
 contains-requires : tie.Need-contains-requires
 contains-requires c κs = search needs
@@ -56,7 +59,10 @@ enum-told c = search needs
 returns-2 : tie.Need-returns-2
 unfolding ofBits reciprocalOf containsOf
 returns-2 c =
-    rw (← (c .before .before .before .before .before .before .before .before .before .before .before .contains .ensures), c .before .before .before .before .before .before .before .before .before .before .if1 .left)
+    rw (
+      ← (c .before .before .before .before .before .before .before .before .before .before .before .contains .ensures),
+      c .before .before .before .before .before .before .before .before .before .before .if1 .left,
+    )
     (sym (ap madeBy (sym (made (c .before .before .before)) ∙ c .before .n .given .1)))
 
 returns-3 : tie.Need-returns-3

@@ -26,14 +26,31 @@ is-nan-requires-3 c κs = search needs
 
 returns-3 : tie.Need-returns-3
 unfolding someNan
-returns-3 c = rw (← (c .before .before .before .before .before .is-nan .ensures), c .before .before .before .before .if1 .left, ← (c .before .before .before .is-nan2 .ensures), c .before .before .if2 .left, ← (c .before .is-nan3 .ensures), c .if3 .taken)
+returns-3 c =
+    rw (
+      ← (c .before .before .before .before .before .is-nan .ensures),
+      c .before .before .before .before .if1 .left,
+      ← (c .before .before .before .is-nan2 .ensures),
+      c .before .before .if2 .left,
+      ← (c .before .is-nan3 .ensures),
+      c .if3 .taken,
+    )
 
 is-nan-requires-4 : tie.Need-is-nan-requires-4
 is-nan-requires-4 c κs = search needs
 
 returns-4 : tie.Need-returns-4
 unfolding someNan
-returns-4 c = rw (← (c .before .before .before .before .before .before .is-nan .ensures), c .before .before .before .before .before .if1 .left, ← (c .before .before .before .before .is-nan2 .ensures), c .before .before .before .if2 .left, ← (c .before .before .is-nan3 .ensures), c .before .if3 .left) (c .is-nan4 .ensures)
+returns-4 c =
+    rw (
+      ← (c .before .before .before .before .before .before .is-nan .ensures),
+      c .before .before .before .before .before .if1 .left,
+      ← (c .before .before .before .before .is-nan2 .ensures),
+      c .before .before .before .if2 .left,
+      ← (c .before .before .is-nan3 .ensures),
+      c .before .if3 .left,
+    )
+    (c .is-nan4 .ensures)
 
 pub some-nan-spec : {M : Type 1} → statement M
 some-nan-spec =

@@ -1,28 +1,27 @@
--- The three parts of a line, stored into cleared bytes.
+-- A label and the line's end, stored into cleared bytes.
 -- Assumes nothing.
-use Prim.Native.Nat.{ℕ}
-use mathlib.Core.Path.{_≡_, _∙_, ap}
-use mathlib.Core.List.{List}
+use mathlib.Core.Path.{_≡_}
+use native.Mathlib.Omega.{arith}
 use denote.Ref.{now}
-use lib.ListN.{length, replicate}
-use lib.Seq.{sets}
-use Rattle.listing.specs.Text.{refusedWord}
-use Rattle.listing.proofs.Lines.{refusal-shown}
+use lib.ListN.{length}
 use borrow.Author.Needs.{needs}
+use Rattle.decimals.proofs.Storing.{both-stored, one-stored}
+use Rattle.listing.proofs.Lines.{front-shown}
+use Rattle.listing.specs.Text.{refusalLine}
 use Rattle.listing.proofs.refusal_line.Statement.{statement}
 use Rattle.listing.proofs.refusal_line.Tie as tie
 
 clear-bytes-requires : tie.Need-clear-bytes-requires
 clear-bytes-requires c κs = search needs
 
-put-refused-requires : tie.Need-put-refused-requires
-put-refused-requires c κs = search needs
+slice-aggregate-put-label : tie.Need-slice-aggregate-put-label
+slice-aggregate-put-label c = search needs
 
-cast-put-decimal : tie.Need-cast-put-decimal
-cast-put-decimal c = search needs
+cast-put-label : tie.Need-cast-put-label
+cast-put-label c = search needs
 
-put-decimal-requires : tie.Need-put-decimal-requires
-put-decimal-requires c κs = search needs
+put-label-requires : tie.Need-put-label-requires
+put-label-requires c κs = search needs
 
 element-write-out : tie.Need-element-write-out
 element-write-out c = search needs
@@ -31,21 +30,20 @@ add-result : tie.Need-add-result
 add-result c = search needs
 
 returns : tie.Need-returns
+unfolding refusalLine
 returns c =
-    let a = c .before .before .before .before .before .before .before .args in
-    let long : length (now (a .out)) ≡ 64 = search needs in
-    let d = c .put-decimal .ensures in
-    let cleared = c .before .before .before .before .before .clear-bytes .ensures ∙ ap (λ (n : ℕ). replicate n 0) long in
-    refusal-shown (a .refusal) (c .before .before .before .put-refused .ensures ∙ ap (λ (z : List ℕ). sets z 0 refusedWord) cleared) (d .0) (d .1 .0) (d .1 .1)
+    let long : length (now (c .before .before .before .before .before .before .args .out)) ≡ 2304 = search needs in
+    let a = c .put-label .ensures in
+    front-shown 2304 _ (c .before .before .before .before .clear-bytes .ensures) long (both-stored (a .roomy (search needs)) (one-stored _ _ 10)) (omega arith)
 
 pub refusal-line-spec : {M : Type 1} → statement M
 refusal-line-spec =
     tie.close
     (tie.spec
     clear-bytes-requires
-    put-refused-requires
-    cast-put-decimal
-    put-decimal-requires
+    slice-aggregate-put-label
+    cast-put-label
+    put-label-requires
     element-write-out
     add-result
     returns)

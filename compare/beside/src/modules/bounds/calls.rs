@@ -2,6 +2,7 @@
 use crate::face::*;
 use crate::modules::answered::Wanted;
 use crate::rng::Rng;
+use crate::tables::at;
 use crate::tables::make::{self, Care};
 use crate::tables::{Curve, Surface, double_literal, packed};
 use oracle::{NurbsBounds, ParamRange, bound_curve, bound_surface, refusal};
@@ -37,7 +38,7 @@ fn range_literal(range: (f64, f64)) -> String {
 impl CurveCase {
     pub fn made(r: &mut Rng, care: &Care) -> Self {
         let table = make::curve(r, care);
-        let range = make::range(r, table.degree, table.count(), &table.knots);
+        let range = at::range(r, table.degree, table.count(), &table.knots);
         Self { table, range }
     }
 
@@ -61,8 +62,8 @@ impl CurveCase {
 impl SurfaceCase {
     pub fn made(r: &mut Rng, care: &Care) -> Self {
         let table = make::surface(r, care);
-        let u = make::range(r, table.degrees[0], table.counts[0], &table.knots[0]);
-        let v = make::range(r, table.degrees[1], table.counts[1], &table.knots[1]);
+        let u = at::range(r, table.degrees[0], table.counts[0], &table.knots[0]);
+        let v = at::range(r, table.degrees[1], table.counts[1], &table.knots[1]);
         Self { table, u, v }
     }
 

@@ -2,7 +2,7 @@
 use super::calls::{CurveCase, SurfaceCase};
 use crate::fraction::{Fraction, between};
 use crate::rng::Rng;
-use crate::tables::make::inside;
+use crate::tables::at::inside;
 use crate::tally::Row;
 
 /// A table whose exact numbers would be longer than about so many bits is left out.

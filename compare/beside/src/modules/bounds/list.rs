@@ -1,4 +1,4 @@
-//! The list that crates/replay_bounds reads.
+//! The part of the replayed list on bounds.
 use super::calls::{CurveCase, SurfaceCase};
 use super::{CARE, SURFACE_CARE};
 use crate::modules::listed::{self, Choice, Listed, word};
@@ -21,7 +21,7 @@ fn surface(r: &mut Rng) -> Option<Listed> {
 
 pub fn write(stdin: &mut dyn Write, stdout: &mut dyn Write) -> Result<()> {
     let curves = Choice { stream: 0, tried: 60_000, cases: 300, each: 10 };
-    listed::write(stdin, stdout, "curve", &curves.of(curve))?;
+    listed::write(stdin, stdout, "bound_curve", &curves.of(curve))?;
     let surfaces = Choice { stream: 1, tried: 60_000, cases: 300, each: 6 };
-    listed::write(stdin, stdout, "surface", &surfaces.of(surface))
+    listed::write(stdin, stdout, "bound_surface", &surfaces.of(surface))
 }

@@ -3,6 +3,7 @@ use super::CARE;
 use crate::face::*;
 use crate::modules::answered::{Wanted, coordinates, words};
 use crate::rng::Rng;
+use crate::tables::at;
 use crate::tables::{Curve, double_literal, literal, make, packed};
 use oracle::refusal;
 
@@ -172,19 +173,19 @@ fn inserted(r: &mut Rng, table: &Curve) -> Vec<f64> {
 /// Mostly strictly inside the domain: at a knot, next to one, or between two.
 fn knot(r: &mut Rng, t: &Curve) -> f64 {
     for _ in 0..8 {
-        let x = make::parameter(r, &t.knots);
+        let x = at::parameter(r, &t.knots);
         if t.degree < t.count() && t.count() < t.knots.len() && x > t.knots[t.degree] && x < t.knots[t.count()] {
             return x;
         }
     }
-    make::parameter(r, &t.knots)
+    at::parameter(r, &t.knots)
 }
 
 /// Mostly in order and inside the domain, often at its ends; now and then anything.
 fn ends(r: &mut Rng, t: &Curve) -> (f64, f64) {
     let mut end = |at: usize| match r.below(16) {
         0..4 => t.knots.get(at).map_or(0.5, |k| if *k == 0.0 && r.below(2) == 0 { -*k } else { *k }),
-        4 => make::parameter(r, &t.knots),
+        4 => at::parameter(r, &t.knots),
         _ => knot(r, t),
     };
     let (a, b) = (end(t.degree), end(t.count()));

@@ -4,6 +4,7 @@ use crate::face::*;
 use crate::modules::answered::{Wanted, coordinates, point, words};
 use crate::rng::Rng;
 use crate::steps::eval_at;
+use crate::tables::at;
 use crate::tables::{Curve, Surface, make, packed};
 use oracle::{Vec3, refusal};
 
@@ -37,7 +38,7 @@ fn run(parts: &[[u64; 3]]) -> Wanted {
 impl CurveCase {
     pub fn made(r: &mut Rng) -> Self {
         let table = make::curve(r, &CARE);
-        Self { t: make::parameter(r, &table.knots), table }
+        Self { t: at::parameter(r, &table.knots), table }
     }
 
     /// Validity, 31, 12, and for two derivatives 21.
@@ -84,8 +85,8 @@ impl CurveCase {
 impl SurfaceCase {
     pub fn made(r: &mut Rng) -> Self {
         let table = make::surface(r, &SURFACE_CARE);
-        let u = make::parameter(r, &table.knots[0]);
-        Self { u, v: make::parameter(r, &table.knots[1]), table }
+        let u = at::parameter(r, &table.knots[0]);
+        Self { u, v: at::parameter(r, &table.knots[1]), table }
     }
 
     /// The parameter that an isocurve keeps.

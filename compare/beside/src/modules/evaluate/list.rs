@@ -1,4 +1,4 @@
-//! The list that crates/replay_evaluate reads.
+//! The part of the replayed list on points, the reversed curve and the isocurve.
 use super::calls::{CurveCase, Order, SurfaceCase};
 use crate::modules::listed::{self, Choice, Listed, word};
 use crate::rng::Rng;
@@ -47,7 +47,7 @@ pub fn write(stdin: &mut dyn Write, stdout: &mut dyn Write) -> Result<()> {
     let calls: [(&str, fn(&mut Rng) -> Option<Listed>); 5] = [
         ("eval", |r| point(r, Order::One)),
         ("eval2", |r| point(r, Order::Two)),
-        ("surface", surface_point),
+        ("eval_surface", surface_point),
         ("reversed", reversed),
         ("iso_curve", iso_curve),
     ];

@@ -1,4 +1,4 @@
-//! The list that crates/replay_interval reads: cases of each answer, and of each mix of operands.
+//! The part of the replayed list on intervals: cases of each answer, and of each mix of operands.
 use super::calls::{CALLS, IntervalCall, Ours};
 use super::operands::{X, operands};
 use crate::doubles::kind;

@@ -1,8 +1,9 @@
-//! The list that crates/replay_knots reads.
+//! The part of the replayed list on validation, spans and classes.
 use super::calls::{Run, clamp, next, span};
 use crate::modules::answered::Wanted;
 use crate::modules::listed::{self, Choice, Listed, word};
 use crate::rng::Rng;
+use crate::tables::at;
 use crate::tables::make::{self, Care};
 use std::io::{Result, Write};
 
@@ -21,20 +22,18 @@ fn on_knots(r: &mut Rng, answer: impl Fn(&mut Rng, &Run, &mut Vec<u64>) -> u32) 
 
 fn case(r: &mut Rng, call: &str) -> Option<Listed> {
     match call {
-        "curve" => {
+        "curve_refusal" => {
             let c = make::curve(r, &CARE);
-            let mut words = listed::curve(&c)?;
-            let answer = c.rust().err().unwrap_or(0);
-            words.push(answer as u64);
-            Some(Listed { words, answer })
+            let words = listed::curve(&c)?;
+            Some(Listed::answered(words, Wanted::Refused(c.rust().err().unwrap_or(0)), 0))
         }
-        "surface" => {
+        "surface_refusal" => {
             let s = make::surface(r, &CARE);
             let words = listed::surface(&s)?;
             Some(Listed::answered(words, Wanted::Refused(s.rust().err().unwrap_or(0)), 0))
         }
         "find_span" => on_knots(r, |r, k, words| {
-            let u = make::parameter(r, k.knots);
+            let u = at::parameter(r, k.knots);
             let answer = span(k, u);
             words.extend([word(u), answer.err().unwrap_or(0) as u64, answer.unwrap_or(0) as u64]);
             answer.err().unwrap_or(0)
@@ -46,7 +45,7 @@ fn case(r: &mut Rng, call: &str) -> Option<Listed> {
             answer.is_none() as u32
         }),
         _ => on_knots(r, |r, k, words| {
-            let u = make::parameter(r, k.knots);
+            let u = at::parameter(r, k.knots);
             let answer = clamp(k, u);
             words.extend([word(u), word(answer)]);
             if answer > u { 1 } else { 2 * (answer < u) as u32 }
@@ -55,7 +54,7 @@ fn case(r: &mut Rng, call: &str) -> Option<Listed> {
 }
 
 pub fn write(stdin: &mut dyn Write, stdout: &mut dyn Write) -> Result<()> {
-    let calls = [("curve", 16), ("surface", 9), ("find_span", 16), ("next_span", 80), ("clamp", 60)];
+    let calls = [("curve_refusal", 16), ("surface_refusal", 9), ("find_span", 16), ("next_span", 80), ("clamp", 60)];
     for (stream, (call, each)) in calls.into_iter().enumerate() {
         let choice = Choice { stream: stream as u64, tried: 200_000, cases: 240, each };
         listed::write(stdin, stdout, call, &choice.of(|r| case(r, call)))?;

@@ -67,8 +67,10 @@ mul-share c = omega arith
 
 slice-read-share : tie.Need-slice-read-share Inv-loop μ-loop
 slice-read-share c =
-    let e = length-set (c .before .before .before .before .loop .ndu) (c .before .before .before .before .before .args .j * 65 + c .before .before .before .before .loop .r) (add binary64 (at (now (c .before .before .before .before .before .args .right)) (c .before .before .before .before .loop .r + 1)) (at (now (c .before .before .before .before .before .args .left)) (c .before .before .before .before .before .args .j - c .before .before .before .before .loop .r))) in
-    let l = c .before .before .before .before .loop .inv .long in
+    let a = c .before .before .before .before .before .args in
+    let lp = c .before .before .before .before .loop in
+    let e = length-set (lp .ndu) (a .j * 65 + lp .r) (add binary64 (at (now (a .right)) (lp .r + 1)) (at (now (a .left)) (a .j - lp .r))) in
+    let l = lp .inv .long in
     omega arith
 
 mul-ndu-2 : tie.Need-mul-ndu-2 Inv-loop μ-loop
@@ -76,8 +78,10 @@ mul-ndu-2 c = omega arith
 
 slice-write-ndu-2 : tie.Need-slice-write-ndu-2 Inv-loop μ-loop
 slice-write-ndu-2 c =
-    let e = length-set (c .before .before .before .before .loop .ndu) (c .before .before .before .before .before .args .j * 65 + c .before .before .before .before .loop .r) (add binary64 (at (now (c .before .before .before .before .before .args .right)) (c .before .before .before .before .loop .r + 1)) (at (now (c .before .before .before .before .before .args .left)) (c .before .before .before .before .before .args .j - c .before .before .before .before .loop .r))) in
-    let l = c .before .before .before .before .loop .inv .long in
+    let a = c .before .before .before .before .before .args in
+    let lp = c .before .before .before .before .loop in
+    let e = length-set (lp .ndu) (a .j * 65 + lp .r) (add binary64 (at (now (a .right)) (lp .r + 1)) (at (now (a .left)) (a .j - lp .r))) in
+    let l = lp .inv .long in
     omega arith
 
 add-r : tie.Need-add-r Inv-loop μ-loop
@@ -88,10 +92,11 @@ loop-less c = omega arith
 
 loop-again : tie.Need-loop-again Inv-loop μ-loop
 loop-again c =
+    let l = c .before .before .before .before .loop in
     let st = c .before .before .before .before .before in
     let a = st .args in
     column-step (a .j) (λ k. at (now (a .left)) k) (λ k. at (now (a .right)) k) (now (a .ndu)) (st .pre .0) (st .pre .1 .0) (st .pre .1 .1)
-    (c .before .before .before .before .loop .ndu) (c .before .before .before .before .loop .saved) (c .before .before .before .before .loop .r) (c .before .before .before .before .loop .inv) (c .before .before .before .loop-test .taken) _ _ refl refl
+    (l .ndu) (l .saved) (l .r) (l .inv) (c .before .before .before .loop-test .taken) _ _ refl refl
 
 mul-end : tie.Need-mul-end Inv-loop μ-loop
 mul-end c = omega arith

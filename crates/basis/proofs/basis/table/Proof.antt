@@ -86,24 +86,25 @@ loop-less c = search needs
 loop-again : tie.Need-loop-again Inv-loop μ-loop
 unfolding leftOf rightOf
 loop-again c =
+    let lp = c .before .before .before .before .before .before .before .before .before .loop in
     let st = c .before .before .before .before .before .before .before .before .before .before .before .before in
     let a = st .args in
-    let i = c .before .before .before .before .before .before .before .before .before .loop .inv in
-    let j = c .before .before .before .before .before .before .before .before .before .loop .j in
+    let i = lp .inv in
+    let j = lp .j in
     let l = leftOf (now (a .knots)) (a .span) (a .u) in
     let r = rightOf (now (a .knots)) (a .span) (a .u) in
     let e : j ≡ j + 1 - 1 = omega arith in
     let x = sub binary64 (a .u) (at (now (a .knots)) (a .span + 1 - j)) in
     let y = sub binary64 (at (now (a .knots)) (a .span + j)) (a .u) in
-    let left : Agree j (λ k. at (set (c .before .before .before .before .before .before .before .before .before .loop .left) j x) k) l = agree-more j (c .before .before .before .before .before .before .before .before .before .loop .left) x l (omega arith) (i .4) refl in
-    let right : Agree j (λ k. at (set (c .before .before .before .before .before .before .before .before .before .loop .right) j y) k) r = agree-more j (c .before .before .before .before .before .before .before .before .before .loop .right) y r (omega arith) (i .5) refl in (
+    let left : Agree j (λ k. at (set (lp .left) j x) k) l = agree-more j (lp .left) x l (omega arith) (i .4) refl in
+    let right : Agree j (λ k. at (set (lp .right) j y) k) r = agree-more j (lp .right) y r (omega arith) (i .5) refl in (
       omega arith,
       omega arith,
-      length-set (c .before .before .before .before .before .before .before .before .before .loop .left) j x ∙ i .2,
-      length-set (c .before .before .before .before .before .before .before .before .before .loop .right) j y ∙ i .3,
-      subst (λ (m : ℕ). Agree m (λ k. at (set (c .before .before .before .before .before .before .before .before .before .loop .left) j x) k) l) e left,
-      subst (λ (m : ℕ). Agree m (λ k. at (set (c .before .before .before .before .before .before .before .before .before .loop .right) j y) k) r) e right,
-      table-more l r j (λ k. at (set (c .before .before .before .before .before .before .before .before .before .loop .left) j x) k) (λ k. at (set (c .before .before .before .before .before .before .before .before .before .loop .right) j y) k) (c .before .before .before .before .before .before .before .before .before .loop .ndu) _ (i .0) left right (i .6) (c .before .before .column .ensures),
+      length-set (lp .left) j x ∙ i .2,
+      length-set (lp .right) j y ∙ i .3,
+      subst (λ (m : ℕ). Agree m (λ k. at (set (lp .left) j x) k) l) e left,
+      subst (λ (m : ℕ). Agree m (λ k. at (set (lp .right) j y) k) r) e right,
+      table-more l r j (λ k. at (set (lp .left) j x) k) (λ k. at (set (lp .right) j y) k) (lp .ndu) _ (i .0) left right (i .6) (c .before .before .column .ensures),
       c .before .before .column .ensures .long ∙ i .7,
     )
 

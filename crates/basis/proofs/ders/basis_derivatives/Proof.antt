@@ -41,7 +41,8 @@ returns-2 c =
     let a = c .before .before .before .before .before .before .before .before .before .before .before .before .before .args in
     let m = length (now (a .ders)) in
     let h = sym (c .before .before .before .before .before .before .in-reach .ensures) ∙ not-false _ (c .before .before .before .before .before .if1 .left) in
-    answer-some (a .p) (a .n) (now (a .knots)) (a .span) (a .u) m _ _ h (c .before .before .before .before .before .before .before .before .before .clear .ensures) (c .before .before .small-derivatives .ensures)
+    answer-some
+    (a .p) (a .n) (now (a .knots)) (a .span) (a .u) m _ _ h (c .before .before .before .before .before .before .before .before .before .clear .ensures) (c .before .before .small-derivatives .ensures)
 
 middle-derivatives-requires : tie.Need-middle-derivatives-requires
 middle-derivatives-requires c κs =
@@ -59,7 +60,9 @@ returns-3 c =
     let a = c .before .before .before .before .before .before .before .before .before .before .before .before .before .before .args in
     let m = length (now (a .ders)) in
     let h = sym (c .before .before .before .before .before .before .before .in-reach .ensures) ∙ not-false _ (c .before .before .before .before .before .before .if1 .left) in
-    answer-some (a .p) (a .n) (now (a .knots)) (a .span) (a .u) m _ _ h (c .before .before .before .before .before .before .before .before .before .before .clear .ensures) (c .before .before .middle-derivatives .ensures)
+    answer-some
+    (a .p) (a .n) (now (a .knots)) (a .span) (a .u) m _ _ h (c .before .before .before .before .before .before .before .before .before .before .clear .ensures)
+    (c .before .before .middle-derivatives .ensures)
 
 large-derivatives-requires : tie.Need-large-derivatives-requires
 large-derivatives-requires c κs =
@@ -77,7 +80,9 @@ returns-4 c =
     let a = c .before .before .before .before .before .before .before .before .before .before .before .before .before .before .args in
     let m = length (now (a .ders)) in
     let h = sym (c .before .before .before .before .before .before .before .in-reach .ensures) ∙ not-false _ (c .before .before .before .before .before .before .if1 .left) in
-    answer-some (a .p) (a .n) (now (a .knots)) (a .span) (a .u) m _ _ h (c .before .before .before .before .before .before .before .before .before .before .clear .ensures) (c .before .before .large-derivatives .ensures)
+    answer-some
+    (a .p) (a .n) (now (a .knots)) (a .span) (a .u) m _ _ h (c .before .before .before .before .before .before .before .before .before .before .clear .ensures)
+    (c .before .before .large-derivatives .ensures)
 
 pub basis-derivatives-spec : {M : Type 1} → statement M
 basis-derivatives-spec =

@@ -25,8 +25,8 @@ returns c =
     let st = c .before .before .before .before .before .before .before .before .before .before .before in
     let a = st .args in
     let ra = c .before .before .before .before .before .raw-derivatives in
-    let l = leftOf (now (a .knots)) (a .span) (a .u) in
-    let r = rightOf (now (a .knots)) (a .span) (a .u) in
+    let l = leftOf (now (a .ks)) (a .s) (a .u) in
+    let r = rightOf (now (a .ks)) (a .s) (a .u) in
     done-none (a .p) (a .n) (st .pre .1 .0) l r (now (a .ders)) (ra .last .1 .1 .1 .1 .1 .1 .0) (ra .ensures) (c .if1 .taken)
 
 degree-as-double-requires : tie.Need-degree-as-double-requires
@@ -46,9 +46,12 @@ returns-2 c =
     let st = c .before .before .before .before .before .before .before .before .before .before .before .before .before .before .before .before .before in
     let a = st .args in
     let ra = c .before .before .before .before .before .before .before .before .before .before .before .raw-derivatives in
-    let l = leftOf (now (a .knots)) (a .span) (a .u) in
-    let r = rightOf (now (a .knots)) (a .span) (a .u) in
-    done-one (a .p) (a .n) (st .pre .1 .0) l r (now (a .ders)) (ra .last .1 .1 .1 .1 .1 .1 .0) (ra .ensures) (st .pre .0) (c .before .before .before .before .before .degree-as-double .result) (c .before .before .before .before .before .degree-as-double .ensures) (c .before .before .before .scale-row .last .1 .1 .1 .0) (c .before .before .before .scale-row .ensures) (omega arith) (inl (c .if2 .taken))
+    let l = leftOf (now (a .ks)) (a .s) (a .u) in
+    let r = rightOf (now (a .ks)) (a .s) (a .u) in
+    done-one
+    (a .p) (a .n) (st .pre .1 .0) l r (now (a .ders)) (ra .last .1 .1 .1 .1 .1 .1 .0) (ra .ensures) (st .pre .0) (c .before .before .before .before .before .degree-as-double .result)
+    (c .before .before .before .before .before .degree-as-double .ensures) (c .before .before .before .scale-row .last .1 .1 .1 .0) (c .before .before .before .scale-row .ensures) (omega arith)
+    (inl (c .if2 .taken))
 
 same-length-5 : tie.Need-same-length-5
 same-length-5 c = search needs
@@ -61,9 +64,12 @@ returns-3 c =
     let st = c .before .before .before .before .before .before .before .before .before .before .before .before .before .before .before .before .before .before in
     let a = st .args in
     let ra = c .before .before .before .before .before .before .before .before .before .before .before .before .raw-derivatives in
-    let l = leftOf (now (a .knots)) (a .span) (a .u) in
-    let r = rightOf (now (a .knots)) (a .span) (a .u) in
-    done-one (a .p) (a .n) (st .pre .1 .0) l r (now (a .ders)) (ra .last .1 .1 .1 .1 .1 .1 .0) (ra .ensures) (st .pre .0) (c .before .before .before .before .before .before .degree-as-double .result) (c .before .before .before .before .before .before .degree-as-double .ensures) (c .before .before .before .before .scale-row .last .1 .1 .1 .0) (c .before .before .before .before .scale-row .ensures) (omega arith) (inr (c .if3 .taken))
+    let l = leftOf (now (a .ks)) (a .s) (a .u) in
+    let r = rightOf (now (a .ks)) (a .s) (a .u) in
+    done-one
+    (a .p) (a .n) (st .pre .1 .0) l r (now (a .ders)) (ra .last .1 .1 .1 .1 .1 .1 .0) (ra .ensures) (st .pre .0) (c .before .before .before .before .before .before .degree-as-double .result)
+    (c .before .before .before .before .before .before .degree-as-double .ensures) (c .before .before .before .before .scale-row .last .1 .1 .1 .0)
+    (c .before .before .before .before .scale-row .ensures) (omega arith) (inr (c .if3 .taken))
 
 sub-degree-as-double : tie.Need-sub-degree-as-double
 sub-degree-as-double c = search needs
@@ -82,13 +88,22 @@ same-length-8 c = search needs
 
 returns-4 : tie.Need-returns-4
 returns-4 c =
-    let st = c .before .before .before .before .before .before .before .before .before .before .before .before .before .before .before .before .before .before .before .before .before .before .before in
+    let st =
+    c .before .before .before .before .before .before .before .before .before .before .before .before .before .before .before .before .before .before .before .before .before .before .before in
     let a = st .args in
     let ra = c .before .before .before .before .before .before .before .before .before .before .before .before .before .before .before .before .before .raw-derivatives in
-    let l = leftOf (now (a .knots)) (a .span) (a .u) in
-    let r = rightOf (now (a .knots)) (a .span) (a .u) in
-    done-two (a .p) (a .n) (st .pre .1 .0) l r (now (a .ders)) (ra .last .1 .1 .1 .1 .1 .1 .0) (ra .ensures) (st .pre .0) (c .before .before .before .before .before .before .before .before .before .before .before .degree-as-double .result) (c .before .before .before .before .before .before .before .before .before .before .before .degree-as-double .ensures) (c .before .before .before .before .before .before .before .before .before .scale-row .last .1 .1 .1 .0) (c .before .before .before .before .before .before .before .before .before .scale-row .ensures) (omega arith) (omega arith) (omega arith) _
-    (ap (λ (x : Float). mul binary64 (c .before .before .before .before .before .before .before .before .before .before .before .degree-as-double .result) x) (c .before .before .before .before .degree-as-double2 .ensures)) (c .before .before .scale-row2 .last .1 .1 .1 .0) (c .before .before .scale-row2 .ensures)
+    let l = leftOf (now (a .ks)) (a .s) (a .u) in
+    let r = rightOf (now (a .ks)) (a .s) (a .u) in
+    done-two
+    (a .p) (a .n) (st .pre .1 .0) l r (now (a .ders)) (ra .last .1 .1 .1 .1 .1 .1 .0) (ra .ensures) (st .pre .0)
+    (c .before .before .before .before .before .before .before .before .before .before .before .degree-as-double .result)
+    (c .before .before .before .before .before .before .before .before .before .before .before .degree-as-double .ensures)
+    (c .before .before .before .before .before .before .before .before .before .scale-row .last .1 .1 .1 .0)
+    (c .before .before .before .before .before .before .before .before .before .scale-row .ensures) (omega arith) (omega arith) (omega arith) _
+    (ap
+    (λ (x : Float). mul binary64 (c .before .before .before .before .before .before .before .before .before .before .before .degree-as-double .result) x)
+    (c .before .before .before .before .degree-as-double2 .ensures))
+    (c .before .before .scale-row2 .last .1 .1 .1 .0) (c .before .before .scale-row2 .ensures)
 
 pub derivatives-by-spec : {M : Type 1} → statement M
 derivatives-by-spec =

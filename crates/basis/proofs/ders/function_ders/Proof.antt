@@ -42,7 +42,10 @@ returns-2 c =
     let st = c .before .before .before .before .before .before .before in
     let a = st .args in
     let ro = c .before .row in
-    ders-one (cell (now (a .ndu))) (a .p) (a .r) (a .n) (omega arith) (now (a .ders)) (st .pre .1 .1 .1 .1 .0) (omega arith) _ (first-is (cell (now (a .ndu))) (a .p) (a .r) (omega arith) (omega arith) (set (replicate 3 (floats .nought)) 0 (floats .one)) (ro .last .1 .1 .1 .1 .1 .0) (ro .result) refl (ro .ensures)) (omega arith) (inl (c .if2 .taken))
+    ders-one
+    (cell (now (a .ndu))) (a .p) (a .r) (a .n) (omega arith) (now (a .ders)) (st .pre .1 .1 .1 .1 .0) (omega arith) _
+    (first-is (cell (now (a .ndu))) (a .p) (a .r) (omega arith) (omega arith) (set (replicate 3 (floats .nought)) 0 (floats .one)) (ro .last .1 .1 .1 .1 .1 .0) (ro .result) refl (ro .ensures))
+    (omega arith) (inl (c .if2 .taken))
 
 same-length-2 : tie.Need-same-length-2
 same-length-2 c = search needs
@@ -52,7 +55,10 @@ returns-3 c =
     let st = c .before .before .before .before .before .before .before .before in
     let a = st .args in
     let ro = c .before .before .row in
-    ders-one (cell (now (a .ndu))) (a .p) (a .r) (a .n) (omega arith) (now (a .ders)) (st .pre .1 .1 .1 .1 .0) (omega arith) _ (first-is (cell (now (a .ndu))) (a .p) (a .r) (omega arith) (omega arith) (set (replicate 3 (floats .nought)) 0 (floats .one)) (ro .last .1 .1 .1 .1 .1 .0) (ro .result) refl (ro .ensures)) (omega arith) (inr (c .if3 .taken))
+    ders-one
+    (cell (now (a .ndu))) (a .p) (a .r) (a .n) (omega arith) (now (a .ders)) (st .pre .1 .1 .1 .1 .0) (omega arith) _
+    (first-is (cell (now (a .ndu))) (a .p) (a .r) (omega arith) (omega arith) (set (replicate 3 (floats .nought)) 0 (floats .one)) (ro .last .1 .1 .1 .1 .1 .0) (ro .result) refl (ro .ensures))
+    (omega arith) (inr (c .if3 .taken))
 
 row-requires-2 : tie.Need-row-requires-2
 row-requires-2 c κs = search needs
@@ -77,7 +83,13 @@ returns-4 c =
     let st = c .before .before .before .before .before .before .before .before .before .before .before in
     let a = st .args in
     let ro = c .before .before .before .before .before .row in
-    ders-two (cell (now (a .ndu))) (a .p) (a .r) (a .n) (omega arith) (now (a .ders)) (st .pre .1 .1 .1 .1 .0) (omega arith) _ _ (first-is (cell (now (a .ndu))) (a .p) (a .r) (omega arith) (omega arith) (set (replicate 3 (floats .nought)) 0 (floats .one)) (ro .last .1 .1 .1 .1 .1 .0) (ro .result) refl (ro .ensures)) (second-is (cell (now (a .ndu))) (a .p) (a .r) (omega arith) (omega arith) (set (replicate 3 (floats .nought)) 0 (floats .one)) (ro .last .1 .1 .1 .1 .1 .0) (ro .result) refl (ro .ensures) (omega arith) _ _ (c .row2 .ensures)) (omega arith)
+    ders-two
+    (cell (now (a .ndu))) (a .p) (a .r) (a .n) (omega arith) (now (a .ders)) (st .pre .1 .1 .1 .1 .0) (omega arith) _ _
+    (first-is (cell (now (a .ndu))) (a .p) (a .r) (omega arith) (omega arith) (set (replicate 3 (floats .nought)) 0 (floats .one)) (ro .last .1 .1 .1 .1 .1 .0) (ro .result) refl (ro .ensures))
+    (second-is
+    (cell (now (a .ndu))) (a .p) (a .r) (omega arith) (omega arith) (set (replicate 3 (floats .nought)) 0 (floats .one)) (ro .last .1 .1 .1 .1 .1 .0) (ro .result) refl (ro .ensures) (omega arith) _ _
+    (c .row2 .ensures))
+    (omega arith)
 
 pub function-ders-spec : {M : Type 1} → statement M
 function-ders-spec =

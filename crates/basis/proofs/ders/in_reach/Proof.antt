@@ -38,7 +38,13 @@ returns-5 : tie.Need-returns-5
 unfolding inReach
 returns-5 c =
     let a = c .before .before .before .before .before .args in
-    simp (lt-ltb 0 (a .p) (omega arith), le-leb (a .p) 64 (omega arith), le-leb (a .n) 2 (omega arith), le-leb (a .p) (a .span) (omega arith), le-ltb (a .span + a .p) (length (now (a .knots))) (omega arith))
+    simp (
+      lt-ltb 0 (a .p) (omega arith),
+      le-leb (a .p) 64 (omega arith),
+      le-leb (a .n) 2 (omega arith),
+      le-leb (a .p) (a .span) (omega arith),
+      le-ltb (a .span + a .p) (length (now (a .knots))) (omega arith),
+    )
 
 sub-if6 : tie.Need-sub-if6
 sub-if6 c = search needs
@@ -47,13 +53,25 @@ returns-6 : tie.Need-returns-6
 unfolding inReach
 returns-6 c =
     let a = c .before .before .before .before .before .before .args in
-    simp (lt-ltb 0 (a .p) (omega arith), le-leb (a .p) 64 (omega arith), le-leb (a .n) 2 (omega arith), le-leb (a .p) (a .span) (omega arith), le-ltb (a .span + a .p) (length (now (a .knots))) (omega arith))
+    simp (
+      lt-ltb 0 (a .p) (omega arith),
+      le-leb (a .p) 64 (omega arith),
+      le-leb (a .n) 2 (omega arith),
+      le-leb (a .p) (a .span) (omega arith),
+      le-ltb (a .span + a .p) (length (now (a .knots))) (omega arith),
+    )
 
 returns-7 : tie.Need-returns-7
 unfolding inReach
 returns-7 c =
     let a = c .before .before .before .before .before .before .args in
-    simp (lt-ltb 0 (a .p) (omega arith), le-leb (a .p) 64 (omega arith), le-leb (a .n) 2 (omega arith), le-leb (a .p) (a .span) (omega arith), lt-ltb (a .span + a .p) (length (now (a .knots))) (omega arith))
+    simp (
+      lt-ltb 0 (a .p) (omega arith),
+      le-leb (a .p) 64 (omega arith),
+      le-leb (a .n) 2 (omega arith),
+      le-leb (a .p) (a .span) (omega arith),
+      lt-ltb (a .span + a .p) (length (now (a .knots))) (omega arith),
+    )
 
 pub in-reach-spec : {M : Type 1} → statement M
 in-reach-spec =

@@ -59,8 +59,12 @@ loop-again : tie.Need-loop-again Inv-loop μ-loop
 loop-again c =
     let lo = c .before .before .before .before .before .before .before .loop in
     let st = c .before .before .before .before .before .before .before .before .before .before .before .before .before .before .before in
-    let t = c .before .before .before .before .before .before .before .before .before .before .table .last .1 .1 .1 .1 .0 in
-    (omega arith, ders-more (cell t) (st .args .p) (st .args .n) (st .pre .1 .0) (now (st .args .ders)) (st .pre .0) (lo .r) (omega arith) (lo .ders) (c .before .before .function-ders .last .1 .1 .1 .1 .0) (lo .inv .1) (c .before .before .function-ders .ensures))
+    let t = c .before .before .before .before .before .before .before .before .before .before .table .last .1 .1 .1 .1 .0 in (
+      omega arith,
+      ders-more
+          (cell t) (st .args .p) (st .args .n) (st .pre .1 .0) (now (st .args .ders)) (st .pre .0) (lo .r) (omega arith) (lo .ders) (c .before .before .function-ders .last .1 .1 .1 .1 .0) (lo .inv .1)
+          (c .before .before .function-ders .ensures),
+    )
 
 same-length : tie.Need-same-length Inv-loop μ-loop
 same-length c = search needs

@@ -1,11 +1,10 @@
-use mathlib.Core.Path.{_≡_, refl, sym, ap, _∙_, subst}
 use Rattle.bounds.specs.Start.{controlOf}
 use borrow.Author.Needs.{needs}
 use Rattle.bounds.proofs.start.control.Statement.{statement}
 use Rattle.bounds.proofs.start.control.Tie as tie
 use Rattle.bounds.proofs.start.control.Reads as reads
 use Rattle.bounds.proofs.start.control.Lts as lts
-use Rattle.bounds.proofs.jet.Jet.constant.Reads as constant-reads
+use Rattle.jets.proofs.jet.Jet.constant.Reads as constant-reads
 use Rattle.bounds.proofs.start.moved.Reads as moved-reads
 use Rattle.interval.proofs.Interval.mul.Reads as mul-reads
 use Rattle.interval.proofs.Interval.point.Reads as point-reads
@@ -30,7 +29,15 @@ constant-requires c κs = search needs
 
 returns : tie.Need-returns
 unfolding controlOf
-returns c = rw ((c .constant .ensures), (c .before .moved3 .ensures), (c .before .before .moved2 .ensures), (c .before .before .before .moved .ensures), (c .before .before .before .before .mul .ensures), (c .before .before .before .before .before .point .ensures))
+returns c =
+    rw (
+      (c .constant .ensures),
+      (c .before .moved3 .ensures),
+      (c .before .before .moved2 .ensures),
+      (c .before .before .before .moved .ensures),
+      (c .before .before .before .before .mul .ensures),
+      (c .before .before .before .before .before .point .ensures),
+    )
 
 pub control-spec : {M : Type 1} → statement M
 control-spec =

@@ -4,7 +4,7 @@ use Rattle.bounds.proofs.start.moved.Statement.{statement}
 use Rattle.bounds.proofs.start.moved.Tie as tie
 use Rattle.bounds.proofs.start.moved.Reads as reads
 use Rattle.bounds.proofs.start.moved.Lts as lts
-use Rattle.bounds.proofs.jet.Jet.constant.Reads as constant-reads
+use Rattle.jets.proofs.jet.Jet.constant.Reads as constant-reads
 use Rattle.interval.proofs.Interval.mul.Reads as mul-reads
 use Rattle.interval.proofs.Interval.point.Reads as point-reads
 use Rattle.interval.proofs.Interval.sub.Reads as sub-reads

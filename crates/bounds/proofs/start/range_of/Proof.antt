@@ -27,7 +27,15 @@ lo-requires c κs = search needs
 
 returns : tie.Need-returns
 unfolding rangeOf ofBits
-returns c = rw (← (c .before .before .before .before .before .before .before .point .ensures), ← (c .before .before .before .before .before .before .point2 .ensures), ← (c .before .before .before .before .before .divide .ensures), c .before .before .before .q .given .1, ← (c .before .lo .ensures), c .if1 .taken)
+returns c =
+    rw (
+      ← (c .before .before .before .before .before .before .before .point .ensures),
+      ← (c .before .before .before .before .before .before .point2 .ensures),
+      ← (c .before .before .before .before .before .divide .ensures),
+      c .before .before .before .q .given .1,
+      ← (c .before .lo .ensures),
+      c .if1 .taken,
+    )
 
 new-requires : tie.Need-new-requires
 new-requires c κs = search needs
@@ -46,11 +54,31 @@ enum-told-3 c = search needs
 
 returns-2 : tie.Need-returns-2
 unfolding rangeOf ofBits
-returns-2 c = rw (← (c .before .before .before .before .before .before .before .before .before .before .before .point .ensures), ← (c .before .before .before .before .before .before .before .before .before .before .point2 .ensures), ← (c .before .before .before .before .before .before .before .before .before .divide .ensures), c .before .before .before .before .before .before .before .q .given .1, ← (c .before .before .before .before .before .lo .ensures), c .before .before .before .before .if1 .left, ← (c .before .before .before .new .ensures), c .before .b .given .1)
+returns-2 c =
+    rw (
+      ← (c .before .before .before .before .before .before .before .before .before .before .before .point .ensures),
+      ← (c .before .before .before .before .before .before .before .before .before .before .point2 .ensures),
+      ← (c .before .before .before .before .before .before .before .before .before .divide .ensures),
+      c .before .before .before .before .before .before .before .q .given .1,
+      ← (c .before .before .before .before .before .lo .ensures),
+      c .before .before .before .before .if1 .left,
+      ← (c .before .before .before .new .ensures),
+      c .before .b .given .1,
+    )
 
 returns-3 : tie.Need-returns-3
 unfolding rangeOf ofBits
-returns-3 c = rw (← (c .before .before .before .before .before .before .before .before .before .before .point .ensures), ← (c .before .before .before .before .before .before .before .before .before .point2 .ensures), ← (c .before .before .before .before .before .before .before .before .divide .ensures), c .before .before .before .before .before .before .q .given .1, ← (c .before .before .before .before .lo .ensures), c .before .before .before .if1 .left, ← (c .before .before .new .ensures), c .enum-told .given .1)
+returns-3 c =
+    rw (
+      ← (c .before .before .before .before .before .before .before .before .before .before .point .ensures),
+      ← (c .before .before .before .before .before .before .before .before .before .point2 .ensures),
+      ← (c .before .before .before .before .before .before .before .before .divide .ensures),
+      c .before .before .before .before .before .before .q .given .1,
+      ← (c .before .before .before .before .lo .ensures),
+      c .before .before .before .if1 .left,
+      ← (c .before .before .new .ensures),
+      c .enum-told .given .1,
+    )
 
 returns-4 : tie.Need-returns-4
 unfolding rangeOf ofBits

@@ -1,7 +1,3 @@
-use mathlib.Core.Path.{_≡_, refl, sym, ap, ap₂, _∙_, subst}
-use native.Mathlib.Omega.{arith}
-use denote.Ref.{now}
-use Prim.Native.Nat.{ℕ, _+_, _-_, _*_, _≤_}
 use Rattle.bounds.specs.Start.{rowOf}
 use borrow.Author.Needs.{needs}
 use Rattle.bounds.proofs.start.row_of.Statement.{statement}

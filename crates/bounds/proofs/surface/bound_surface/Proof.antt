@@ -1,13 +1,9 @@
-use mathlib.Core.Path.{_≡_, refl, sym, ap, ap₂, _∙_, subst}
-use native.Mathlib.Omega.{arith}
-use denote.Ref.{now}
-use Prim.Native.Nat.{ℕ, _+_, _-_, _*_, _≤_, _<_}
-use lib.ListN.{length}
+use mathlib.Core.Path.{sym, ap, _∙_}
+use borrow.Author.Needs.{needs}
 use Rattle.bounds.specs.Surface.{surfaceOf}
 use Rattle.bounds.specs.declared.answer.Bounded.the-variants.{Refused}
 use Rattle.knots.proofs.Refusals.{stop, skip}
 use Rattle.knots.specs.declared.refusal.Refusal.{Refusal}
-use borrow.Author.Needs.{needs}
 use Rattle.bounds.proofs.surface.bound_surface.Statement.{statement}
 use Rattle.bounds.proofs.surface.bound_surface.Tie as tie
 use Rattle.bounds.proofs.surface.bound_surface.Reads as reads

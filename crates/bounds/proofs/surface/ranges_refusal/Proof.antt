@@ -6,8 +6,8 @@ use Rattle.bounds.proofs.surface.ranges_refusal.Statement.{statement}
 use Rattle.bounds.proofs.surface.ranges_refusal.Tie as tie
 use Rattle.bounds.proofs.surface.ranges_refusal.Reads as reads
 use Rattle.bounds.proofs.surface.ranges_refusal.Lts as lts
-use Rattle.bounds.proofs.range.range_refusal.Reads as range-refusal-reads
 use Rattle.knots.proofs.refusal.refuse.Reads as refuse-reads
+use Rattle.ranges.proofs.range.range_refusal.Reads as range-refusal-reads
 
 refuse-requires : tie.Need-refuse-requires
 refuse-requires c κs = search needs

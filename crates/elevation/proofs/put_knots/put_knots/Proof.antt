@@ -18,13 +18,18 @@ shared-slice-read-fill : tie.Need-shared-slice-read-fill
 shared-slice-read-fill c = search needs
 
 fill-requires : tie.Need-fill-requires
-fill-requires c κs = let r = raised-parts (c .before .before .before .before .args .p) (c .before .before .before .before .args .e) (c .before .before .before .before .args .n) (now (c .before .before .before .before .args .knots)) (breaksOf (c .before .before .before .before .args .p) (c .before .before .before .before .args .n) (now (c .before .before .before .before .args .knots))) in let q = c .before .before .before .before .pre .1 in omega arith
+fill-requires c κs =
+    let a = c .before .before .before .before .args in
+    let r = raised-parts (a .p) (a .e) (a .n) (now (a .knots)) (breaksOf (a .p) (a .n) (now (a .knots))) in let q = c .before .before .before .before .pre .1 in omega arith
 
 add-put-breaks : tie.Need-add-put-breaks
 add-put-breaks c = search needs
 
 put-breaks-requires : tie.Need-put-breaks-requires
-put-breaks-requires c κs = ((c .before .before .before .before .before .before .before .before .pre .0 .0, omega arith, c .before .before .before .before .before .before .before .before .pre .0 .2), breaks-room (c .before .before .before .before .before .before .before .before .args .p) (c .before .before .before .before .before .before .before .before .args .e) (c .before .before .before .before .before .before .before .before .args .n) (now (c .before .before .before .before .before .before .before .before .args .knots)) (breaksOf (c .before .before .before .before .before .before .before .before .args .p) (c .before .before .before .before .before .before .before .before .args .n) (now (c .before .before .before .before .before .before .before .before .args .knots))) (now (c .before .before .before .before .before .before .before .before .args .out)) (c .before .before .before .before .before .before .before .before .pre .1) _ (c .before .before .before .fill .ensures))
+put-breaks-requires c κs =
+    let a = c .before .before .before .before .before .before .before .before .args in
+    let q = c .before .before .before .before .before .before .before .before .pre in
+    ((q .0 .0, omega arith, q .0 .2), breaks-room (a .p) (a .e) (a .n) (now (a .knots)) (breaksOf (a .p) (a .n) (now (a .knots))) (now (a .out)) (q .1) _ (c .before .before .before .fill .ensures))
 
 add-fill-2 : tie.Need-add-fill-2
 add-fill-2 c = search needs
@@ -36,13 +41,25 @@ shared-slice-read-fill-2 : tie.Need-shared-slice-read-fill-2
 shared-slice-read-fill-2 c = search needs
 
 fill-requires-2 : tie.Need-fill-requires-2
-fill-requires-2 c κs = end-room (c .before .before .before .before .before .before .before .before .before .before .before .before .before .args .p) (c .before .before .before .before .before .before .before .before .before .before .before .before .before .args .e) (c .before .before .before .before .before .before .before .before .before .before .before .before .before .args .n) (now (c .before .before .before .before .before .before .before .before .before .before .before .before .before .args .knots)) (breaksOf (c .before .before .before .before .before .before .before .before .before .before .before .before .before .args .p) (c .before .before .before .before .before .before .before .before .before .before .before .before .before .args .n) (now (c .before .before .before .before .before .before .before .before .before .before .before .before .before .args .knots))) (now (c .before .before .before .before .before .before .before .before .before .before .before .before .before .args .out)) (c .before .before .before .before .before .before .before .before .before .before .before .before .before .pre .1) _ (c .before .before .before .before .before .before .before .before .fill .ensures) _ (c .before .before .before .before .put-breaks .ensures .1) _ (c .before .before .before .before .put-breaks .ensures .0)
+fill-requires-2 c κs =
+    let a = c .before .before .before .before .before .before .before .before .before .before .before .before .before .args in
+    end-room
+    (a .p) (a .e) (a .n) (now (a .knots)) (breaksOf (a .p) (a .n) (now (a .knots))) (now (a .out))
+    (c .before .before .before .before .before .before .before .before .before .before .before .before .before .pre .1) _
+    (c .before .before .before .before .before .before .before .before .fill .ensures) _ (c .before .before .before .before .put-breaks .ensures .1) _
+    (c .before .before .before .before .put-breaks .ensures .0)
 
 same-length : tie.Need-same-length
 same-length c = search needs
 
 returns : tie.Need-returns
-returns c = knots-whole (c .before .before .before .before .before .before .before .before .before .before .before .before .before .before .before .before .args .p) (c .before .before .before .before .before .before .before .before .before .before .before .before .before .before .before .before .args .e) (c .before .before .before .before .before .before .before .before .before .before .before .before .before .before .before .before .args .n) (now (c .before .before .before .before .before .before .before .before .before .before .before .before .before .before .before .before .args .knots)) (breaksOf (c .before .before .before .before .before .before .before .before .before .before .before .before .before .before .before .before .args .p) (c .before .before .before .before .before .before .before .before .before .before .before .before .before .before .before .before .args .n) (now (c .before .before .before .before .before .before .before .before .before .before .before .before .before .before .before .before .args .knots))) (now (c .before .before .before .before .before .before .before .before .before .before .before .before .before .before .before .before .args .out)) (c .before .before .before .before .before .before .before .before .before .before .before .before .before .before .before .before .pre .1) _ (c .before .before .before .before .before .before .before .before .before .before .before .fill .ensures) _ (c .before .before .before .before .before .before .before .put-breaks .ensures .1) _ (c .before .before .before .before .before .before .before .put-breaks .ensures .0) _ (c .before .before .fill2 .ensures)
+returns c =
+    let a = c .before .before .before .before .before .before .before .before .before .before .before .before .before .before .before .before .args in
+    knots-whole
+    (a .p) (a .e) (a .n) (now (a .knots)) (breaksOf (a .p) (a .n) (now (a .knots))) (now (a .out))
+    (c .before .before .before .before .before .before .before .before .before .before .before .before .before .before .before .before .pre .1) _
+    (c .before .before .before .before .before .before .before .before .before .before .before .fill .ensures) _ (c .before .before .before .before .before .before .before .put-breaks .ensures .1) _
+    (c .before .before .before .before .before .before .before .put-breaks .ensures .0) _ (c .before .before .fill2 .ensures)
 
 pub put-knots-spec : {M : Type 1} → statement M
 put-knots-spec =

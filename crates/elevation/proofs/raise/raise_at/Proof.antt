@@ -23,7 +23,12 @@ blend-of-requires : tie.Need-blend-of-requires
 blend-of-requires c κs = search needs
 
 returns : tie.Need-returns
-returns c = raise-mid (c .before .before .before .before .before .args .d) (controlIn (now (c .before .before .before .before .before .args .rows))) (c .before .before .before .before .before .args .i) (c .before .before .before .before .before .pre .0 .1) (c .before .before .before .before .before .pre .0 .2) _ _ _ _ (c .before .row-at2 .ensures) (c .before .before .row-at .ensures) (c .before .before .before .raise-share .ensures) (c .blend-of .ensures)
+returns c =
+    let a = c .before .before .before .before .before .args in
+    let q = c .before .before .before .before .before .pre in
+    raise-mid
+    (a .d) (controlIn (now (a .rows))) (a .i) (q .0 .1) (q .0 .2) _ _ _ _ (c .before .row-at2 .ensures) (c .before .before .row-at .ensures) (c .before .before .before .raise-share .ensures)
+    (c .blend-of .ensures)
 
 pub raise-at-spec : {M : Type 1} → statement M
 raise-at-spec =

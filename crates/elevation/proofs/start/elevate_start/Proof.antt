@@ -16,7 +16,9 @@ unfolding elevateStart
 returns c = simp (stop (c .before .before .edit-start .ensures) (c .if1 .taken)) (c .before .before .edit-start .ensures)
 
 raise-start-requires : tie.Need-raise-start-requires
-raise-start-requires c κs = edit-small (c .before .before .before .before .before .before .args .degree) (now (c .before .before .before .before .before .before .args .knots)) (now (c .before .before .before .before .before .before .args .points)) (c .before .before .before .before .before .before .args .rational) (now (c .before .before .before .before .before .before .args .weights)) _ (c .before .before .edit-start .ensures) (c .if1 .left)
+raise-start-requires c κs =
+    let a = c .before .before .before .before .before .before .args in
+    edit-small (a .degree) (now (a .knots)) (now (a .points)) (a .rational) (now (a .weights)) _ (c .before .before .edit-start .ensures) (c .if1 .left)
 
 returns-2 : tie.Need-returns-2
 unfolding elevateStart

@@ -20,10 +20,18 @@ count-breaks-requires : tie.Need-count-breaks-requires
 count-breaks-requires c κs = search needs
 
 raised-count-requires : tie.Need-raised-count-requires
-raised-count-requires c κs = let w = breaks-small (c .before .before .before .args .p) (c .before .before .before .args .n) (now (c .before .before .before .args .knots)) (c .before .before .before .pre .0 .0) (c .before .before .before .pre .0 .2) in let v = full-le (c .before .before .before .args .p) (now (c .before .before .before .args .knots)) (breaksOf (c .before .before .before .args .p) (c .before .before .before .args .n) (now (c .before .before .before .args .knots))) in let x = c .count-breaks .ensures .breaks in let y = c .count-breaks .ensures .full in (c .before .before .before .pre .1 (c .before .if1 .left), omega arith, omega arith)
+raised-count-requires c κs =
+    let a = c .before .before .before .args in
+    let q = c .before .before .before .pre in
+    let w = breaks-small (a .p) (a .n) (now (a .knots)) (q .0 .0) (q .0 .2) in
+    let v = full-le (a .p) (now (a .knots)) (breaksOf (a .p) (a .n) (now (a .knots))) in
+    let x = c .count-breaks .ensures .breaks in let y = c .count-breaks .ensures .full in (q .1 (c .before .if1 .left), omega arith, omega arith)
 
 returns-2 : tie.Need-returns-2
-returns-2 c = c .raised-count .ensures ∙ counted (c .before .before .before .before .args .p) (c .before .before .before .before .args .n) (now (c .before .before .before .before .args .knots)) (c .before .before .before .before .pre .0 .0) (c .before .before .before .before .pre .0 .2) (c .before .before .before .before .args .e) _ _ (c .before .before .if1 .left) (c .before .count-breaks .ensures)
+returns-2 c =
+    let a = c .before .before .before .before .args in
+    let q = c .before .before .before .before .pre in
+    c .raised-count .ensures ∙ counted (a .p) (a .n) (now (a .knots)) (q .0 .0) (q .0 .2) (a .e) _ _ (c .before .before .if1 .left) (c .before .count-breaks .ensures)
 
 pub elevated-count-spec : {M : Type 1} → statement M
 elevated-count-spec =

@@ -33,7 +33,10 @@ shared-slice-read-if1-2 : tie.Need-shared-slice-read-if1-2 Inv-loop μ-loop
 shared-slice-read-if1-2 c = search needs
 
 returns : tie.Need-returns Inv-loop μ-loop
-returns c = walk-found (now (c .before .before .before .before .before .args .knots)) (c .before .before .before .before .before .args .n) (c .before .before .before .before .before .args .from) (c .before .before .before .before .loop .k) (c .before .before .before .before .loop .inv) (c .before .before .before .loop-test .taken) (not-true _ (c .if1 .taken))
+returns c =
+    let a = c .before .before .before .before .before .args in
+    let l = c .before .before .before .before .loop in
+    walk-found (now (a .knots)) (a .n) (a .from) (l .k) (l .inv) (c .before .before .before .loop-test .taken) (not-true _ (c .if1 .taken))
 
 add-k : tie.Need-add-k Inv-loop μ-loop
 add-k c = search needs
@@ -42,7 +45,10 @@ loop-less : tie.Need-loop-less Inv-loop μ-loop
 loop-less c = search needs
 
 loop-again : tie.Need-loop-again Inv-loop μ-loop
-loop-again c = walk-more (now (c .before .before .before .before .before .args .knots)) (c .before .before .before .before .before .args .n) (c .before .before .before .before .before .args .from) (c .before .before .before .before .loop .k) (c .before .before .before .before .loop .inv) (c .before .before .before .loop-test .taken) (not-false _ (c .if1 .left))
+loop-again c =
+    let a = c .before .before .before .before .before .args in
+    let l = c .before .before .before .before .loop in
+    walk-more (now (a .knots)) (a .n) (a .from) (l .k) (l .inv) (c .before .before .before .loop-test .taken) (not-false _ (c .if1 .left))
 
 returns-2 : tie.Need-returns-2 Inv-loop μ-loop
 returns-2 c = walk-end (now (c .before .before .args .knots)) (c .before .before .args .n) (c .before .before .args .from) (c .before .loop .k) (c .before .loop .inv) (c .loop-test .left)

@@ -5,9 +5,9 @@ use mathlib.Core.Path.{_≡_, subst}
 use native.Mathlib.Omega.{arith}
 use denote.Ref.{now}
 use borrow.Author.Needs.{needs}
-use Rattle.evaluate.specs.Controls.{largestFrom}
+use Rattle.runs.specs.Larger.{largestFrom}
 use Rattle.doubles.specs.Run.{at}
-use Rattle.evaluate.proofs.Sums.{largest-none, largest-more}
+use Rattle.runs.proofs.Largest.{largest-none, largest-more}
 use Rattle.evaluate.proofs.controls.largest_in.Statement.{statement}
 use Rattle.evaluate.proofs.controls.largest_in.Tie as tie
 
@@ -40,8 +40,9 @@ loop-less c = search needs
 
 loop-again : tie.Need-loop-again Inv-loop μ-loop
 loop-again c =
+    let l = c .before .before .before .loop in
     let s = c .before .before .before .before .before .args in
-    (omega arith, largest-more (s .m) (λ j. at (now (s .weights)) (s .first + j)) (c .before .before .before .loop .j) (c .before .before .before .loop .a) _ (c .before .before .before .loop .inv .1) (c .larger-of .ensures))
+    (omega arith, largest-more (s .m) (λ j. at (now (s .weights)) (s .first + j)) (l .j) (l .a) _ (l .inv .1) (c .larger-of .ensures))
 
 returns : tie.Need-returns Inv-loop μ-loop
 returns c =

@@ -6,8 +6,9 @@ use native.Mathlib.Omega.{arith}
 use denote.Ref.{now}
 use lib.Ieee.{ofBits}
 use Rattle.basis.specs.Basis.{cell}
-use Rattle.evaluate.specs.Controls.{noSums, sumsFrom, pointOf, rowTerm, rowSums}
-use Rattle.evaluate.proofs.Sums.{sums-none, sums-more, term-is}
+use Rattle.evaluate.specs.Controls.{noSums, sumsFrom, rowTerm, rowSums}
+use Rattle.runs.specs.Point.{pointOf}
+use Rattle.evaluate.proofs.Summed.{sums-none, sums-more, term-is}
 use borrow.Author.Needs.{needs}
 use Rattle.evaluate.proofs.controls.row_sums.Statement.{statement}
 use Rattle.evaluate.proofs.controls.row_sums.Tie as tie
@@ -64,8 +65,16 @@ loop-again : tie.Need-loop-again Inv-loop μ-loop
 loop-again c =
     let a = c .before .before .before .before .before .before .before .before .before .before .args in
     let l = c .before .before .before .before .before .before .loop in
-    let t = term-is (a .two) (now (a .points)) (a .rational) (now (a .weights)) (a .scale) (a .first) (l .j) (cell (now (a .ders)) (a .k)) (pointOf (now (a .points)) (a .first)) _ _ _ (c .before .before .before .before .before .before .before .point-at .ensures) (c .before .before .point-at2 .ensures) (c .before .before .before .weight-at .ensures) _ (c .before .term-of .ensures) in
-    (omega arith, sums-more noSums (rowTerm (a .two) (now (a .points)) (a .rational) (now (a .weights)) (a .scale) (pointOf (now (a .points)) (a .first)) (a .first) (cell (now (a .ders)) (a .k))) (l .j) (l .s) _ _ (l .inv .1) t (c .plus-of .ensures))
+    let t =
+    term-is
+    (a .two) (now (a .points)) (a .rational) (now (a .weights)) (a .scale) (a .first) (l .j) (cell (now (a .ders)) (a .k)) (pointOf (now (a .points)) (a .first)) _ _ _
+    (c .before .before .before .before .before .before .before .point-at .ensures) (c .before .before .point-at2 .ensures) (c .before .before .before .weight-at .ensures) _
+    (c .before .term-of .ensures) in (
+      omega arith,
+      sums-more
+          noSums (rowTerm (a .two) (now (a .points)) (a .rational) (now (a .weights)) (a .scale) (pointOf (now (a .points)) (a .first)) (a .first) (cell (now (a .ders)) (a .k))) (l .j) (l .s) _ _
+          (l .inv .1) t (c .plus-of .ensures),
+    )
 
 returns : tie.Need-returns Inv-loop μ-loop
 unfolding rowSums
@@ -73,7 +82,9 @@ returns c =
     let a = c .before .before .before .before .before .args in
     let l = c .before .loop in
     let e : l .j ≡ a .p + 1 = omega arith in
-    subst (λ (i : ℕ). l .s ≡ sumsFrom noSums (rowTerm (a .two) (now (a .points)) (a .rational) (now (a .weights)) (a .scale) (pointOf (now (a .points)) (a .first)) (a .first) (cell (now (a .ders)) (a .k))) i) e (l .inv .1)
+    subst
+    (λ (i : ℕ). l .s ≡ sumsFrom noSums (rowTerm (a .two) (now (a .points)) (a .rational) (now (a .weights)) (a .scale) (pointOf (now (a .points)) (a .first)) (a .first) (cell (now (a .ders)) (a .k))) i)
+    e (l .inv .1)
 
 pub row-sums-spec : {M : Type 1} → statement M
 row-sums-spec =

@@ -2,7 +2,7 @@
 -- Assumes nothing.
 use lib.Ieee.{ofBits}
 use borrow.Author.Needs.{needs}
-use Rattle.evaluate.specs.Controls.{weightOf}
+use Rattle.runs.specs.Scale.{weightOf}
 use Rattle.evaluate.proofs.controls.weight_at.Statement.{statement}
 use Rattle.evaluate.proofs.controls.weight_at.Tie as tie
 

@@ -45,7 +45,9 @@ returns c =
     let a = c .before .before .before .before .before .before .before .before .before .before .before .before .before .args in
     let q = c .before .before .before .before .before .before .before .before .before .before .before .before .before .pre in
     let reach : Reach 195 (a .p) 1 (now (a .knots)) (a .span) = record { degree = q .0; high = q .1 .0; orders = omega arith; low = q .1 .1 .0; long = q .1 .1 .1 .0; room = refl } in
-    curve-is (a .p) 1 (now (a .knots)) (now (a .points)) (a .rational) (now (a .weights)) (a .span) (a .u) reach _ (c .before .before .before .before .before .before .before .before .basis-derivatives .ensures) _ (c .before .before .before .before .before .before .scale-at .ensures)
+    curve-is
+    (a .p) 1 (now (a .knots)) (now (a .points)) (a .rational) (now (a .weights)) (a .span) (a .u) reach _
+    (c .before .before .before .before .before .before .before .before .basis-derivatives .ensures) _ (c .before .before .before .before .before .before .scale-at .ensures)
     (omega arith) _ _ _ _ (c .before .before .before .before .before .point-at .ensures) (c .before .before .before .row-sums .ensures) (c .before .row-sums2 .ensures) (c .quotient-of .ensures)
 
 pub curve-at-spec : {M : Type 1} → statement M

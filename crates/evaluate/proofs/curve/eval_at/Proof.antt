@@ -15,7 +15,9 @@ step-refusal-requires : tie.Need-step-refusal-requires
 step-refusal-requires c κs = search needs
 
 returns : tie.Need-returns
-returns c = let a = c .before .before .before .before .before .before .args in at-refused (a .degree) (now (a .knots)) (now (a .points)) (a .rational) (now (a .weights)) (a .t) _ (c .if1 .taken) (c .before .before .step-refusal .ensures)
+returns c =
+    let a = c .before .before .before .before .before .before .args in
+    at-refused (a .degree) (now (a .knots)) (now (a .points)) (a .rational) (now (a .weights)) (a .t) _ (c .if1 .taken) (c .before .before .step-refusal .ensures)
 
 span-of-requires : tie.Need-span-of-requires
 span-of-requires c κs = search needs
@@ -26,16 +28,37 @@ clamp-requires c κs = search needs
 curve-at-requires : tie.Need-curve-at-requires
 curve-at-requires c κs =
     let a = c .before .before .before .before .before .before .before .before .args in
-    let none : stepRefusal (a .degree) (now (a .knots)) (now (a .points)) (a .rational) (now (a .weights)) (a .t) .number ≡ 0 = sym (ap (λ (r : Refusal). r .number) (c .before .before .before .before .step-refusal .ensures)) ∙ c .before .before .if1 .left in
+    let none : stepRefusal (a .degree) (now (a .knots)) (now (a .points)) (a .rational) (now (a .weights)) (a .t) .number ≡ 0 = sym (ap (λ (r : Refusal). r .number) (c .before .before .before .before .step-refusal .ensures))
+    ∙ c .before .before .if1 .left in
     let o = step-open (a .degree) (now (a .knots)) (now (a .points)) (a .rational) (now (a .weights)) (a .t) none in
     let n = countOf (now (a .points)) in
-    let f = subst (Found (a .degree) n (now (a .knots))) (sym (c .before .span-of .ensures .found)) (found (a .degree) n (now (a .knots)) (o .shape .knots) (looked (a .degree) (now (a .knots)) (now (a .points)) (a .t))) in
-    (o .shape .knots .degree, (o .high, (f .from, (f .reach, (points-reach (a .degree) (now (a .knots)) (now (a .points)) (a .rational) (now (a .weights)) (a .t) o _ f, weights-reach (a .degree) (now (a .knots)) (now (a .points)) (a .rational) (now (a .weights)) (a .t) o _ f)))))
+    let f =
+    subst
+    (Found (a .degree) n (now (a .knots))) (sym (c .before .span-of .ensures .found))
+    (found (a .degree) n (now (a .knots)) (o .shape .knots) (looked (a .degree) (now (a .knots)) (now (a .points)) (a .t))) in (
+      o .shape .knots .degree,
+      (
+        o .high,
+        (
+          f .from,
+          (
+            f .reach,
+            (
+              points-reach (a .degree) (now (a .knots)) (now (a .points)) (a .rational) (now (a .weights)) (a .t) o _ f,
+              weights-reach (a .degree) (now (a .knots)) (now (a .points)) (a .rational) (now (a .weights)) (a .t) o _ f,
+            ),
+          ),
+        ),
+      ),
+    )
 
 returns-2 : tie.Need-returns-2
 returns-2 c =
     let a = c .before .before .before .before .before .before .before .before .before .args in
-    at-answered (a .degree) (now (a .knots)) (now (a .points)) (a .rational) (now (a .weights)) (a .t) (c .before .before .before .before .before .step-refusal .result) (c .before .before .before .before .before .step-refusal .ensures) (c .before .before .before .if1 .left) _ _ (c .before .before .span-of .ensures .found) (c .before .clamp .ensures) _ (c .curve-at .ensures)
+    at-answered
+    (a .degree) (now (a .knots)) (now (a .points)) (a .rational) (now (a .weights)) (a .t) (c .before .before .before .before .before .step-refusal .result)
+    (c .before .before .before .before .before .step-refusal .ensures) (c .before .before .before .if1 .left) _ _ (c .before .before .span-of .ensures .found) (c .before .clamp .ensures) _
+    (c .curve-at .ensures)
 
 pub eval-at-spec : {M : Type 1} → statement M
 eval-at-spec =

@@ -16,7 +16,9 @@ step-refusal-requires : tie.Need-step-refusal-requires
 step-refusal-requires c κs = search needs
 
 returns : tie.Need-returns
-returns c = let a = c .before .before .before .before .before .before .args in at2-refused (a .degree) (now (a .knots)) (now (a .points)) (a .rational) (now (a .weights)) (a .t) _ (c .if1 .taken) (c .before .before .step-refusal .ensures)
+returns c =
+    let given = c .before .before .before .before .before .before .args in
+    at2-refused (given .degree) (now (given .knots)) (now (given .points)) (given .rational) (now (given .weights)) (given .t) _ (c .if1 .taken) (c .before .before .step-refusal .ensures)
 
 span-of-requires : tie.Need-span-of-requires
 span-of-requires c κs = search needs
@@ -26,29 +28,55 @@ clamp-requires c κs = search needs
 
 curve2-at-requires : tie.Need-curve2-at-requires
 curve2-at-requires c κs =
-    let a = c .before .before .before .before .before .before .before .before .args in
-    let none : stepRefusal (a .degree) (now (a .knots)) (now (a .points)) (a .rational) (now (a .weights)) (a .t) .number ≡ 0 = sym (ap (λ (r : Refusal). r .number) (c .before .before .before .before .step-refusal .ensures)) ∙ c .before .before .if1 .left in
-    let o = step-open (a .degree) (now (a .knots)) (now (a .points)) (a .rational) (now (a .weights)) (a .t) none in
-    let n = countOf (now (a .points)) in
-    let f = subst (Found (a .degree) n (now (a .knots))) (sym (c .before .span-of .ensures .found)) (found (a .degree) n (now (a .knots)) (o .shape .knots) (looked (a .degree) (now (a .knots)) (now (a .points)) (a .t))) in
-    (o .shape .knots .degree, (o .high, (f .from, (f .reach, (points-reach (a .degree) (now (a .knots)) (now (a .points)) (a .rational) (now (a .weights)) (a .t) o _ f, weights-reach (a .degree) (now (a .knots)) (now (a .points)) (a .rational) (now (a .weights)) (a .t) o _ f)))))
+    let given = c .before .before .before .before .before .before .before .before .args in
+    let none : stepRefusal (given .degree) (now (given .knots)) (now (given .points)) (given .rational) (now (given .weights)) (given .t) .number ≡ 0 = sym (ap (λ (r : Refusal). r .number) (c .before .before .before .before .step-refusal .ensures))
+    ∙ c .before .before .if1 .left in
+    let o = step-open (given .degree) (now (given .knots)) (now (given .points)) (given .rational) (now (given .weights)) (given .t) none in
+    let n = countOf (now (given .points)) in
+    let f =
+    subst
+    (Found (given .degree) n (now (given .knots))) (sym (c .before .span-of .ensures .found))
+    (found (given .degree) n (now (given .knots)) (o .shape .knots) (looked (given .degree) (now (given .knots)) (now (given .points)) (given .t))) in (
+      o .shape .knots .degree,
+      (
+        o .high,
+        (
+          f .from,
+          (
+            f .reach,
+            (
+              points-reach (given .degree) (now (given .knots)) (now (given .points)) (given .rational) (now (given .weights)) (given .t) o _ f,
+              weights-reach (given .degree) (now (given .knots)) (now (given .points)) (given .rational) (now (given .weights)) (given .t) o _ f,
+            ),
+          ),
+        ),
+      ),
+    )
 
 finite2-of-requires : tie.Need-finite2-of-requires
 finite2-of-requires c κs = search needs
 
 returns-2 : tie.Need-returns-2
 returns-2 c =
-    let a = c .before .before .before .before .before .before .before .before .before .before .before .args in
-    at2-answered (a .degree) (now (a .knots)) (now (a .points)) (a .rational) (now (a .weights)) (a .t) (c .before .before .before .before .before .before .before .step-refusal .result) (c .before .before .before .before .before .before .before .step-refusal .ensures) (c .before .before .before .before .before .if1 .left) _ _ (c .before .before .before .before .span-of .ensures .found) (c .before .before .before .clamp .ensures) _ (c .before .before .curve2-at .ensures) (sym (c .before .finite2-of .ensures) ∙ c .if2 .taken)
+    let given = c .before .before .before .before .before .before .before .before .before .before .before .args in
+    at2-answered
+    (given .degree) (now (given .knots)) (now (given .points)) (given .rational) (now (given .weights)) (given .t) (c .before .before .before .before .before .before .before .step-refusal .result)
+    (c .before .before .before .before .before .before .before .step-refusal .ensures) (c .before .before .before .before .before .if1 .left) _ _
+    (c .before .before .before .before .span-of .ensures .found) (c .before .before .before .clamp .ensures) _ (c .before .before .curve2-at .ensures)
+    (sym (c .before .finite2-of .ensures) ∙ c .if2 .taken)
 
 refuse-requires : tie.Need-refuse-requires
 refuse-requires c κs = search needs
 
 returns-3 : tie.Need-returns-3
 returns-3 c =
-    let a = c .before .before .before .before .before .before .before .before .before .before .before .before .args in
+    let given = c .before .before .before .before .before .before .before .before .before .before .before .before .args in
     ap Refused (c .refuse .ensures)
-    ∙ at2-degenerate (a .degree) (now (a .knots)) (now (a .points)) (a .rational) (now (a .weights)) (a .t) (c .before .before .before .before .before .before .before .before .step-refusal .result) (c .before .before .before .before .before .before .before .before .step-refusal .ensures) (c .before .before .before .before .before .before .if1 .left) _ _ (c .before .before .before .before .before .span-of .ensures .found) (c .before .before .before .before .clamp .ensures) _ (c .before .before .before .curve2-at .ensures) (sym (c .before .before .finite2-of .ensures) ∙ c .before .if2 .left)
+    ∙ at2-degenerate
+    (given .degree) (now (given .knots)) (now (given .points)) (given .rational) (now (given .weights)) (given .t) (c .before .before .before .before .before .before .before .before .step-refusal .result)
+    (c .before .before .before .before .before .before .before .before .step-refusal .ensures) (c .before .before .before .before .before .before .if1 .left) _ _
+    (c .before .before .before .before .before .span-of .ensures .found) (c .before .before .before .before .clamp .ensures) _ (c .before .before .before .curve2-at .ensures)
+    (sym (c .before .before .finite2-of .ensures) ∙ c .before .if2 .left)
 
 pub eval2-at-spec : {M : Type 1} → statement M
 eval2-at-spec =

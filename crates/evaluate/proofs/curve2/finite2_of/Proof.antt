@@ -17,7 +17,10 @@ finite-vector-requires-3 c κs = search needs
 
 returns : tie.Need-returns
 unfolding finite2
-returns c = simp (sym (c .before .before .before .before .finite-vector .ensures) ∙ c .before .before .before .if1 .taken, sym (c .before .before .finite-vector2 .ensures) ∙ c .before .if2 .taken) (c .finite-vector3 .ensures)
+returns c =
+    simp
+    (sym (c .before .before .before .before .finite-vector .ensures) ∙ c .before .before .before .if1 .taken, sym (c .before .before .finite-vector2 .ensures) ∙ c .before .if2 .taken)
+    (c .finite-vector3 .ensures)
 
 returns-2 : tie.Need-returns-2
 unfolding finite2

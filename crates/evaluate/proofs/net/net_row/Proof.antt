@@ -9,7 +9,7 @@ use mathlib.Core.Bool.{false}
 use lib.Ieee.{binary64, mul}
 use Rattle.basis.specs.Basis.{cell}
 use Rattle.evaluate.specs.Controls.{sumsFrom, rowTerm}
-use Rattle.evaluate.proofs.Sums.{sums-none, sums-more, term-is}
+use Rattle.evaluate.proofs.Summed.{sums-none, sums-more, term-is}
 use Rattle.evaluate.proofs.net.net_row.Statement.{statement}
 use Rattle.evaluate.proofs.net.net_row.Tie as tie
 
@@ -61,15 +61,25 @@ loop-again : tie.Need-loop-again Inv-loop μ-loop
 loop-again c =
     let a = c .before .before .before .before .before .before .before .before .before .args in
     let l = c .before .before .before .before .before .before .loop in
-    let t = term-is false (now (a .points)) (a .rational) (now (a .weights)) (a .scale) (a .first) (l .l) (λ i. mul binary64 (a .x) (cell (now (a .ders)) (a .j) i)) (a .o) _ _ _ refl (c .before .before .point-at .ensures) (c .before .before .before .weight-at .ensures) _ (c .before .term-of .ensures) in
-    (omega arith, sums-more (a .s) (rowTerm false (now (a .points)) (a .rational) (now (a .weights)) (a .scale) (a .o) (a .first) (λ l. mul binary64 (a .x) (cell (now (a .ders)) (a .j) l))) (l .l) (l .t) _ _ (l .inv .1) t (c .plus-of .ensures))
+    let t =
+    term-is
+    false (now (a .points)) (a .rational) (now (a .weights)) (a .scale) (a .first) (l .l) (λ i. mul binary64 (a .x) (cell (now (a .ders)) (a .j) i)) (a .o) _ _ _ refl
+    (c .before .before .point-at .ensures) (c .before .before .before .weight-at .ensures) _ (c .before .term-of .ensures) in (
+      omega arith,
+      sums-more
+          (a .s)
+          (rowTerm false (now (a .points)) (a .rational) (now (a .weights)) (a .scale) (a .o) (a .first) (λ l. mul binary64 (a .x) (cell (now (a .ders)) (a .j) l))) (l .l) (l .t) _ _ (l .inv .1) t
+          (c .plus-of .ensures),
+    )
 
 returns : tie.Need-returns Inv-loop μ-loop
 returns c =
     let a = c .before .before .before .before .args in
     let l = c .before .loop in
     let e : l .l ≡ a .q + 1 = omega arith in
-    subst (λ (i : ℕ). l .t ≡ sumsFrom (a .s) (rowTerm false (now (a .points)) (a .rational) (now (a .weights)) (a .scale) (a .o) (a .first) (λ l. mul binary64 (a .x) (cell (now (a .ders)) (a .j) l))) i) e (l .inv .1)
+    subst
+    (λ (i : ℕ). l .t ≡ sumsFrom (a .s) (rowTerm false (now (a .points)) (a .rational) (now (a .weights)) (a .scale) (a .o) (a .first) (λ l. mul binary64 (a .x) (cell (now (a .ders)) (a .j) l))) i) e
+    (l .inv .1)
 
 pub net-row-spec : {M : Type 1} → statement M
 net-row-spec =

@@ -30,17 +30,22 @@ loop-holds c =
 
 add-i : tie.Need-add-i Inv-loop μ-loop
 add-i c =
-    let h = c .before .before .before .before .before .before .pre .1 .1 .0 (not-false (c .before .before .before .before .before .before .args .rational) (c .before .before .before .before .if1 .left)) (c .before .before .before .loop .k) (omega arith) in
+    let h = c .before .before .before .before .before .before .pre .1 .1 .0 (not-false (c .before .before .before .before .before .before .args .rational) (c .before .before .before .before .if1 .left))
+    (c .before .before .before .loop .k) (omega arith) in
     omega arith
 
 mul-row : tie.Need-mul-row Inv-loop μ-loop
 mul-row c =
-    let h = c .before .before .before .before .before .before .before .pre .1 .1 .0 (not-false (c .before .before .before .before .before .before .before .args .rational) (c .before .before .before .before .before .if1 .left)) (c .before .before .before .before .loop .k) (omega arith) in
+    let h = c .before .before .before .before .before .before .before .pre .1 .1 .0
+    (not-false (c .before .before .before .before .before .before .before .args .rational) (c .before .before .before .before .before .if1 .left)) (c .before .before .before .before .loop .k)
+    (omega arith) in
     omega arith
 
 add-at : tie.Need-add-at Inv-loop μ-loop
 add-at c =
-    let h = c .before .before .before .before .before .before .before .before .pre .1 .1 .0 (not-false (c .before .before .before .before .before .before .before .before .args .rational) (c .before .before .before .before .before .before .if1 .left)) (c .before .before .before .before .before .loop .k) (omega arith) in
+    let h = c .before .before .before .before .before .before .before .before .pre .1 .1 .0
+    (not-false (c .before .before .before .before .before .before .before .before .args .rational) (c .before .before .before .before .before .before .if1 .left))
+    (c .before .before .before .before .before .loop .k) (omega arith) in
     omega arith
 
 add-largest-in : tie.Need-add-largest-in Inv-loop μ-loop
@@ -48,7 +53,9 @@ add-largest-in c = search needs
 
 largest-in-requires : tie.Need-largest-in-requires Inv-loop μ-loop
 largest-in-requires c κs =
-    let h = c .before .before .before .before .before .before .before .before .before .pre .1 .1 .0 (not-false (c .before .before .before .before .before .before .before .before .before .args .rational) (c .before .before .before .before .before .before .before .if1 .left)) (c .before .before .before .before .before .before .loop .k) (omega arith) in
+    let h = c .before .before .before .before .before .before .before .before .before .pre .1 .1 .0
+    (not-false (c .before .before .before .before .before .before .before .before .before .args .rational) (c .before .before .before .before .before .before .before .if1 .left))
+    (c .before .before .before .before .before .before .loop .k) (omega arith) in
     omega arith
 
 add-k : tie.Need-add-k Inv-loop μ-loop
@@ -59,15 +66,18 @@ loop-less c = search needs
 
 loop-again : tie.Need-loop-again Inv-loop μ-loop
 loop-again c =
+    let l = c .before .before .before .before .before .before .before .loop in
     let s = c .before .before .before .before .before .before .before .before .before .before .args in
-    (omega arith, largest-net-more (now (s .weights)) (s .net .columns) (s .net .a) (s .net .b) (s .net .q + 1) (c .before .before .before .before .before .before .before .loop .k) (c .before .before .before .before .before .before .before .loop .m) _ (c .before .before .before .before .before .before .before .loop .inv .1) (c .largest-in .ensures))
+    (omega arith, largest-net-more (now (s .weights)) (s .net .columns) (s .net .a) (s .net .b) (s .net .q + 1) (l .k) (l .m) _ (l .inv .1) (c .largest-in .ensures))
 
 returns-2 : tie.Need-returns-2 Inv-loop μ-loop
 unfolding netScale
 returns-2 c =
     let s = c .before .before .before .before .before .args in
     let e : c .before .before .loop .k ≡ s .net .p + 1 = omega arith in
-    simp (not-false (s .rational) (c .before .before .before .if1 .left)) (subst (λ (i : ℕ). c .before .before .loop .m ≡ netLargest (now (s .weights)) (s .net .columns) (s .net .a) (s .net .b) (s .net .q + 1) i) e (c .before .before .loop .inv .1))
+    simp
+    (not-false (s .rational) (c .before .before .before .if1 .left))
+    (subst (λ (i : ℕ). c .before .before .loop .m ≡ netLargest (now (s .weights)) (s .net .columns) (s .net .a) (s .net .b) (s .net .q + 1) i) e (c .before .before .loop .inv .1))
 
 pub net-scale-spec : {M : Type 1} → statement M
 net-scale-spec =

@@ -13,7 +13,8 @@ use Rattle.evaluate.proofs.net.net_sums.Statement.{statement}
 use Rattle.evaluate.proofs.net.net_sums.Tie as tie
 
 abbrev Inv-loop : tie.InvT-loop
-Inv-loop i j o net scale points rational weights u-ders v-ders q s₀ k₀ s k = (k ≤ net .p + 1) × (q ≡ net .q) × (s ≡ netSums points rational weights scale o (net .columns) (net .a) (net .b) (cell u-ders i) (cell v-ders j) (net .q + 1) k)
+Inv-loop i j o net scale points rational weights u-ders v-ders q s₀ k₀ s k =
+    (k ≤ net .p + 1) × (q ≡ net .q) × (s ≡ netSums points rational weights scale o (net .columns) (net .a) (net .b) (cell u-ders i) (cell v-ders j) (net .q + 1) k)
 
 abbrev μ-loop : tie.MeasureT-loop
 μ-loop i j o net scale points rational weights u-ders v-ders q s₀ k₀ s k = net .p + 1 - k
@@ -21,8 +22,12 @@ abbrev μ-loop : tie.MeasureT-loop
 loop-holds : tie.Need-loop-holds Inv-loop μ-loop
 unfolding ofBits
 loop-holds c =
-    let a = c .before .before .args in
-    (omega arith, refl, net-none (now (a .points)) (a .rational) (now (a .weights)) (a .scale) (a .o) (a .net .columns) (a .net .a) (a .net .b) (a .net .q + 1) (cell (now (a .u-ders)) (a .i)) (cell (now (a .v-ders)) (a .j)))
+    let a = c .before .before .args in (
+      omega arith,
+      refl,
+      net-none
+          (now (a .points)) (a .rational) (now (a .weights)) (a .scale) (a .o) (a .net .columns) (a .net .a) (a .net .b) (a .net .q + 1) (cell (now (a .u-ders)) (a .i)) (cell (now (a .v-ders)) (a .j)),
+    )
 
 add-h : tie.Need-add-h Inv-loop μ-loop
 add-h c =
@@ -67,15 +72,22 @@ loop-less c = search needs
 loop-again : tie.Need-loop-again Inv-loop μ-loop
 loop-again c =
     let a = c .before .before .before .before .before .before .before .before .before .before .args in
-    let l = c .before .before .before .before .before .before .before .loop in
-    (omega arith, l .inv .1, net-more (now (a .points)) (a .rational) (now (a .weights)) (a .scale) (a .o) (a .net .columns) (a .net .a) (a .net .b) (a .net .q + 1) (cell (now (a .u-ders)) (a .i)) (cell (now (a .v-ders)) (a .j)) (l .k) (l .s) _ (l .inv .2) (c .net-row .ensures))
+    let l = c .before .before .before .before .before .before .before .loop in (
+      omega arith,
+      l .inv .1,
+      net-more
+          (now (a .points)) (a .rational) (now (a .weights)) (a .scale) (a .o) (a .net .columns) (a .net .a) (a .net .b) (a .net .q + 1) (cell (now (a .u-ders)) (a .i)) (cell (now (a .v-ders)) (a .j))
+          (l .k) (l .s) _ (l .inv .2) (c .net-row .ensures),
+    )
 
 returns : tie.Need-returns Inv-loop μ-loop
 returns c =
     let a = c .before .before .before .before .before .args in
     let l = c .before .before .loop in
     let e : l .k ≡ a .net .p + 1 = omega arith in
-    subst (λ (i : ℕ). l .s ≡ netSums (now (a .points)) (a .rational) (now (a .weights)) (a .scale) (a .o) (a .net .columns) (a .net .a) (a .net .b) (cell (now (a .u-ders)) (a .i)) (cell (now (a .v-ders)) (a .j)) (a .net .q + 1) i) e (l .inv .2)
+    subst
+    (λ (i : ℕ). l .s ≡ netSums (now (a .points)) (a .rational) (now (a .weights)) (a .scale) (a .o) (a .net .columns) (a .net .a) (a .net .b) (cell (now (a .u-ders)) (a .i)) (cell (now (a .v-ders)) (a .j)) (a .net .q + 1) i)
+    e (l .inv .2)
 
 pub net-sums-spec : {M : Type 1} → statement M
 net-sums-spec =

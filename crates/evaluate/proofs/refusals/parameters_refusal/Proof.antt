@@ -18,14 +18,22 @@ finite-refusal-requires c κs = search needs
 
 returns-2 : tie.Need-returns-2
 unfolding parametersRefusal
-returns-2 c = simp (skip (c .before .before .before .before .before .degrees-refusal .ensures) (c .before .before .before .if1 .left), stop (c .before .before .finite-refusal .ensures) (c .if2 .taken)) (c .before .before .finite-refusal .ensures)
+returns-2 c =
+    simp
+    (skip (c .before .before .before .before .before .degrees-refusal .ensures) (c .before .before .before .if1 .left), stop (c .before .before .finite-refusal .ensures) (c .if2 .taken))
+    (c .before .before .finite-refusal .ensures)
 
 finite-refusal-requires-2 : tie.Need-finite-refusal-requires-2
 finite-refusal-requires-2 c κs = search needs
 
 returns-3 : tie.Need-returns-3
 unfolding parametersRefusal
-returns-3 c = simp (skip (c .before .before .before .before .before .before .degrees-refusal .ensures) (c .before .before .before .before .if1 .left), skip (c .before .before .before .finite-refusal .ensures) (c .before .if2 .left)) (c .finite-refusal2 .ensures)
+returns-3 c =
+    simp (
+      skip (c .before .before .before .before .before .before .degrees-refusal .ensures) (c .before .before .before .before .if1 .left),
+      skip (c .before .before .before .finite-refusal .ensures) (c .before .if2 .left),
+    )
+    (c .finite-refusal2 .ensures)
 
 pub parameters-refusal-spec : {M : Type 1} → statement M
 parameters-refusal-spec =

@@ -15,7 +15,10 @@ surface-step-refusal-requires : tie.Need-surface-step-refusal-requires
 surface-step-refusal-requires c κs = search needs
 
 returns : tie.Need-returns
-returns c = let a = c .before .before .before .before .before .before .before .args in surface-at-refused (a .u-degree) (a .v-degree) (now (a .u-knots)) (now (a .v-knots)) (a .u-count) (a .v-count) (now (a .points)) (a .rational) (now (a .weights)) (a .u) (a .v) _ (c .if1 .taken) (c .before .before .surface-step-refusal .ensures)
+returns c =
+    let a = c .before .before .before .before .before .before .before .args in
+    surface-at-refused
+    (a .p) (a .q) (now (a .uk)) (now (a .vk)) (a .m) (a .n) (now (a .points)) (a .rational) (now (a .weights)) (a .u) (a .v) _ (c .if1 .taken) (c .before .before .surface-step-refusal .ensures)
 
 span-of-requires : tie.Need-span-of-requires
 span-of-requires c κs = search needs
@@ -32,16 +35,49 @@ clamp-requires-2 c κs = search needs
 surface-at-requires : tie.Need-surface-at-requires
 surface-at-requires c κs =
     let a = c .before .before .before .before .before .before .before .before .before .before .before .args in
-    let none : surfaceStepRefusal (a .u-degree) (a .v-degree) (now (a .u-knots)) (now (a .v-knots)) (a .u-count) (a .v-count) (now (a .points)) (a .rational) (now (a .weights)) (a .u) (a .v) .number ≡ 0 = sym (ap (λ (r : Refusal). r .number) (c .before .before .before .before .before .before .surface-step-refusal .ensures)) ∙ c .before .before .before .before .if1 .left in
-    let o = surface-step-open (a .u-degree) (a .v-degree) (now (a .u-knots)) (now (a .v-knots)) (a .u-count) (a .v-count) (now (a .points)) (a .rational) (now (a .weights)) (a .u) (a .v) none in
-    let s = subst (Found (a .u-degree) (a .u-count) (now (a .u-knots))) (sym (c .before .before .before .span-of .ensures .found)) (found (a .u-degree) (a .u-count) (now (a .u-knots)) (o .shape .u) (clamped (a .u-degree) (a .u-count) (now (a .u-knots)) (a .u))) in
-    let t = subst (Found (a .v-degree) (a .v-count) (now (a .v-knots))) (sym (c .before .span-of2 .ensures .found)) (found (a .v-degree) (a .v-count) (now (a .v-knots)) (o .shape .v) (clamped (a .v-degree) (a .v-count) (now (a .v-knots)) (a .v))) in
-    (o .shape .u .degree, (o .shape .v .degree, (o .u-high, (o .v-high, (s .from, (t .from, (s .reach, (t .reach, (points-net (a .u-degree) (a .v-degree) (now (a .u-knots)) (now (a .v-knots)) (a .u-count) (a .v-count) (now (a .points)) (a .rational) (now (a .weights)) (a .u) (a .v) o _ _ s t, weights-net (a .u-degree) (a .v-degree) (now (a .u-knots)) (now (a .v-knots)) (a .u-count) (a .v-count) (now (a .points)) (a .rational) (now (a .weights)) (a .u) (a .v) o _ _ s t)))))))))
+    let none : surfaceStepRefusal (a .p) (a .q) (now (a .uk)) (now (a .vk)) (a .m) (a .n) (now (a .points)) (a .rational) (now (a .weights)) (a .u) (a .v) .number ≡ 0 = sym (ap (λ (r : Refusal). r .number) (c .before .before .before .before .before .before .surface-step-refusal .ensures))
+    ∙ c .before .before .before .before .if1 .left in
+    let o = surface-step-open (a .p) (a .q) (now (a .uk)) (now (a .vk)) (a .m) (a .n) (now (a .points)) (a .rational) (now (a .weights)) (a .u) (a .v) none in
+    let s =
+    subst
+    (Found (a .p) (a .m) (now (a .uk))) (sym (c .before .before .before .span-of .ensures .found)) (found (a .p) (a .m) (now (a .uk)) (o .shape .u) (clamped (a .p) (a .m) (now (a .uk)) (a .u))) in
+    let t = subst (Found (a .q) (a .n) (now (a .vk))) (sym (c .before .span-of2 .ensures .found)) (found (a .q) (a .n) (now (a .vk)) (o .shape .v) (clamped (a .q) (a .n) (now (a .vk)) (a .v))) in (
+      o .shape .u .degree,
+      (
+        o .shape .v .degree,
+        (
+          o .u-high,
+          (
+            o .v-high,
+            (
+              s .from,
+              (
+                t .from,
+                (
+                  s .reach,
+                  (
+                    t .reach,
+                    (
+                      points-net (a .p) (a .q) (now (a .uk)) (now (a .vk)) (a .m) (a .n) (now (a .points)) (a .rational) (now (a .weights)) (a .u) (a .v) o _ _ s t,
+                      weights-net (a .p) (a .q) (now (a .uk)) (now (a .vk)) (a .m) (a .n) (now (a .points)) (a .rational) (now (a .weights)) (a .u) (a .v) o _ _ s t,
+                    ),
+                  ),
+                ),
+              ),
+            ),
+          ),
+        ),
+      ),
+    )
 
 returns-2 : tie.Need-returns-2
 returns-2 c =
     let a = c .before .before .before .before .before .before .before .before .before .before .before .before .args in
-    surface-at-answered (a .u-degree) (a .v-degree) (now (a .u-knots)) (now (a .v-knots)) (a .u-count) (a .v-count) (now (a .points)) (a .rational) (now (a .weights)) (a .u) (a .v) _ (c .before .before .before .before .before .before .before .surface-step-refusal .ensures) (c .before .before .before .before .before .if1 .left) _ _ _ _ (c .before .before .before .before .span-of .ensures .found) (c .before .before .before .clamp .ensures) (c .before .before .span-of2 .ensures .found) (c .before .clamp2 .ensures) _ (c .surface-at .ensures)
+    surface-at-answered
+    (a .p) (a .q) (now (a .uk)) (now (a .vk)) (a .m) (a .n) (now (a .points)) (a .rational) (now (a .weights)) (a .u) (a .v) _
+    (c .before .before .before .before .before .before .before .surface-step-refusal .ensures) (c .before .before .before .before .before .if1 .left) _ _ _ _
+    (c .before .before .before .before .span-of .ensures .found) (c .before .before .before .clamp .ensures) (c .before .before .span-of2 .ensures .found) (c .before .clamp2 .ensures) _
+    (c .surface-at .ensures)
 
 pub eval-surface-at-spec : {M : Type 1} → statement M
 eval-surface-at-spec =

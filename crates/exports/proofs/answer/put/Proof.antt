@@ -16,7 +16,9 @@ same-length : tie.Need-same-length
 same-length c = search needs
 
 returns : tie.Need-returns
-returns c = leaves-short (c .before .before .before .before .before .before .args .i .lo ∷ c .before .before .before .before .before .before .args .i .hi ∷ []) (now (c .before .before .before .before .before .before .args .out)) _ (c .before .before .before .clear .ensures) (omega arith)
+returns c =
+    let a = c .before .before .before .before .before .before .args in
+    leaves-short (a .i .lo ∷ a .i .hi ∷ []) (now (a .out)) _ (c .before .before .before .clear .ensures) (omega arith)
 
 lo-requires : tie.Need-lo-requires
 lo-requires c κs = search needs
@@ -34,7 +36,11 @@ same-length-2 : tie.Need-same-length-2
 same-length-2 c = search needs
 
 returns-2 : tie.Need-returns-2
-returns-2 c = leaves-by (ap (λ (x : Float). values (x ∷ c .hi .result ∷ [])) (c .before .lo .ensures) ∙ ap (λ (y : Float). values (c .before .before .before .before .before .before .before .before .args .i .lo ∷ y ∷ [])) (c .hi .ensures)) (leaves-two (c .before .lo .result) (c .hi .result) (now (c .before .before .before .before .before .before .before .before .args .out)) _ (c .before .before .before .before .before .clear .ensures) (omega arith))
+returns-2 c =
+    let a = c .before .before .before .before .before .before .before .before .args in
+    leaves-by
+    (ap (λ (x : Float). values (x ∷ c .hi .result ∷ [])) (c .before .lo .ensures) ∙ ap (λ (y : Float). values (a .i .lo ∷ y ∷ [])) (c .hi .ensures))
+    (leaves-two (c .before .lo .result) (c .hi .result) (now (a .out)) _ (c .before .before .before .before .before .clear .ensures) (omega arith))
 
 pub put-spec : {M : Type 1} → statement M
 put-spec =

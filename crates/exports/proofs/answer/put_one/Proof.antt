@@ -13,7 +13,9 @@ same-length : tie.Need-same-length
 same-length c = search needs
 
 returns : tie.Need-returns
-returns c = leaves-short (c .before .before .before .before .before .before .args .x ∷ []) (now (c .before .before .before .before .before .before .args .out)) _ (c .before .before .before .clear .ensures) (omega arith)
+returns c =
+    let a = c .before .before .before .before .before .before .args in
+    leaves-short (a .x ∷ []) (now (a .out)) _ (c .before .before .before .clear .ensures) (omega arith)
 
 slice-write-out : tie.Need-slice-write-out
 slice-write-out c = search needs
@@ -22,7 +24,9 @@ same-length-2 : tie.Need-same-length-2
 same-length-2 c = search needs
 
 returns-2 : tie.Need-returns-2
-returns-2 c = leaves-one (c .before .before .before .before .before .before .args .x) (now (c .before .before .before .before .before .before .args .out)) _ (c .before .before .before .clear .ensures) (omega arith)
+returns-2 c =
+    let a = c .before .before .before .before .before .before .args in
+    leaves-one (a .x) (now (a .out)) _ (c .before .before .before .clear .ensures) (omega arith)
 
 pub put-one-spec : {M : Type 1} → statement M
 put-one-spec =

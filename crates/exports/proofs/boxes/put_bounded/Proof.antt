@@ -1,5 +1,7 @@
-use Rattle.exports.proofs.Put.{told-values, told-refused}
+-- `exports::boxes::put_bounded` meets its contract.
+-- Assumes nothing.
 use Rattle.exports.proofs.Box.{bounded-by}
+use Rattle.exports.proofs.Put.{told-values}
 use mathlib.Core.Path.{sym}
 use borrow.Author.Needs.{needs}
 use Rattle.exports.proofs.boxes.put_bounded.Statement.{statement}
@@ -14,11 +16,8 @@ put-box-requires c κs = search needs
 enum-known-a-2 : tie.Need-enum-known-a-2
 enum-known-a-2 c = search needs
 
-packed-requires : tie.Need-packed-requires
-packed-requires c κs = search needs
-
-refuse-requires : tie.Need-refuse-requires
-refuse-requires c κs = search needs
+put-refusal-requires : tie.Need-put-refusal-requires
+put-refusal-requires c κs = search needs
 
 same-length : tie.Need-same-length
 same-length c = search needs
@@ -30,7 +29,7 @@ same-length-2 : tie.Need-same-length-2
 same-length-2 c = search needs
 
 returns-2 : tie.Need-returns-2
-returns-2 c = bounded-by (sym (c .before .before .before .before .before .before .a2 .given .1)) (told-refused _ (c .before .before .before .packed .ensures) (c .before .before .refuse .ensures))
+returns-2 c = bounded-by (sym (c .before .before .before .before .before .a2 .given .1)) (c .before .before .put-refusal .ensures)
 
 pub put-bounded-spec : {M : Type 1} → statement M
 put-bounded-spec =
@@ -39,8 +38,7 @@ put-bounded-spec =
     enum-known-a
     put-box-requires
     enum-known-a-2
-    packed-requires
-    refuse-requires
+    put-refusal-requires
     same-length
     returns
     same-length-2

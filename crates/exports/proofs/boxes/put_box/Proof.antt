@@ -30,7 +30,12 @@ same-length-2 : tie.Need-same-length-2
 same-length-2 c = search needs
 
 returns-2 : tie.Need-returns-2
-returns-2 c = let a = c .before .before .before .before .before .before .before .before .before .before .before .before .before .before .before .before .before .before .args in leaves-box (a .b) (now (a .out)) _ _ _ _ (c .before .before .before .before .before .before .before .before .before .before .before .before .before .before .before .clear .ensures) (omega arith) (c .before .before .before .before .before .before .before .before .before .before .store-triple .ensures) (c .before .before .before .before .before .before .store-triple2 .ensures) (c .before .before .store-triple3 .ensures)
+returns-2 c =
+    let a = c .before .before .before .before .before .before .before .before .before .before .before .before .before .before .before .before .before .before .args in
+    leaves-box
+    (a .b) (now (a .out)) _ _ _ _ (c .before .before .before .before .before .before .before .before .before .before .before .before .before .before .before .clear .ensures) (omega arith)
+    (c .before .before .before .before .before .before .before .before .before .before .store-triple .ensures) (c .before .before .before .before .before .before .store-triple2 .ensures)
+    (c .before .before .store-triple3 .ensures)
 
 pub put-box-spec : {M : Type 1} → statement M
 put-box-spec =

@@ -21,11 +21,17 @@ enum-told c = search needs
 
 returns : tie.Need-returns
 unfolding containsOf
-returns c = inside-one (c .before .before .before .before .before .before .args .x) (sym (c .before .before .before .before .before .new .ensures) ∙ c .before .before .before .n .given .1) (sym (c .before .contains .ensures) ∙ c .if1 .taken)
+returns c =
+    inside-one
+    (c .before .before .before .before .before .before .args .x) (sym (c .before .before .before .before .before .new .ensures) ∙ c .before .before .before .n .given .1)
+    (sym (c .before .contains .ensures) ∙ c .if1 .taken)
 
 returns-2 : tie.Need-returns-2
 unfolding containsOf
-returns-2 c = inside-one (c .before .before .before .before .before .before .args .x) (sym (c .before .before .before .before .before .new .ensures) ∙ c .before .before .before .n .given .1) (sym (c .before .contains .ensures) ∙ c .if1 .left)
+returns-2 c =
+    inside-one
+    (c .before .before .before .before .before .before .args .x) (sym (c .before .before .before .before .before .new .ensures) ∙ c .before .before .before .n .given .1)
+    (sym (c .before .contains .ensures) ∙ c .if1 .left)
 
 returns-3 : tie.Need-returns-3
 returns-3 c = sym (ap (λ (n : New). insideNumber n (c .before .before .before .args .x)) (sym (c .before .before .new .ensures) ∙ c .enum-told .given .1))

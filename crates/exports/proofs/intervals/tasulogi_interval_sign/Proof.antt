@@ -30,16 +30,20 @@ enum-told-5 : tie.Need-enum-told-5
 enum-told-5 c = search needs
 
 returns : tie.Need-returns
-returns c = sign-one (sym (c .before .before .before .before .before .before .new .ensures) ∙ c .before .before .before .before .n .given .1) (sym (c .before .before .sign .ensures) ∙ c .enum-told .given .1)
+returns c =
+    sign-one (sym (c .before .before .before .before .before .before .new .ensures) ∙ c .before .before .before .before .n .given .1) (sym (c .before .before .sign .ensures) ∙ c .enum-told .given .1)
 
 returns-2 : tie.Need-returns-2
-returns-2 c = sign-one (sym (c .before .before .before .before .before .before .new .ensures) ∙ c .before .before .before .before .n .given .1) (sym (c .before .before .sign .ensures) ∙ c .enum-told2 .given .1)
+returns-2 c =
+    sign-one (sym (c .before .before .before .before .before .before .new .ensures) ∙ c .before .before .before .before .n .given .1) (sym (c .before .before .sign .ensures) ∙ c .enum-told2 .given .1)
 
 returns-3 : tie.Need-returns-3
-returns-3 c = sign-one (sym (c .before .before .before .before .before .before .new .ensures) ∙ c .before .before .before .before .n .given .1) (sym (c .before .before .sign .ensures) ∙ c .enum-told3 .given .1)
+returns-3 c =
+    sign-one (sym (c .before .before .before .before .before .before .new .ensures) ∙ c .before .before .before .before .n .given .1) (sym (c .before .before .sign .ensures) ∙ c .enum-told3 .given .1)
 
 returns-4 : tie.Need-returns-4
-returns-4 c = sign-one (sym (c .before .before .before .before .before .before .new .ensures) ∙ c .before .before .before .before .n .given .1) (sym (c .before .before .sign .ensures) ∙ c .enum-told4 .given .1)
+returns-4 c =
+    sign-one (sym (c .before .before .before .before .before .before .new .ensures) ∙ c .before .before .before .before .n .given .1) (sym (c .before .before .sign .ensures) ∙ c .enum-told4 .given .1)
 
 returns-5 : tie.Need-returns-5
 returns-5 c = sym (ap signNumber (sym (c .before .before .new .ensures) ∙ c .enum-told5 .given .1))

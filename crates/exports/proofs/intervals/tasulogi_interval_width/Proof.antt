@@ -32,13 +32,19 @@ same-length : tie.Need-same-length
 same-length c = search needs
 
 returns : tie.Need-returns
-returns c = on-new (λ (a : Interval). values (widthOf a ∷ [])) (sym (c .before .before .before .before .before .before .before .before .new .ensures) ∙ c .before .before .before .before .before .before .n .given .1) (leaves-by (ap (λ (x : Float). values (x ∷ [])) (c .before .before .before .width .ensures)) (c .before .before .put-one .ensures))
+returns c =
+    on-new
+    (λ (a : Interval). values (widthOf a ∷ [])) (sym (c .before .before .before .before .before .before .before .before .new .ensures) ∙ c .before .before .before .before .before .before .n .given .1)
+    (leaves-by (ap (λ (x : Float). values (x ∷ [])) (c .before .before .before .width .ensures)) (c .before .before .put-one .ensures))
 
 same-length-2 : tie.Need-same-length-2
 same-length-2 c = search needs
 
 returns-2 : tie.Need-returns-2
-returns-2 c = no-new (λ (a : Interval). values (widthOf a ∷ [])) (sym (c .before .before .before .before .before .before .new .ensures) ∙ c .before .before .before .before .enum-told .given .1) (c .before .before .refuse .ensures)
+returns-2 c =
+    no-new
+    (λ (a : Interval). values (widthOf a ∷ [])) (sym (c .before .before .before .before .before .before .new .ensures) ∙ c .before .before .before .before .enum-told .given .1)
+    (c .before .before .refuse .ensures)
 
 pub tasulogi-interval-width-spec : {M : Type 1} → statement M
 tasulogi-interval-width-spec =

@@ -24,10 +24,16 @@ enum-told-2 : tie.Need-enum-told-2
 enum-told-2 c = search needs
 
 returns : tie.Need-returns
-returns c = both-are (sym (c .before .before .before .before .before .before .before .new .ensures) ∙ c .before .before .before .before .a .given .1) (sym (c .before .before .before .before .before .before .new2 .ensures) ∙ c .before .b .given .1)
+returns c =
+    both-are
+    (sym (c .before .before .before .before .before .before .before .new .ensures) ∙ c .before .before .before .before .a .given .1)
+    (sym (c .before .before .before .before .before .before .new2 .ensures) ∙ c .before .b .given .1)
 
 returns-2 : tie.Need-returns-2
-returns-2 c = second-none (sym (c .before .before .before .before .before .before .new .ensures) ∙ c .before .before .before .a .given .1) (sym (c .before .before .before .before .before .new2 .ensures) ∙ c .enum-told .given .1)
+returns-2 c =
+    second-none
+    (sym (c .before .before .before .before .before .before .new .ensures) ∙ c .before .before .before .a .given .1)
+    (sym (c .before .before .before .before .before .new2 .ensures) ∙ c .enum-told .given .1)
 
 returns-3 : tie.Need-returns-3
 returns-3 c = first-none (newOf (c .before .before .before .before .args .bl) (c .before .before .before .before .args .bh)) (sym (c .before .before .before .new .ensures) ∙ c .enum-told2 .given .1)

@@ -1,5 +1,7 @@
+-- `exports::points::put_curve` meets its contract.
+-- Assumes nothing.
 use Rattle.exports.specs.Points.{curveAnswer}
-use Rattle.exports.proofs.Put.{leaves-by, told-values, told-refused}
+use Rattle.exports.proofs.Put.{leaves-by, told-values}
 use mathlib.Core.Path.{sym, ap}
 use borrow.Author.Needs.{needs}
 use Rattle.exports.proofs.points.put_curve.Statement.{statement}
@@ -14,11 +16,8 @@ put-vectors-requires c κs = search needs
 enum-known-a-2 : tie.Need-enum-known-a-2
 enum-known-a-2 c = search needs
 
-packed-requires : tie.Need-packed-requires
-packed-requires c κs = search needs
-
-refuse-requires : tie.Need-refuse-requires
-refuse-requires c κs = search needs
+put-refusal-requires : tie.Need-put-refusal-requires
+put-refusal-requires c κs = search needs
 
 same-length : tie.Need-same-length
 same-length c = search needs
@@ -30,7 +29,7 @@ same-length-2 : tie.Need-same-length-2
 same-length-2 c = search needs
 
 returns-2 : tie.Need-returns-2
-returns-2 c = leaves-by (ap curveAnswer (sym (c .before .before .before .before .before .before .a2 .given .1))) (told-refused _ (c .before .before .before .packed .ensures) (c .before .before .refuse .ensures))
+returns-2 c = leaves-by (ap curveAnswer (sym (c .before .before .before .before .before .a2 .given .1))) (c .before .before .put-refusal .ensures)
 
 pub put-curve-spec : {M : Type 1} → statement M
 put-curve-spec =
@@ -39,8 +38,7 @@ put-curve-spec =
     enum-known-a
     put-vectors-requires
     enum-known-a-2
-    packed-requires
-    refuse-requires
+    put-refusal-requires
     same-length
     returns
     same-length-2

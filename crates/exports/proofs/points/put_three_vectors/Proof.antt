@@ -7,10 +7,6 @@ use native.Mathlib.Omega.{arith}
 use borrow.Author.Needs.{needs}
 use Rattle.exports.proofs.points.put_three_vectors.Statement.{statement}
 use Rattle.exports.proofs.points.put_three_vectors.Tie as tie
-use Rattle.exports.proofs.points.put_three_vectors.Reads as reads
-use Rattle.exports.proofs.points.put_three_vectors.Lts as lts
-use Rattle.exports.proofs.points.store_vector.Reads as store-vector-reads
-use Rattle.knots.proofs.clear.clear.Reads as clear-reads
 
 clear-requires : tie.Need-clear-requires
 clear-requires c κs = search needs
@@ -19,7 +15,9 @@ same-length : tie.Need-same-length
 same-length c = search needs
 
 returns : tie.Need-returns
-returns c = let a = c .before .before .before .before .before .before .args in leaves-short (onto (a .a) (onto (a .b) (onto (a .c) []))) (now (a .out)) _ (c .before .before .before .clear .ensures) (omega arith)
+returns c =
+    let a = c .before .before .before .before .before .before .args in
+    leaves-short (onto (a .a) (onto (a .b) (onto (a .c) []))) (now (a .out)) _ (c .before .before .before .clear .ensures) (omega arith)
 
 store-vector-requires : tie.Need-store-vector-requires
 store-vector-requires c κs = search needs
@@ -34,7 +32,12 @@ same-length-2 : tie.Need-same-length-2
 same-length-2 c = search needs
 
 returns-2 : tie.Need-returns-2
-returns-2 c = let a = c .before .before .before .before .before .before .before .before .before .before .before .before .before .before .before .before .before .before .args in leaves-three-vectors (a .a) (a .b) (a .c) (now (a .out)) _ _ _ _ (c .before .before .before .before .before .before .before .before .before .before .before .before .before .before .before .clear .ensures) (omega arith) (c .before .before .before .before .before .before .before .before .before .before .store-vector .ensures) (c .before .before .before .before .before .before .store-vector2 .ensures) (c .before .before .store-vector3 .ensures)
+returns-2 c =
+    let a = c .before .before .before .before .before .before .before .before .before .before .before .before .before .before .before .before .before .before .args in
+    leaves-three-vectors
+    (a .a) (a .b) (a .c) (now (a .out)) _ _ _ _ (c .before .before .before .before .before .before .before .before .before .before .before .before .before .before .before .clear .ensures)
+    (omega arith) (c .before .before .before .before .before .before .before .before .before .before .store-vector .ensures) (c .before .before .before .before .before .before .store-vector2 .ensures)
+    (c .before .before .store-vector3 .ensures)
 
 pub put-three-vectors-spec : {M : Type 1} → statement M
 put-three-vectors-spec =

@@ -7,10 +7,6 @@ use native.Mathlib.Omega.{arith}
 use borrow.Author.Needs.{needs}
 use Rattle.exports.proofs.points.put_vectors.Statement.{statement}
 use Rattle.exports.proofs.points.put_vectors.Tie as tie
-use Rattle.exports.proofs.points.put_vectors.Reads as reads
-use Rattle.exports.proofs.points.put_vectors.Lts as lts
-use Rattle.exports.proofs.points.store_vector.Reads as store-vector-reads
-use Rattle.knots.proofs.clear.clear.Reads as clear-reads
 
 clear-requires : tie.Need-clear-requires
 clear-requires c κs = search needs
@@ -31,7 +27,11 @@ same-length-2 : tie.Need-same-length-2
 same-length-2 c = search needs
 
 returns-2 : tie.Need-returns-2
-returns-2 c = let a = c .before .before .before .before .before .before .before .before .before .before .before .before .before .before .args in leaves-vectors (a .a) (a .b) (now (a .out)) _ _ _ (c .before .before .before .before .before .before .before .before .before .before .before .clear .ensures) (omega arith) (c .before .before .before .before .before .before .store-vector .ensures) (c .before .before .store-vector2 .ensures)
+returns-2 c =
+    let a = c .before .before .before .before .before .before .before .before .before .before .before .before .before .before .args in
+    leaves-vectors
+    (a .a) (a .b) (now (a .out)) _ _ _ (c .before .before .before .before .before .before .before .before .before .before .before .clear .ensures) (omega arith)
+    (c .before .before .before .before .before .before .store-vector .ensures) (c .before .before .store-vector2 .ensures)
 
 pub put-vectors-spec : {M : Type 1} → statement M
 put-vectors-spec =

@@ -1,15 +1,11 @@
+-- `exports::points::tasulogi_eval2` meets its contract.
+-- Assumes nothing.
 use Rattle.exports.specs.Points.{curve2Answer}
-use Rattle.exports.proofs.Put.{leaves-by, told-values, told-refused}
+use Rattle.exports.proofs.Put.{leaves-by, told-values}
 use mathlib.Core.Path.{sym, _∙_, ap}
 use borrow.Author.Needs.{needs}
 use Rattle.exports.proofs.points.tasulogi_eval2.Statement.{statement}
 use Rattle.exports.proofs.points.tasulogi_eval2.Tie as tie
-use Rattle.exports.proofs.points.tasulogi_eval2.Reads as reads
-use Rattle.exports.proofs.points.tasulogi_eval2.Lts as lts
-use Rattle.evaluate.proofs.curve2.eval2.Reads as eval2-reads
-use Rattle.exports.proofs.answer.refuse.Reads as refuse-reads
-use Rattle.exports.proofs.points.put_three_vectors.Reads as put-three-vectors-reads
-use Rattle.exports.proofs.tables.packed.Reads as packed-reads
 
 eval2-requires : tie.Need-eval2-requires
 eval2-requires c κs = search needs
@@ -23,23 +19,26 @@ put-three-vectors-requires c κs = search needs
 enum-known-r : tie.Need-enum-known-r
 enum-known-r c = search needs
 
-packed-requires : tie.Need-packed-requires
-packed-requires c κs = search needs
-
-refuse-requires : tie.Need-refuse-requires
-refuse-requires c κs = search needs
+put-refusal-requires : tie.Need-put-refusal-requires
+put-refusal-requires c κs = search needs
 
 same-length : tie.Need-same-length
 same-length c = search needs
 
 returns : tie.Need-returns
-returns c = leaves-by (ap curve2Answer (sym (c .before .before .before .before .before .d .given .1) ∙ c .before .before .before .before .before .before .before .eval2 .ensures)) (told-values _ (c .before .before .put-three-vectors .ensures))
+returns c =
+    leaves-by
+    (ap curve2Answer (sym (c .before .before .before .before .before .d .given .1) ∙ c .before .before .before .before .before .before .before .eval2 .ensures))
+    (told-values _ (c .before .before .put-three-vectors .ensures))
 
 same-length-2 : tie.Need-same-length-2
 same-length-2 c = search needs
 
 returns-2 : tie.Need-returns-2
-returns-2 c = leaves-by (ap curve2Answer (sym (c .before .before .before .before .before .before .r .given .1) ∙ c .before .before .before .before .before .before .before .before .eval2 .ensures)) (told-refused _ (c .before .before .before .packed .ensures) (c .before .before .refuse .ensures))
+returns-2 c =
+    leaves-by
+    (ap curve2Answer (sym (c .before .before .before .before .before .r .given .1) ∙ c .before .before .before .before .before .before .before .eval2 .ensures))
+    (c .before .before .put-refusal .ensures)
 
 pub tasulogi-eval2-spec : {M : Type 1} → statement M
 tasulogi-eval2-spec =
@@ -49,8 +48,7 @@ tasulogi-eval2-spec =
     enum-known-d
     put-three-vectors-requires
     enum-known-r
-    packed-requires
-    refuse-requires
+    put-refusal-requires
     same-length
     returns
     same-length-2

@@ -1,56 +1,54 @@
+-- `exports::points::tasulogi_eval_surface` meets its contract.
+-- Assumes nothing.
 use Rattle.exports.specs.Points.{surfaceAnswer}
-use Rattle.exports.proofs.Put.{leaves-by, told-values, told-refused}
+use Rattle.exports.proofs.Put.{leaves-by, told-values}
 use mathlib.Core.Path.{sym, _∙_, ap}
 use borrow.Author.Needs.{needs}
 use Rattle.exports.proofs.points.tasulogi_eval_surface.Statement.{statement}
 use Rattle.exports.proofs.points.tasulogi_eval_surface.Tie as tie
-use Rattle.exports.proofs.points.tasulogi_eval_surface.Reads as reads
-use Rattle.exports.proofs.points.tasulogi_eval_surface.Lts as lts
-use Rattle.evaluate.proofs.surface.eval_surface.Reads as eval-surface-reads
-use Rattle.exports.proofs.answer.refuse.Reads as refuse-reads
-use Rattle.exports.proofs.points.put_three_vectors.Reads as put-three-vectors-reads
-use Rattle.exports.proofs.tables.packed.Reads as packed-reads
 
 eval-surface-requires : tie.Need-eval-surface-requires
 eval-surface-requires c κs = search needs
 
-enum-known-d : tie.Need-enum-known-d
-enum-known-d c = search needs
+enum-known-s : tie.Need-enum-known-s
+enum-known-s c = search needs
 
 put-three-vectors-requires : tie.Need-put-three-vectors-requires
 put-three-vectors-requires c κs = search needs
 
-enum-known-r : tie.Need-enum-known-r
-enum-known-r c = search needs
+enum-known-none : tie.Need-enum-known-none
+enum-known-none c = search needs
 
-packed-requires : tie.Need-packed-requires
-packed-requires c κs = search needs
-
-refuse-requires : tie.Need-refuse-requires
-refuse-requires c κs = search needs
+put-refusal-requires : tie.Need-put-refusal-requires
+put-refusal-requires c κs = search needs
 
 same-length : tie.Need-same-length
 same-length c = search needs
 
 returns : tie.Need-returns
-returns c = leaves-by (ap surfaceAnswer (sym (c .before .before .before .before .before .d .given .1) ∙ c .before .before .before .before .before .before .before .eval-surface .ensures)) (told-values _ (c .before .before .put-three-vectors .ensures))
+returns c =
+    leaves-by
+    (ap surfaceAnswer (sym (c .before .before .before .before .before .s .given .1) ∙ c .before .before .before .before .before .before .before .eval-surface .ensures))
+    (told-values _ (c .before .before .put-three-vectors .ensures))
 
 same-length-2 : tie.Need-same-length-2
 same-length-2 c = search needs
 
 returns-2 : tie.Need-returns-2
-returns-2 c = leaves-by (ap surfaceAnswer (sym (c .before .before .before .before .before .before .r .given .1) ∙ c .before .before .before .before .before .before .before .before .eval-surface .ensures)) (told-refused _ (c .before .before .before .packed .ensures) (c .before .before .refuse .ensures))
+returns-2 c =
+    leaves-by
+    (ap surfaceAnswer (sym (c .before .before .before .before .before .none .given .1) ∙ c .before .before .before .before .before .before .before .eval-surface .ensures))
+    (c .before .before .put-refusal .ensures)
 
 pub tasulogi-eval-surface-spec : {M : Type 1} → statement M
 tasulogi-eval-surface-spec =
     tie.close
     (tie.spec
     eval-surface-requires
-    enum-known-d
+    enum-known-s
     put-three-vectors-requires
-    enum-known-r
-    packed-requires
-    refuse-requires
+    enum-known-none
+    put-refusal-requires
     same-length
     returns
     same-length-2

@@ -20,10 +20,16 @@ high-requires : tie.Need-high-requires
 high-requires c κs = search needs
 
 returns : tie.Need-returns
-returns c = let a = c .before .before .before .before .before .args in sym (zero-add _) ∙ ap spanNumber (sym (c .before .a .given .1) ∙ answer-is (a .degree) (a .count) (now (a .knots)) (a .u) _ (c .before .before .before .find-span .ensures))
+returns c =
+    let a = c .before .before .before .before .before .args in
+    sym (zero-add _) ∙ ap spanNumber (sym (c .before .a .given .1) ∙ answer-is (a .degree) (a .count) (now (a .knots)) (a .u) _ (c .before .before .before .find-span .ensures))
 
 returns-2 : tie.Need-returns-2
-returns-2 c = let a = c .before .before .before .before .before .before .args in c .high .ensures ∙ sym (add-zero _) ∙ ap spanNumber (sym (c .before .before .a2 .given .1) ∙ answer-is (a .degree) (a .count) (now (a .knots)) (a .u) _ (c .before .before .before .before .find-span .ensures))
+returns-2 c =
+    let a = c .before .before .before .before .before .before .args in
+    c .high .ensures
+    ∙ sym (add-zero _)
+    ∙ ap spanNumber (sym (c .before .before .a2 .given .1) ∙ answer-is (a .degree) (a .count) (now (a .knots)) (a .u) _ (c .before .before .before .before .find-span .ensures))
 
 pub tasulogi-find-span-spec : {M : Type 1} → statement M
 tasulogi-find-span-spec =

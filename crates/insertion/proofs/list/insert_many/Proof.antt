@@ -1,19 +1,16 @@
-use native.Mathlib.Omega.{arith}
+-- `insertion::list::insert_many` meets its contract.
+-- Assumes nothing.
 use Rattle.insertion.proofs.Folds.{InTurns, turns-start, turns-room, turns-stop, turns-more, turns-end, more-first, more-next, more-last}
 use mathlib.Core.Path.{_∙_, ap}
-use Prim.Native.Nat.{_-_}
+use Prim.Native.Nat.{_-_, _+_}
 use denote.Ref.{now}
 use lib.ListN.{replicate}
 use Rattle.knots.specs.declared.refusal.Refusal.{Refusal}
-use Rattle.insertion.proofs.Folds.{InTurns, turns-start, turns-room, turns-stop, turns-more, turns-end, more-next, more-last}
 use borrow.Author.Needs.{needs}
+use native.Mathlib.Omega.{arith}
+use Rattle.edits.proofs.RowReads.{scale-fits}
 use Rattle.insertion.proofs.list.insert_many.Statement.{statement}
 use Rattle.insertion.proofs.list.insert_many.Tie as tie
-use Rattle.insertion.proofs.list.insert_many.Reads as reads
-use Rattle.insertion.proofs.list.insert_many.Lts as lts
-use Rattle.insertion.proofs.one.insert_one.Reads as insert-one-reads
-use Rattle.insertion.proofs.rows.scale_of.Reads as scale-of-reads
-use Rattle.knots.proofs.refusal.refuse.Reads as refuse-reads
 
 abbrev Inv-loop : tie.InvT-loop
 Inv-loop p n rational t m a work₀ j₀ work j = InTurns a p rational n m (replicate m t) (λ k. replicate (m - k) t) work₀ work j
@@ -22,25 +19,44 @@ abbrev μ-loop : tie.MeasureT-loop
 μ-loop p n rational t m a work₀ j₀ work j = m - j
 
 loop-holds : tie.Need-loop-holds Inv-loop μ-loop
-loop-holds c = turns-start (c .before .args .a) (c .before .args .p) (c .before .args .rational) (c .before .args .n) (c .before .args .m) (replicate (c .before .args .m) (c .before .args .t)) (λ k. replicate (c .before .args .m - k) (c .before .args .t)) (now (c .before .args .work)) (more-first (c .before .args .t) (c .before .args .m)) (c .before .pre .0)
+loop-holds c =
+    turns-start
+    (c .before .args .a) (c .before .args .p) (c .before .args .rational) (c .before .args .n) (c .before .args .m) (replicate (c .before .args .m) (c .before .args .t))
+    (λ k. replicate (c .before .args .m - k) (c .before .args .t)) (now (c .before .args .work)) (more-first (c .before .args .t) (c .before .args .m)) (c .before .pre .0)
 
-add-scale-of : tie.Need-add-scale-of Inv-loop μ-loop
-add-scale-of c = let q = c .before .before .before .pre .1 .1 in let t = c .loop-test .taken in let g = c .before .before .before .good in let f = c .before .before .before .fits in search needs
+add-scale-in : tie.Need-add-scale-in Inv-loop μ-loop
+add-scale-in c = let q = c .before .before .before .pre .1 .1 in let t = c .loop-test .taken in let g = c .before .before .before .good in let f = c .before .before .before .fits in search needs
 
-scale-of-requires : tie.Need-scale-of-requires Inv-loop μ-loop
-scale-of-requires c κs = let r = turns-room (c .before .before .before .before .args .a) (c .before .before .before .before .args .p) (c .before .before .before .before .args .rational) (c .before .before .before .before .args .n) (c .before .before .before .before .args .m) (replicate (c .before .before .before .before .args .m) (c .before .before .before .before .args .t)) (λ k. replicate (c .before .before .before .before .args .m - k) (c .before .before .before .before .args .t)) (now (c .before .before .before .before .args .work)) _ (c .before .before .loop .j) (c .before .before .loop .inv) (c .before .loop-test .taken) (c .before .before .before .before .pre .1 .0) (c .before .before .before .before .pre .1 .1) .1 in let x = r .0 in let y = r .1 in omega arith
+scale-in-requires : tie.Need-scale-in-requires Inv-loop μ-loop
+scale-in-requires c κs = search needs
 
 add-insert-one : tie.Need-add-insert-one Inv-loop μ-loop
-add-insert-one c = let q = c .before .before .before .before .before .pre .1 .1 in let t = c .before .before .loop-test .taken in let g = c .before .before .before .before .before .good in let f = c .before .before .before .before .before .fits in search needs
+add-insert-one c =
+    let q = c .before .before .before .before .before .pre .1 .1 in
+    let t = c .before .before .loop-test .taken in let g = c .before .before .before .before .before .good in let f = c .before .before .before .before .before .fits in search needs
 
 insert-one-requires : tie.Need-insert-one-requires Inv-loop μ-loop
-insert-one-requires c κs = let r = turns-room (c .before .before .before .before .before .before .args .a) (c .before .before .before .before .before .before .args .p) (c .before .before .before .before .before .before .args .rational) (c .before .before .before .before .before .before .args .n) (c .before .before .before .before .before .before .args .m) (replicate (c .before .before .before .before .before .before .args .m) (c .before .before .before .before .before .before .args .t)) (λ k. replicate (c .before .before .before .before .before .before .args .m - k) (c .before .before .before .before .before .before .args .t)) (now (c .before .before .before .before .before .before .args .work)) _ (c .before .before .before .before .loop .j) (c .before .before .before .before .loop .inv) (c .before .before .before .loop-test .taken) (c .before .before .before .before .before .before .pre .1 .0) (c .before .before .before .before .before .before .pre .1 .1) in (r .0, (r .1, c .before .scale-of .ensures))
+insert-one-requires c κs =
+    let a = c .before .before .before .before .before .before .args in
+    let l = c .before .before .before .before .loop in
+    let q = c .before .before .before .before .before .before .pre in
+    let r =
+    turns-room
+    (a .a) (a .p) (a .rational) (a .n) (a .m) (replicate (a .m) (a .t)) (λ k. replicate (a .m - k) (a .t)) (now (a .work)) _ (l .j) (l .inv) (c .before .before .before .loop-test .taken) (q .1 .0)
+    (q .1 .1) in
+    let x = r .1 .0 in let y = r .1 .1 in (r .0, (r .1, c .before .scale-in .ensures ∙ scale-fits (a .n + l .j) (a .rational) (l .work) (omega arith)))
 
 same-length : tie.Need-same-length Inv-loop μ-loop
 same-length c = c .before .before .before .work .given ∙ c .before .before .before .before .before .before .before .before .before .loop .inv .long
 
 returns : tie.Need-returns Inv-loop μ-loop
-returns c = turns-stop (c .before .before .before .before .before .before .before .before .before .before .before .args .a) (c .before .before .before .before .before .before .before .before .before .before .before .args .p) (c .before .before .before .before .before .before .before .before .before .before .before .args .rational) (c .before .before .before .before .before .before .before .before .before .before .before .args .n) (c .before .before .before .before .before .before .before .before .before .before .before .args .m) (replicate (c .before .before .before .before .before .before .before .before .before .before .before .args .m) (c .before .before .before .before .before .before .before .before .before .before .before .args .t)) (λ k. replicate (c .before .before .before .before .before .before .before .before .before .before .before .args .m - k) (c .before .before .before .before .before .before .before .before .before .before .before .args .t)) (now (c .before .before .before .before .before .before .before .before .before .before .before .args .work)) _ (c .before .before .before .before .before .before .before .before .before .loop .j) (c .before .before .before .before .before .before .before .before .before .loop .inv) (c .before .before .before .before .before .before .before .before .loop-test .taken) (c .before .before .before .before .before .before .before .before .before .before .before .args .t) (more-next (c .before .before .before .before .before .before .before .before .before .before .before .args .t) (c .before .before .before .before .before .before .before .before .before .before .before .args .m) (c .before .before .before .before .before .before .before .before .before .loop .j) (c .before .before .before .before .before .before .before .before .loop-test .taken)) _ _ (c .before .before .before .before .insert-one .ensures) (c .if1 .taken)
+returns c =
+    let a = c .before .before .before .before .before .before .before .before .before .before .before .args in
+    let l = c .before .before .before .before .before .before .before .before .before .loop in
+    turns-stop
+    (a .a) (a .p) (a .rational) (a .n) (a .m) (replicate (a .m) (a .t)) (λ k. replicate (a .m - k) (a .t)) (now (a .work)) _ (l .j) (l .inv)
+    (c .before .before .before .before .before .before .before .before .loop-test .taken) (a .t)
+    (more-next (a .t) (a .m) (l .j) (c .before .before .before .before .before .before .before .before .loop-test .taken)) _ _ (c .before .before .before .before .insert-one .ensures) (c .if1 .taken)
 
 add-j : tie.Need-add-j Inv-loop μ-loop
 add-j c = search needs
@@ -49,7 +65,14 @@ loop-less : tie.Need-loop-less Inv-loop μ-loop
 loop-less c = search needs
 
 loop-again : tie.Need-loop-again Inv-loop μ-loop
-loop-again c = turns-more (c .before .before .before .before .before .before .before .before .before .before .before .args .a) (c .before .before .before .before .before .before .before .before .before .before .before .args .p) (c .before .before .before .before .before .before .before .before .before .before .before .args .rational) (c .before .before .before .before .before .before .before .before .before .before .before .args .n) (c .before .before .before .before .before .before .before .before .before .before .before .args .m) (replicate (c .before .before .before .before .before .before .before .before .before .before .before .args .m) (c .before .before .before .before .before .before .before .before .before .before .before .args .t)) (λ k. replicate (c .before .before .before .before .before .before .before .before .before .before .before .args .m - k) (c .before .before .before .before .before .before .before .before .before .before .before .args .t)) (now (c .before .before .before .before .before .before .before .before .before .before .before .args .work)) _ (c .before .before .before .before .before .before .before .before .before .loop .j) (c .before .before .before .before .before .before .before .before .before .loop .inv) (c .before .before .before .before .before .before .before .before .loop-test .taken) (c .before .before .before .before .before .before .before .before .before .before .before .args .t) (more-next (c .before .before .before .before .before .before .before .before .before .before .before .args .t) (c .before .before .before .before .before .before .before .before .before .before .before .args .m) (c .before .before .before .before .before .before .before .before .before .loop .j) (c .before .before .before .before .before .before .before .before .loop-test .taken)) _ _ (c .before .before .before .before .insert-one .ensures) (c .if1 .left) (c .before .before .before .work .given)
+loop-again c =
+    let a = c .before .before .before .before .before .before .before .before .before .before .before .args in
+    let l = c .before .before .before .before .before .before .before .before .before .loop in
+    turns-more
+    (a .a) (a .p) (a .rational) (a .n) (a .m) (replicate (a .m) (a .t)) (λ k. replicate (a .m - k) (a .t)) (now (a .work)) _ (l .j) (l .inv)
+    (c .before .before .before .before .before .before .before .before .loop-test .taken) (a .t)
+    (more-next (a .t) (a .m) (l .j) (c .before .before .before .before .before .before .before .before .loop-test .taken)) _ _ (c .before .before .before .before .insert-one .ensures) (c .if1 .left)
+    (c .before .before .before .work .given)
 
 refuse-requires : tie.Need-refuse-requires Inv-loop μ-loop
 refuse-requires c κs = search needs
@@ -58,7 +81,11 @@ same-length-2 : tie.Need-same-length-2 Inv-loop μ-loop
 same-length-2 c = c .before .before .loop .inv .long
 
 returns-2 : tie.Need-returns-2 Inv-loop μ-loop
-returns-2 c = turns-end (c .before .before .before .before .args .a) (c .before .before .before .before .args .p) (c .before .before .before .before .args .rational) (c .before .before .before .before .args .n) (c .before .before .before .before .args .m) (replicate (c .before .before .before .before .args .m) (c .before .before .before .before .args .t)) (λ k. replicate (c .before .before .before .before .args .m - k) (c .before .before .before .before .args .t)) (now (c .before .before .before .before .args .work)) _ (c .before .before .loop .j) (c .before .before .loop .inv) (c .before .loop-test .left) (more-last (c .before .before .before .before .args .t) (c .before .before .before .before .args .m)) _ (ap (λ (r : Refusal). r .number) (c .refuse .ensures))
+returns-2 c =
+    let a = c .before .before .before .before .args in
+    turns-end
+    (a .a) (a .p) (a .rational) (a .n) (a .m) (replicate (a .m) (a .t)) (λ k. replicate (a .m - k) (a .t)) (now (a .work)) _ (c .before .before .loop .j) (c .before .before .loop .inv)
+    (c .before .loop-test .left) (more-last (a .t) (a .m)) _ (ap (λ (r : Refusal). r .number) (c .refuse .ensures))
 
 pub insert-many-spec : {M : Type 1} → statement M
 insert-many-spec =
@@ -67,8 +94,8 @@ insert-many-spec =
     Inv-loop
     μ-loop
     loop-holds
-    add-scale-of
-    scale-of-requires
+    add-scale-in
+    scale-in-requires
     add-insert-one
     insert-one-requires
     same-length

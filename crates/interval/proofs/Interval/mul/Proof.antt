@@ -17,7 +17,8 @@ use Rattle.interval.proofs.step.least.Reads as least-reads
 use Rattle.interval.proofs.step.most.Reads as most-reads
 
 -- past the test no product is a NaN
-none : (c : tie.Else1) → (let a = c .before .before .before .before .before .before .before .before .before .before .args .self in let o = c .before .before .before .before .before .before .before .before .before .before .args .o in Products (λ x. isNan x ≡ false) binary64 (a .lo) (a .hi) (o .lo) (o .hi))
+none : (c : tie.Else1)
+    → (let a = c .before .before .before .before .before .before .before .before .before .before .args .self in let o = c .before .before .before .before .before .before .before .before .before .before .args .o in Products (λ x. isNan x ≡ false) binary64 (a .lo) (a .hi) (o .lo) (o .hi))
 none c = none-nan _ _ _ _ (sym (c .before .some-nan .ensures) ∙ c .if1 .left)
 
 some-nan-requires : tie.Need-some-nan-requires
@@ -55,7 +56,19 @@ returns-2 : tie.Need-returns-2
 unfolding mulOf
 returns-2 c =
     let n = none (c .before .before .before .before .before .before .before) in
-    rw (← (c .before .before .before .before .before .before .before .before .some-nan .ensures), c .before .before .before .before .before .before .before .if1 .left, ← (least-pairs _ _ _ _ n), ← (greatest-pairs _ _ _ _ n), c .outward .ensures, c .before .before .before .before .least3 .ensures, c .before .before .before .before .before .least2 .ensures, c .before .before .before .before .before .before .least .ensures, c .before .most3 .ensures, c .before .before .most2 .ensures, c .before .before .before .most .ensures)
+    rw (
+      ← (c .before .before .before .before .before .before .before .before .some-nan .ensures),
+      c .before .before .before .before .before .before .before .if1 .left,
+      ← (least-pairs _ _ _ _ n),
+      ← (greatest-pairs _ _ _ _ n),
+      c .outward .ensures,
+      c .before .before .before .before .least3 .ensures,
+      c .before .before .before .before .before .least2 .ensures,
+      c .before .before .before .before .before .before .least .ensures,
+      c .before .most3 .ensures,
+      c .before .before .most2 .ensures,
+      c .before .before .before .most .ensures,
+    )
 
 pub mul-spec : {M : Type 1} → statement M
 mul-spec =

@@ -17,7 +17,8 @@ use Rattle.interval.proofs.step.above.Reads as above-reads
 use Rattle.interval.proofs.step.below.Reads as below-reads
 
 -- the definition by the tests that the code makes
-tested : (c : tie.Start) → checkedOf (nextDown (c .args .lo)) (nextUp (c .args .hi)) ≡ cond (isNan (c .args .lo) || isNan (c .args .hi)) entire (record { lo = nextDown (c .args .lo); hi = nextUp (c .args .hi) })
+tested : (c : tie.Start)
+    → checkedOf (nextDown (c .args .lo)) (nextUp (c .args .hi)) ≡ cond (isNan (c .args .lo) || isNan (c .args .hi)) entire (record { lo = nextDown (c .args .lo); hi = nextUp (c .args .hi) })
 tested c = checked-out (c .args .lo) (c .args .hi) (subst T (sym (c .good .0 .1)) tt) (subst T (sym (c .good .1 .0 .1)) tt)
 
 is-nan-requires : tie.Need-is-nan-requires
@@ -36,7 +37,15 @@ entire-requires-2 : tie.Need-entire-requires-2
 entire-requires-2 c κs = search needs
 
 returns-2 : tie.Need-returns-2
-returns-2 c = rw (tested (c .before .before .before .before .before), ← (c .before .before .before .before .is-nan .ensures), c .before .before .before .if1 .left, ← (c .before .before .is-nan2 .ensures), c .before .if2 .taken) (c .entire2 .ensures)
+returns-2 c =
+    rw (
+      tested (c .before .before .before .before .before),
+      ← (c .before .before .before .before .is-nan .ensures),
+      c .before .before .before .if1 .left,
+      ← (c .before .before .is-nan2 .ensures),
+      c .before .if2 .taken,
+    )
+    (c .entire2 .ensures)
 
 below-requires : tie.Need-below-requires
 below-requires c κs = sym (c .before .before .before .is-nan .ensures) ∙ c .before .before .if1 .left
@@ -45,7 +54,16 @@ above-requires : tie.Need-above-requires
 above-requires c κs = sym (c .before .before .is-nan2 .ensures) ∙ c .before .if2 .left
 
 returns-3 : tie.Need-returns-3
-returns-3 c = rw (tested (c .before .before .before .before .before .before), ← (c .before .before .before .before .before .is-nan .ensures), c .before .before .before .before .if1 .left, ← (c .before .before .before .is-nan2 .ensures), c .before .before .if2 .left, c .before .below .ensures, c .above .ensures)
+returns-3 c =
+    rw (
+      tested (c .before .before .before .before .before .before),
+      ← (c .before .before .before .before .before .is-nan .ensures),
+      c .before .before .before .before .if1 .left,
+      ← (c .before .before .before .is-nan2 .ensures),
+      c .before .before .if2 .left,
+      c .before .below .ensures,
+      c .above .ensures,
+    )
 
 pub outward-spec : {M : Type 1} → statement M
 outward-spec =

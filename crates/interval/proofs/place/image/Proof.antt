@@ -57,7 +57,8 @@ plain (negsuc n) h l = absurd (true≢false l)
 positive : (p : ℤ) → SFits w64 p → natAbs p < 9223372036854775808 → ltZ (toZ w64 (ofZ w64 p)) (pos 0) ≡ false → Cast p (toZ w64 (ofZ w64 p))
 positive p f h l = subst (Cast p) (sym (same p f)) (plain p h (subst (λ (z : ℤ). ltZ z (pos 0) ≡ false) (same p f) l))
 
-wraps : (p : ℤ) (r : ℕ) → SFits w64 p → natAbs p < 9223372036854775808 → ltZ (toZ w64 (ofZ w64 p)) (pos 0) ≡ true → r < 18446744073709551616 → (r + natAbs (toZ w64 (ofZ w64 (pos 0 -ℤ toZ w64 (ofZ w64 p))))) % 18446744073709551616 ≡ 0 → r ≡ wrapped p
+wraps : (p : ℤ) (r : ℕ) → SFits w64 p → natAbs p < 9223372036854775808 → ltZ (toZ w64 (ofZ w64 p)) (pos 0) ≡ true → r < 18446744073709551616
+    → (r + natAbs (toZ w64 (ofZ w64 (pos 0 -ℤ toZ w64 (ofZ w64 p))))) % 18446744073709551616 ≡ 0 → r ≡ wrapped p
 wraps p r f h l R e =
     go p r h (subst (λ (z : ℤ). ltZ z (pos 0) ≡ true) (same p f) l) R
     (subst (λ (z : ℤ). (r + natAbs (toZ w64 (ofZ w64 (pos 0 -ℤ z)))) % 18446744073709551616 ≡ 0) (same p f) e)
@@ -88,7 +89,9 @@ cast-result : tie.Need-cast-result
 cast-result c = positive (c .before .args .p) (c .before .fits .p) (c .before .pre) (c .if1 .left) .0
 
 returns : tie.Need-returns
-returns c = wraps (c .before .before .args .p) (c .wrapping-sub-u64 .result) (c .before .before .fits .p) (c .before .before .pre) (c .before .if1 .taken) (c .wrapping-sub-u64 .ok) (c .wrapping-sub-u64 .ensures)
+returns c =
+    wraps
+    (c .before .before .args .p) (c .wrapping-sub-u64 .result) (c .before .before .fits .p) (c .before .before .pre) (c .before .if1 .taken) (c .wrapping-sub-u64 .ok) (c .wrapping-sub-u64 .ensures)
 
 returns-2 : tie.Need-returns-2
 returns-2 c = positive (c .before .args .p) (c .before .fits .p) (c .before .pre) (c .if1 .left) .1

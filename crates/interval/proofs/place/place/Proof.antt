@@ -23,7 +23,8 @@ held c = subst T (sym (c .good .0 .1)) tt
 number : (c : tie.Then1) → Number (c .before .args .x)
 number c = Tn-of _ (nan-no (c .before .args .x) (c .if1 .taken))
 
-high : (c : tie.Else2) → (toBits binary64 (c .before .before .args .x) - 9223372036854775808 ≡ mag binary64 (c .before .before .args .x)) × (negℤ (pos (mag binary64 (c .before .before .args .x))) ≡ placeOf binary64 (c .before .before .args .x))
+high : (c : tie.Else2)
+    → (toBits binary64 (c .before .before .args .x) - 9223372036854775808 ≡ mag binary64 (c .before .before .args .x)) × (negℤ (pos (mag binary64 (c .before .before .args .x))) ≡ placeOf binary64 (c .before .before .args .x))
 high c = place-high (c .before .before .args .x) (held (c .before .before)) (number (c .before)) (c .if2 .left)
 
 small : (c : tie.Else2) → mag binary64 (c .before .before .args .x) < 9223372036854775808

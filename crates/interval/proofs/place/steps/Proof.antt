@@ -58,7 +58,9 @@ returns c =
     let l = T-of (le lo hi) (c .before .before .before .before .before .if1 .taken) in
     distance (c .wrapping-sub-u64 .result) (placeOf binary64 hi) (placeOf binary64 lo) (c .wrapping-sub-u64 .ok) (place-small hi (held-hi start)) (place-small lo (held-lo start))
     (order lo hi (held-lo start) (held-hi start) (le-left lo hi l) (le-right lo hi l) l)
-    (ap (λ (n : ℕ). (c .wrapping-sub-u64 .result + n) % 18446744073709551616) (sym (c .before .image2 .ensures ∙ ap wrapped (back lo (held-lo start) (c .before .before .place2 .result) (c .before .before .place2 .ensures))))
+    (ap
+    (λ (n : ℕ). (c .wrapping-sub-u64 .result + n) % 18446744073709551616)
+    (sym (c .before .image2 .ensures ∙ ap wrapped (back lo (held-lo start) (c .before .before .place2 .result) (c .before .before .place2 .ensures))))
     ∙ c .wrapping-sub-u64 .ensures
     ∙ c .before .before .before .image .ensures
     ∙ ap wrapped (back hi (held-hi start) (c .before .before .before .before .place .result) (c .before .before .before .before .place .ensures)))

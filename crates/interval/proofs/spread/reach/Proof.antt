@@ -17,7 +17,9 @@ infinity-requires : tie.Need-infinity-requires
 infinity-requires c κs = search needs
 
 returns : tie.Need-returns
-returns c = rw (ap (λ (i : Interval). i .hi) (about-zero (c .before .before .before .before .before .args .s) (c .before .before .before .before .before .args .a)), ← (c .before .before .is-nan .ensures), c .before .if1 .taken) (c .infinity .ensures)
+returns c =
+    let a = c .before .before .before .before .before .args in
+    rw (ap (λ (i : Interval). i .hi) (about-zero (a .s) (a .a)), ← (c .before .before .is-nan .ensures), c .before .if1 .taken) (c .infinity .ensures)
 
 is-nan-requires-2 : tie.Need-is-nan-requires-2
 is-nan-requires-2 c κs = search needs
@@ -26,13 +28,31 @@ infinity-requires-2 : tie.Need-infinity-requires-2
 infinity-requires-2 c κs = search needs
 
 returns-2 : tie.Need-returns-2
-returns-2 c = rw (ap (λ (i : Interval). i .hi) (about-zero (c .before .before .before .before .before .before .before .args .s) (c .before .before .before .before .before .before .before .args .a)), ← (c .before .before .before .before .is-nan .ensures), c .before .before .before .if1 .left, ← (c .before .before .is-nan2 .ensures), c .before .if2 .taken) (c .infinity2 .ensures)
+returns-2 c =
+    let a = c .before .before .before .before .before .before .before .args in
+    rw (
+      ap (λ (i : Interval). i .hi) (about-zero (a .s) (a .a)),
+      ← (c .before .before .before .before .is-nan .ensures),
+      c .before .before .before .if1 .left,
+      ← (c .before .before .is-nan2 .ensures),
+      c .before .if2 .taken,
+    )
+    (c .infinity2 .ensures)
 
 above-sizes-requires : tie.Need-above-sizes-requires
 above-sizes-requires c κs = (sym (c .before .before .before .is-nan .ensures) ∙ c .before .before .if1 .left, sym (c .before .is-nan2 .ensures) ∙ c .if2 .left)
 
 returns-3 : tie.Need-returns-3
-returns-3 c = rw (c .above-sizes .ensures, ap (λ (i : Interval). i .hi) (about-zero (c .before .before .before .before .before .before .before .args .s) (c .before .before .before .before .before .before .before .args .a)), ← (c .before .before .before .before .is-nan .ensures), c .before .before .before .if1 .left, ← (c .before .before .is-nan2 .ensures), c .before .if2 .left)
+returns-3 c =
+    let a = c .before .before .before .before .before .before .before .args in
+    rw (
+      c .above-sizes .ensures,
+      ap (λ (i : Interval). i .hi) (about-zero (a .s) (a .a)),
+      ← (c .before .before .before .before .is-nan .ensures),
+      c .before .before .before .if1 .left,
+      ← (c .before .before .is-nan2 .ensures),
+      c .before .if2 .left,
+    )
 
 pub reach-spec : {M : Type 1} → statement M
 reach-spec =

@@ -17,13 +17,17 @@ infinity-requires : tie.Need-infinity-requires
 infinity-requires c κs = search needs
 
 returns : tie.Need-returns
-returns c = rw (ap (λ (i : Interval). i .hi) (sum-box (c .before .before .before .args .a) (c .before .before .before .args .b)), ← (c .before .before .is-nan .ensures), c .before .if1 .taken) (c .infinity .ensures)
+returns c =
+    let a = c .before .before .before .args in
+    rw (ap (λ (i : Interval). i .hi) (sum-box (a .a) (a .b)), ← (c .before .before .is-nan .ensures), c .before .if1 .taken) (c .infinity .ensures)
 
 above-requires : tie.Need-above-requires
 above-requires c κs = sym (c .before .is-nan .ensures) ∙ c .if1 .left
 
 returns-2 : tie.Need-returns-2
-returns-2 c = rw (ap (λ (i : Interval). i .hi) (sum-box (c .before .before .before .args .a) (c .before .before .before .args .b)), ← (c .before .before .is-nan .ensures), c .before .if1 .left) (c .above .ensures)
+returns-2 c =
+    let a = c .before .before .before .args in
+    rw (ap (λ (i : Interval). i .hi) (sum-box (a .a) (a .b)), ← (c .before .before .is-nan .ensures), c .before .if1 .left) (c .above .ensures)
 
 pub reach-sum-spec : {M : Type 1} → statement M
 reach-sum-spec =

@@ -29,7 +29,18 @@ reach-sum-requires-3 : tie.Need-reach-sum-requires-3
 reach-sum-requires-3 c κs = search needs
 
 returns : tie.Need-returns
-returns c = let a = c .before .before .before .before .before .before .before .args in rw ((c .reach-sum3 .ensures), (c .before .reach-sum2 .ensures), (c .before .before .reach4 .ensures), (c .before .before .before .reach3 .ensures), (c .before .before .before .before .reach-sum .ensures), (c .before .before .before .before .before .reach2 .ensures), (c .before .before .before .before .before .before .reach .ensures)) (products-are (a .a) (a .s) (a .b) (a .t) (a .c) (a .u) (a .d) (a .v))
+returns c =
+    let a = c .before .before .before .before .before .before .before .args in
+    rw (
+      (c .reach-sum3 .ensures),
+      (c .before .reach-sum2 .ensures),
+      (c .before .before .reach4 .ensures),
+      (c .before .before .before .reach3 .ensures),
+      (c .before .before .before .before .reach-sum .ensures),
+      (c .before .before .before .before .before .reach2 .ensures),
+      (c .before .before .before .before .before .before .reach .ensures),
+    )
+    (products-are (a .a) (a .s) (a .b) (a .t) (a .c) (a .u) (a .d) (a .v))
 
 pub sum-of-products-spec : {M : Type 1} → statement M
 sum-of-products-spec =

@@ -59,7 +59,8 @@ returns-3 c =
     let e = bits (c .before .before) in
     elim (yes-or-no (ltb b sign)) [
       | inl t ↦ let l = ltb→lt b sign t in ap (ofBits binary64) (clear-step b l ∙ ap (λ (z : ℕ). z + 1) (sym e)) ∙ sym (up-clear binary64 x h n (omega (arith, e)) (λ k. c .if2 .left (sym e ∙ k)))
-      | inr t ↦ let l = nltb→le b sign t in ap (ofBits binary64) (set-step b l (omega arith) ∙ ap (λ (z : ℕ). z - 1) (sym e)) ∙ sym (up-set binary64 x h n (omega (arith, e)) (λ k. c .before .if1 .left (sym e ∙ k)))
+      | inr t ↦ let l = nltb→le b sign t in ap (ofBits binary64) (set-step b l (omega arith) ∙ ap (λ (z : ℕ). z - 1) (sym e))
+          ∙ sym (up-set binary64 x h n (omega (arith, e)) (λ k. c .before .if1 .left (sym e ∙ k)))
     ]
 
 pub pattern-above-spec : {M : Type 1} → statement M

@@ -48,11 +48,19 @@ loop-less : tie.Need-loop-less Inv-loop μ-loop
 loop-less c = search needs
 
 loop-again : tie.Need-loop-again Inv-loop μ-loop
-loop-again c = let t = c .before .before .loop-test .taken in (omega arith, c .before .before .before .loop .inv .1, all-step (λ k. not (lt (at (now (c .before .before .before .before .args .xs)) (k + 1)) (at (now (c .before .before .before .before .args .xs)) k))) (c .before .before .before .loop .i) _ _ (c .before .before .before .loop .inv .2) refl)
+loop-again c =
+    let a = c .before .before .before .before .args in
+    let l = c .before .before .before .loop in
+    let t = c .before .before .loop-test .taken in (omega arith, l .inv .1, all-step (λ k. not (lt (at (now (a .xs)) (k + 1)) (at (now (a .xs)) k))) (l .i) _ _ (l .inv .2) refl)
 
 returns : tie.Need-returns Inv-loop μ-loop
 unfolding inOrder
-returns c = let t = c .loop-test .left in let u = c .before .loop .inv .0 in let v = c .before .loop .inv .1 in let e : c .before .loop .i ≡ length (now (c .before .before .args .xs)) - 1 = omega arith in c .before .loop .inv .2 ∙ ap (allBelow (λ k. not (lt (at (now (c .before .before .args .xs)) (k + 1)) (at (now (c .before .before .args .xs)) k)))) e
+returns c =
+    let t = c .loop-test .left in
+    let u = c .before .loop .inv .0 in
+    let v = c .before .loop .inv .1 in
+    let e : c .before .loop .i ≡ length (now (c .before .before .args .xs)) - 1 = omega arith in
+    c .before .loop .inv .2 ∙ ap (allBelow (λ k. not (lt (at (now (c .before .before .args .xs)) (k + 1)) (at (now (c .before .before .args .xs)) k)))) e
 
 pub in-order-spec : {M : Type 1} → statement M
 in-order-spec =

@@ -29,14 +29,20 @@ refuse-requires-3 c κs = search needs
 
 returns-3 : tie.Need-returns-3
 unfolding knotShape
-returns-3 c = simp (ne-eqb _ 0 (c .before .before .before .before .if1 .left), lt-leb _ _ (c .before .before .before .if2 .left), sym (c .before .before .is-sum .ensures) ∙ not-true _ (c .before .if3 .taken)) (c .refuse3 .ensures)
+returns-3 c =
+    simp
+    (ne-eqb _ 0 (c .before .before .before .before .if1 .left), lt-leb _ _ (c .before .before .before .if2 .left), sym (c .before .before .is-sum .ensures) ∙ not-true _ (c .before .if3 .taken))
+    (c .refuse3 .ensures)
 
 refuse-requires-4 : tie.Need-refuse-requires-4
 refuse-requires-4 c κs = search needs
 
 returns-4 : tie.Need-returns-4
 unfolding knotShape
-returns-4 c = simp (ne-eqb _ 0 (c .before .before .before .before .if1 .left), lt-leb _ _ (c .before .before .before .if2 .left), sym (c .before .before .is-sum .ensures) ∙ not-false _ (c .before .if3 .left)) (c .refuse4 .ensures)
+returns-4 c =
+    simp
+    (ne-eqb _ 0 (c .before .before .before .before .if1 .left), lt-leb _ _ (c .before .before .before .if2 .left), sym (c .before .before .is-sum .ensures) ∙ not-false _ (c .before .if3 .left))
+    (c .refuse4 .ensures)
 
 pub knot-shape-spec : {M : Type 1} → statement M
 knot-shape-spec =

@@ -34,7 +34,13 @@ refuse-along-requires c κs = search needs
 
 returns-3 : tie.Need-returns-3
 unfolding surfaceShape
-returns-3 c = simp (eq-eqb _ 0 (c .before .before .before .before .before .before .if1 .left), sym (c .before .before .before .before .before .is-product .ensures) ∙ not-false _ (c .before .before .before .before .if2 .left), stop (c .before .before .before .knot-shape .ensures) (c .before .if3 .taken)) (c .refuse-along .ensures ∙ ap (along 0) (c .before .before .before .knot-shape .ensures))
+returns-3 c =
+    simp (
+      eq-eqb _ 0 (c .before .before .before .before .before .before .if1 .left),
+      sym (c .before .before .before .before .before .is-product .ensures) ∙ not-false _ (c .before .before .before .before .if2 .left),
+      stop (c .before .before .before .knot-shape .ensures) (c .before .if3 .taken),
+    )
+    (c .refuse-along .ensures ∙ ap (along 0) (c .before .before .before .knot-shape .ensures))
 
 knot-shape-requires-2 : tie.Need-knot-shape-requires-2
 knot-shape-requires-2 c κs = search needs
@@ -44,14 +50,28 @@ refuse-along-requires-2 c κs = search needs
 
 returns-4 : tie.Need-returns-4
 unfolding surfaceShape
-returns-4 c = simp (eq-eqb _ 0 (c .before .before .before .before .before .before .before .before .before .if1 .left), sym (c .before .before .before .before .before .before .before .before .is-product .ensures) ∙ not-false _ (c .before .before .before .before .before .before .before .if2 .left), skip (c .before .before .before .before .before .before .knot-shape .ensures) (c .before .before .before .before .if3 .left), stop (c .before .before .before .knot-shape2 .ensures) (c .before .if4 .taken)) (c .refuse-along2 .ensures ∙ ap (along 1) (c .before .before .before .knot-shape2 .ensures))
+returns-4 c =
+    simp (
+      eq-eqb _ 0 (c .before .before .before .before .before .before .before .before .before .if1 .left),
+      sym (c .before .before .before .before .before .before .before .before .is-product .ensures) ∙ not-false _ (c .before .before .before .before .before .before .before .if2 .left),
+      skip (c .before .before .before .before .before .before .knot-shape .ensures) (c .before .before .before .before .if3 .left),
+      stop (c .before .before .before .knot-shape2 .ensures) (c .before .if4 .taken),
+    )
+    (c .refuse-along2 .ensures ∙ ap (along 1) (c .before .before .before .knot-shape2 .ensures))
 
 weight-shape-requires : tie.Need-weight-shape-requires
 weight-shape-requires c κs = search needs
 
 returns-5 : tie.Need-returns-5
 unfolding surfaceShape
-returns-5 c = simp (eq-eqb _ 0 (c .before .before .before .before .before .before .before .before .before .if1 .left), sym (c .before .before .before .before .before .before .before .before .is-product .ensures) ∙ not-false _ (c .before .before .before .before .before .before .before .if2 .left), skip (c .before .before .before .before .before .before .knot-shape .ensures) (c .before .before .before .before .if3 .left), skip (c .before .before .before .knot-shape2 .ensures) (c .before .if4 .left)) (c .weight-shape .ensures)
+returns-5 c =
+    simp (
+      eq-eqb _ 0 (c .before .before .before .before .before .before .before .before .before .if1 .left),
+      sym (c .before .before .before .before .before .before .before .before .is-product .ensures) ∙ not-false _ (c .before .before .before .before .before .before .before .if2 .left),
+      skip (c .before .before .before .before .before .before .knot-shape .ensures) (c .before .before .before .before .if3 .left),
+      skip (c .before .before .before .knot-shape2 .ensures) (c .before .if4 .left),
+    )
+    (c .weight-shape .ensures)
 
 pub surface-shape-spec : {M : Type 1} → statement M
 surface-shape-spec =

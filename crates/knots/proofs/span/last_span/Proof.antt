@@ -47,10 +47,12 @@ loop-less : tie.Need-loop-less Inv-loop μ-loop
 loop-less c = search needs
 
 loop-again : tie.Need-loop-again Inv-loop μ-loop
-loop-again c = (omega arith, omega arith, c .before .before .before .before .loop .inv .2 ∙ last-below (nonempty (now (c .before .before .before .before .before .args .knots))) _ _ (omega arith) (c .if1 .left))
+loop-again c =
+    (omega arith, omega arith, c .before .before .before .before .loop .inv .2 ∙ last-below (nonempty (now (c .before .before .before .before .before .args .knots))) _ _ (omega arith) (c .if1 .left))
 
 returns-2 : tie.Need-returns-2 Inv-loop μ-loop
-returns-2 c = let e : c .before .loop .span ≡ c .before .before .args .degree = omega arith in e ∙ sym (c .before .loop .inv .2 ∙ last-none (nonempty (now (c .before .before .args .knots))) _ _ (omega arith))
+returns-2 c =
+    let e : c .before .loop .span ≡ c .before .before .args .degree = omega arith in e ∙ sym (c .before .loop .inv .2 ∙ last-none (nonempty (now (c .before .before .args .knots))) _ _ (omega arith))
 
 pub last-span-spec : {M : Type 1} → statement M
 last-span-spec =

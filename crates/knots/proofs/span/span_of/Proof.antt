@@ -46,7 +46,10 @@ returns-3 c =
     let n = st .args .count in
     let ks = now (st .args .knots) in
     let u = st .args .u in
-    found-meets p n ks u _ (c .inner-span .ensures ∙ (searched-inner p n ks (c .before .before .before .clamp .result) (omega arith) (c .before .if3 .taken) ∙ ap (searched p n ks) (c .before .before .before .clamp .ensures)))
+    found-meets
+    p n ks u _
+    (c .inner-span .ensures
+    ∙ (searched-inner p n ks (c .before .before .before .clamp .result) (omega arith) (c .before .if3 .taken) ∙ ap (searched p n ks) (c .before .before .before .clamp .ensures)))
 
 last-span-requires : tie.Need-last-span-requires
 last-span-requires c κs = search needs
@@ -58,7 +61,9 @@ returns-4 c =
     let n = st .args .count in
     let ks = now (st .args .knots) in
     let u = st .args .u in
-    found-meets p n ks u _ (c .last-span .ensures ∙ (searched-end p n ks (c .before .before .before .clamp .result) (omega arith) (c .before .if3 .left) ∙ ap (searched p n ks) (c .before .before .before .clamp .ensures)))
+    found-meets
+    p n ks u _
+    (c .last-span .ensures ∙ (searched-end p n ks (c .before .before .before .clamp .result) (omega arith) (c .before .if3 .left) ∙ ap (searched p n ks) (c .before .before .before .clamp .ensures)))
 
 pub span-of-spec : {M : Type 1} → statement M
 span-of-spec =

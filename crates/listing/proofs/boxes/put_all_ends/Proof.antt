@@ -1,8 +1,8 @@
 -- The ends of three intervals.
 -- Assumes nothing.
-use Rattle.listing.proofs.Storing.{both-stored}
 use native.Mathlib.Omega.{arith}
 use borrow.Author.Needs.{needs}
+use Rattle.decimals.proofs.Storing.{both-stored}
 use Rattle.listing.proofs.boxes.put_all_ends.Statement.{statement}
 use Rattle.listing.proofs.boxes.put_all_ends.Tie as tie
 
@@ -19,11 +19,11 @@ same-length : tie.Need-same-length
 same-length c = search needs
 
 returns : tie.Need-returns
-returns c =
-    let a = c .before .before .before .before .before .before .before .before .before .before .put-ends .ensures in
-    let b = c .before .before .before .before .before .before .put-ends2 .ensures in
-    let d = c .before .before .put-ends3 .ensures in
-    (both-stored (a .0) (both-stored (b .0) (d .0)), omega arith)
+returns c = (
+  both-stored (c .before .before .before .before .before .before .before .before .before .before .put-ends .ensures .0)
+      (both-stored (c .before .before .before .before .before .before .put-ends2 .ensures .0) (c .before .before .put-ends3 .ensures .0)),
+  omega arith,
+)
 
 pub put-all-ends-spec : {M : Type 1} → statement M
 put-all-ends-spec =

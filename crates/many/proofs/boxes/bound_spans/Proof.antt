@@ -29,16 +29,47 @@ same-length-2 : tie.Need-same-length-2
 same-length-2 c = search needs
 
 returns : tie.Need-returns
-returns c = meets-refused (markAt (c .before .before .before .before .before .before .before .before .before .before .before .before .before .before .before .before .args .degree) (now (c .before .before .before .before .before .before .before .before .before .before .before .before .before .before .before .before .args .knots)) (now (c .before .before .before .before .before .before .before .before .before .before .before .before .before .before .before .before .args .points)) (c .before .before .before .before .before .before .before .before .before .before .before .before .before .before .before .before .args .rational) (now (c .before .before .before .before .before .before .before .before .before .before .before .before .before .before .before .before .args .weights))) 2 (λ s. refl) (boxAt (c .before .before .before .before .before .before .before .before .before .before .before .before .before .before .before .before .args .degree) (now (c .before .before .before .before .before .before .before .before .before .before .before .before .before .before .before .before .args .knots)) (now (c .before .before .before .before .before .before .before .before .before .before .before .before .before .before .before .before .args .points)) (c .before .before .before .before .before .before .before .before .before .before .before .before .before .before .before .before .args .rational) (now (c .before .before .before .before .before .before .before .before .before .before .before .before .before .before .before .before .args .weights))) 18 (λ s. box-says (boundIn (c .before .before .before .before .before .before .before .before .before .before .before .before .before .before .before .before .args .degree) (now (c .before .before .before .before .before .before .before .before .before .before .before .before .before .before .before .before .args .knots)) (now (c .before .before .before .before .before .before .before .before .before .before .before .before .before .before .before .before .args .points)) (c .before .before .before .before .before .before .before .before .before .before .before .before .before .before .before .before .args .rational) (now (c .before .before .before .before .before .before .before .before .before .before .before .before .before .before .before .before .args .weights)) s) .count) (spansOf (c .before .before .before .before .before .before .before .before .before .before .before .before .before .before .before .before .args .degree) (now (c .before .before .before .before .before .before .before .before .before .before .before .before .before .before .before .before .args .knots)) (now (c .before .before .before .before .before .before .before .before .before .before .before .before .before .before .before .before .args .points))) (length (now (c .before .before .before .before .before .before .before .before .before .before .before .before .before .before .before .before .args .marks))) (length (now (c .before .before .before .before .before .before .before .before .before .before .before .before .before .before .before .before .args .boxes))) (c .before .before .before .before .before .before .before .before .before .clear-numbers .last .0) (c .before .before .before .before .before .clear .last .0) (c .before .before .before .before .before .before .before .before .before .clear-numbers .ensures) (c .before .before .before .before .before .clear .ensures) _ _ (table-stops (c .before .before .before .before .before .before .before .before .before .before .before .before .before .before .before .before .args .degree) (now (c .before .before .before .before .before .before .before .before .before .before .before .before .before .before .before .before .args .knots)) (now (c .before .before .before .before .before .before .before .before .before .before .before .before .before .before .before .before .args .points)) (c .before .before .before .before .before .before .before .before .before .before .before .before .before .before .before .before .args .rational) (now (c .before .before .before .before .before .before .before .before .before .before .before .before .before .before .before .before .args .weights)) (length (now (c .before .before .before .before .before .before .before .before .before .before .before .before .before .before .before .before .args .marks))) (length (now (c .before .before .before .before .before .before .before .before .before .before .before .before .before .before .before .before .args .boxes))) _ (c .before .before .table-refusal .ensures) (c .if1 .taken)) (c .if1 .taken)
+returns c =
+    let a = c .before .before .before .before .before .before .before .before .before .before .before .before .before .before .before .before .args in
+    meets-refused
+    (markAt (a .degree) (now (a .knots)) (now (a .points)) (a .rational) (now (a .weights))) 2 (λ s. refl) (boxAt (a .degree) (now (a .knots)) (now (a .points)) (a .rational) (now (a .weights))) 18
+    (λ s. box-says (boundIn (a .degree) (now (a .knots)) (now (a .points)) (a .rational) (now (a .weights)) s) .count) (spansOf (a .degree) (now (a .knots)) (now (a .points)))
+    (length (now (a .marks))) (length (now (a .boxes))) (c .before .before .before .before .before .before .before .before .before .clear-numbers .last .0)
+    (c .before .before .before .before .before .clear .last .0) (c .before .before .before .before .before .before .before .before .before .clear-numbers .ensures)
+    (c .before .before .before .before .before .clear .ensures) _ _
+    (table-stops
+    (a .degree) (now (a .knots)) (now (a .points)) (a .rational) (now (a .weights)) (length (now (a .marks))) (length (now (a .boxes))) _ (c .before .before .table-refusal .ensures) (c .if1 .taken))
+    (c .if1 .taken)
 
 span-count-requires : tie.Need-span-count-requires
-span-count-requires c κs = let v = table-open (c .before .before .before .before .before .before .before .before .before .before .before .before .before .before .before .before .args .degree) (now (c .before .before .before .before .before .before .before .before .before .before .before .before .before .before .before .before .args .knots)) (now (c .before .before .before .before .before .before .before .before .before .before .before .before .before .before .before .before .args .points)) (c .before .before .before .before .before .before .before .before .before .before .before .before .before .before .before .before .args .rational) (now (c .before .before .before .before .before .before .before .before .before .before .before .before .before .before .before .before .args .weights)) (sym (ap (λ (r : Refusal). r .number) (c .before .before .table-refusal .ensures)) ∙ c .if1 .left) in (omega (arith, v .knots .count), omega (arith, v .knots .count, v .knots .long))
+span-count-requires c κs =
+    let a = c .before .before .before .before .before .before .before .before .before .before .before .before .before .before .before .before .args in
+    let v = table-open (a .degree) (now (a .knots)) (now (a .points)) (a .rational) (now (a .weights)) (sym (ap (λ (r : Refusal). r .number) (c .before .before .table-refusal .ensures)) ∙ c .if1 .left) in
+    (omega (arith, v .knots .count), omega (arith, v .knots .count, v .knots .long))
 
 mul-rooms-refusal : tie.Need-mul-rooms-refusal
-mul-rooms-refusal c = omega (arith, c .span-count .ensures, rows-few (c .before .before .before .before .before .before .before .before .before .before .before .before .before .before .before .before .before .args .degree) (now (c .before .before .before .before .before .before .before .before .before .before .before .before .before .before .before .before .before .args .knots)) (now (c .before .before .before .before .before .before .before .before .before .before .before .before .before .before .before .before .before .args .points)) (c .before .before .before .before .before .before .before .before .before .before .before .before .before .before .before .before .before .args .rational) (now (c .before .before .before .before .before .before .before .before .before .before .before .before .before .before .before .before .before .args .weights)) (table-open (c .before .before .before .before .before .before .before .before .before .before .before .before .before .before .before .before .before .args .degree) (now (c .before .before .before .before .before .before .before .before .before .before .before .before .before .before .before .before .before .args .knots)) (now (c .before .before .before .before .before .before .before .before .before .before .before .before .before .before .before .before .before .args .points)) (c .before .before .before .before .before .before .before .before .before .before .before .before .before .before .before .before .before .args .rational) (now (c .before .before .before .before .before .before .before .before .before .before .before .before .before .before .before .before .before .args .weights)) (sym (ap (λ (r : Refusal). r .number) (c .before .before .before .table-refusal .ensures)) ∙ c .before .if1 .left)))
+mul-rooms-refusal c =
+    let a = c .before .before .before .before .before .before .before .before .before .before .before .before .before .before .before .before .before .args in
+    omega (
+      arith,
+      c .span-count .ensures,
+      rows-few
+          (a .degree) (now (a .knots)) (now (a .points)) (a .rational) (now (a .weights))
+          (table-open
+          (a .degree) (now (a .knots)) (now (a .points)) (a .rational) (now (a .weights)) (sym (ap (λ (r : Refusal). r .number) (c .before .before .before .table-refusal .ensures)) ∙ c .before .if1 .left)),
+    )
 
 mul-rooms-refusal-2 : tie.Need-mul-rooms-refusal-2
-mul-rooms-refusal-2 c = omega (arith, c .span-count .ensures, rows-few (c .before .before .before .before .before .before .before .before .before .before .before .before .before .before .before .before .before .args .degree) (now (c .before .before .before .before .before .before .before .before .before .before .before .before .before .before .before .before .before .args .knots)) (now (c .before .before .before .before .before .before .before .before .before .before .before .before .before .before .before .before .before .args .points)) (c .before .before .before .before .before .before .before .before .before .before .before .before .before .before .before .before .before .args .rational) (now (c .before .before .before .before .before .before .before .before .before .before .before .before .before .before .before .before .before .args .weights)) (table-open (c .before .before .before .before .before .before .before .before .before .before .before .before .before .before .before .before .before .args .degree) (now (c .before .before .before .before .before .before .before .before .before .before .before .before .before .before .before .before .before .args .knots)) (now (c .before .before .before .before .before .before .before .before .before .before .before .before .before .before .before .before .before .args .points)) (c .before .before .before .before .before .before .before .before .before .before .before .before .before .before .before .before .before .args .rational) (now (c .before .before .before .before .before .before .before .before .before .before .before .before .before .before .before .before .before .args .weights)) (sym (ap (λ (r : Refusal). r .number) (c .before .before .before .table-refusal .ensures)) ∙ c .before .if1 .left)))
+mul-rooms-refusal-2 c =
+    let a = c .before .before .before .before .before .before .before .before .before .before .before .before .before .before .before .before .before .args in
+    omega (
+      arith,
+      c .span-count .ensures,
+      rows-few
+          (a .degree) (now (a .knots)) (now (a .points)) (a .rational) (now (a .weights))
+          (table-open
+          (a .degree) (now (a .knots)) (now (a .points)) (a .rational) (now (a .weights)) (sym (ap (λ (r : Refusal). r .number) (c .before .before .before .table-refusal .ensures)) ∙ c .before .if1 .left)),
+    )
 
 rooms-refusal-requires : tie.Need-rooms-refusal-requires
 rooms-refusal-requires c κs = search needs
@@ -50,10 +81,36 @@ same-length-4 : tie.Need-same-length-4
 same-length-4 c = search needs
 
 returns-2 : tie.Need-returns-2
-returns-2 c = meets-refused (markAt (c .before .before .before .before .before .before .before .before .before .before .before .before .before .before .before .before .before .before .before .before .args .degree) (now (c .before .before .before .before .before .before .before .before .before .before .before .before .before .before .before .before .before .before .before .before .args .knots)) (now (c .before .before .before .before .before .before .before .before .before .before .before .before .before .before .before .before .before .before .before .before .args .points)) (c .before .before .before .before .before .before .before .before .before .before .before .before .before .before .before .before .before .before .before .before .args .rational) (now (c .before .before .before .before .before .before .before .before .before .before .before .before .before .before .before .before .before .before .before .before .args .weights))) 2 (λ s. refl) (boxAt (c .before .before .before .before .before .before .before .before .before .before .before .before .before .before .before .before .before .before .before .before .args .degree) (now (c .before .before .before .before .before .before .before .before .before .before .before .before .before .before .before .before .before .before .before .before .args .knots)) (now (c .before .before .before .before .before .before .before .before .before .before .before .before .before .before .before .before .before .before .before .before .args .points)) (c .before .before .before .before .before .before .before .before .before .before .before .before .before .before .before .before .before .before .before .before .args .rational) (now (c .before .before .before .before .before .before .before .before .before .before .before .before .before .before .before .before .before .before .before .before .args .weights))) 18 (λ s. box-says (boundIn (c .before .before .before .before .before .before .before .before .before .before .before .before .before .before .before .before .before .before .before .before .args .degree) (now (c .before .before .before .before .before .before .before .before .before .before .before .before .before .before .before .before .before .before .before .before .args .knots)) (now (c .before .before .before .before .before .before .before .before .before .before .before .before .before .before .before .before .before .before .before .before .args .points)) (c .before .before .before .before .before .before .before .before .before .before .before .before .before .before .before .before .before .before .before .before .args .rational) (now (c .before .before .before .before .before .before .before .before .before .before .before .before .before .before .before .before .before .before .before .before .args .weights)) s) .count) (spansOf (c .before .before .before .before .before .before .before .before .before .before .before .before .before .before .before .before .before .before .before .before .args .degree) (now (c .before .before .before .before .before .before .before .before .before .before .before .before .before .before .before .before .before .before .before .before .args .knots)) (now (c .before .before .before .before .before .before .before .before .before .before .before .before .before .before .before .before .before .before .before .before .args .points))) (length (now (c .before .before .before .before .before .before .before .before .before .before .before .before .before .before .before .before .before .before .before .before .args .marks))) (length (now (c .before .before .before .before .before .before .before .before .before .before .before .before .before .before .before .before .before .before .before .before .args .boxes))) (c .before .before .before .before .before .before .before .before .before .before .before .before .before .clear-numbers .last .0) (c .before .before .before .before .before .before .before .before .before .clear .last .0) (c .before .before .before .before .before .before .before .before .before .before .before .before .before .clear-numbers .ensures) (c .before .before .before .before .before .before .before .before .before .clear .ensures) _ _ (rooms-stop (c .before .before .before .before .before .before .before .before .before .before .before .before .before .before .before .before .before .before .before .before .args .degree) (now (c .before .before .before .before .before .before .before .before .before .before .before .before .before .before .before .before .before .before .before .before .args .knots)) (now (c .before .before .before .before .before .before .before .before .before .before .before .before .before .before .before .before .before .before .before .before .args .points)) (c .before .before .before .before .before .before .before .before .before .before .before .before .before .before .before .before .before .before .before .before .args .rational) (now (c .before .before .before .before .before .before .before .before .before .before .before .before .before .before .before .before .before .before .before .before .args .weights)) (length (now (c .before .before .before .before .before .before .before .before .before .before .before .before .before .before .before .before .before .before .before .before .args .marks))) (length (now (c .before .before .before .before .before .before .before .before .before .before .before .before .before .before .before .before .before .before .before .before .args .boxes))) (c .before .before .before .before .before .before .before .before .before .before .before .before .before .clear-numbers .last .0) (c .before .before .before .before .before .before .before .before .before .clear .last .0) (c .before .before .before .before .before .before .before .before .before .before .before .before .before .clear-numbers .ensures) (c .before .before .before .before .before .before .before .before .before .clear .ensures) _ (c .before .before .before .before .before .before .table-refusal .ensures) (c .before .before .before .before .if1 .left) _ (c .before .before .before .span-count .ensures) _ (c .before .before .rooms-refusal .ensures)) (c .if2 .taken)
+returns-2 c =
+    let a = c .before .before .before .before .before .before .before .before .before .before .before .before .before .before .before .before .before .before .before .before .args in
+    meets-refused
+    (markAt (a .degree) (now (a .knots)) (now (a .points)) (a .rational) (now (a .weights))) 2 (λ s. refl) (boxAt (a .degree) (now (a .knots)) (now (a .points)) (a .rational) (now (a .weights))) 18
+    (λ s. box-says (boundIn (a .degree) (now (a .knots)) (now (a .points)) (a .rational) (now (a .weights)) s) .count) (spansOf (a .degree) (now (a .knots)) (now (a .points)))
+    (length (now (a .marks))) (length (now (a .boxes))) (c .before .before .before .before .before .before .before .before .before .before .before .before .before .clear-numbers .last .0)
+    (c .before .before .before .before .before .before .before .before .before .clear .last .0)
+    (c .before .before .before .before .before .before .before .before .before .before .before .before .before .clear-numbers .ensures)
+    (c .before .before .before .before .before .before .before .before .before .clear .ensures) _ _
+    (rooms-stop
+    (a .degree) (now (a .knots)) (now (a .points)) (a .rational) (now (a .weights)) (length (now (a .marks))) (length (now (a .boxes)))
+    (c .before .before .before .before .before .before .before .before .before .before .before .before .before .clear-numbers .last .0)
+    (c .before .before .before .before .before .before .before .before .before .clear .last .0)
+    (c .before .before .before .before .before .before .before .before .before .before .before .before .before .clear-numbers .ensures)
+    (c .before .before .before .before .before .before .before .before .before .clear .ensures) _ (c .before .before .before .before .before .before .table-refusal .ensures)
+    (c .before .before .before .before .if1 .left) _ (c .before .before .before .span-count .ensures) _ (c .before .before .rooms-refusal .ensures))
+    (c .if2 .taken)
 
 bound-each-requires : tie.Need-bound-each-requires
-bound-each-requires c κs = let f = spans-fits (c .before .before .before .before .before .before .before .before .before .before .before .before .before .before .before .before .before .before .before .before .before .before .args .degree) (now (c .before .before .before .before .before .before .before .before .before .before .before .before .before .before .before .before .before .before .before .before .before .before .args .knots)) (now (c .before .before .before .before .before .before .before .before .before .before .before .before .before .before .before .before .before .before .before .before .before .before .args .points)) (c .before .before .before .before .before .before .before .before .before .before .before .before .before .before .before .before .before .before .before .before .before .before .args .rational) (now (c .before .before .before .before .before .before .before .before .before .before .before .before .before .before .before .before .before .before .before .before .before .before .args .weights)) _ _ _ (c .before .before .before .before .before .span-count .ensures) _ (c .before .before .before .before .rooms-refusal .ensures) (c .before .before .if2 .left) in (table-open (c .before .before .before .before .before .before .before .before .before .before .before .before .before .before .before .before .before .before .before .before .before .before .args .degree) (now (c .before .before .before .before .before .before .before .before .before .before .before .before .before .before .before .before .before .before .before .before .before .before .args .knots)) (now (c .before .before .before .before .before .before .before .before .before .before .before .before .before .before .before .before .before .before .before .before .before .before .args .points)) (c .before .before .before .before .before .before .before .before .before .before .before .before .before .before .before .before .before .before .before .before .before .before .args .rational) (now (c .before .before .before .before .before .before .before .before .before .before .before .before .before .before .before .before .before .before .before .before .before .before .args .weights)) (sym (ap (λ (r : Refusal). r .number) (c .before .before .before .before .before .before .before .before .table-refusal .ensures)) ∙ c .before .before .before .before .before .before .if1 .left), (f .0, f .1))
+bound-each-requires c κs =
+    let a = c .before .before .before .before .before .before .before .before .before .before .before .before .before .before .before .before .before .before .before .before .before .before .args in
+    let f =
+    spans-fits
+    (a .degree) (now (a .knots)) (now (a .points)) (a .rational) (now (a .weights)) _ _ _ (c .before .before .before .before .before .span-count .ensures) _
+    (c .before .before .before .before .rooms-refusal .ensures) (c .before .before .if2 .left) in (
+      table-open
+          (a .degree) (now (a .knots)) (now (a .points)) (a .rational) (now (a .weights))
+          (sym (ap (λ (r : Refusal). r .number) (c .before .before .before .before .before .before .before .before .table-refusal .ensures)) ∙ c .before .before .before .before .before .before .if1 .left),
+      (f .0, f .1),
+    )
 
 same-length-5 : tie.Need-same-length-5
 same-length-5 c = search needs
@@ -62,7 +119,28 @@ same-length-6 : tie.Need-same-length-6
 same-length-6 c = search needs
 
 returns-3 : tie.Need-returns-3
-returns-3 c = meets-answered (markAt (c .before .before .before .before .before .before .before .before .before .before .before .before .before .before .before .before .before .before .before .before .before .before .before .before .before .before .before .args .degree) (now (c .before .before .before .before .before .before .before .before .before .before .before .before .before .before .before .before .before .before .before .before .before .before .before .before .before .before .before .args .knots)) (now (c .before .before .before .before .before .before .before .before .before .before .before .before .before .before .before .before .before .before .before .before .before .before .before .before .before .before .before .args .points)) (c .before .before .before .before .before .before .before .before .before .before .before .before .before .before .before .before .before .before .before .before .before .before .before .before .before .before .before .args .rational) (now (c .before .before .before .before .before .before .before .before .before .before .before .before .before .before .before .before .before .before .before .before .before .before .before .before .before .before .before .args .weights))) 2 (λ s. refl) (boxAt (c .before .before .before .before .before .before .before .before .before .before .before .before .before .before .before .before .before .before .before .before .before .before .before .before .before .before .before .args .degree) (now (c .before .before .before .before .before .before .before .before .before .before .before .before .before .before .before .before .before .before .before .before .before .before .before .before .before .before .before .args .knots)) (now (c .before .before .before .before .before .before .before .before .before .before .before .before .before .before .before .before .before .before .before .before .before .before .before .before .before .before .before .args .points)) (c .before .before .before .before .before .before .before .before .before .before .before .before .before .before .before .before .before .before .before .before .before .before .before .before .before .before .before .args .rational) (now (c .before .before .before .before .before .before .before .before .before .before .before .before .before .before .before .before .before .before .before .before .before .before .before .before .before .before .before .args .weights))) 18 (λ s. box-says (boundIn (c .before .before .before .before .before .before .before .before .before .before .before .before .before .before .before .before .before .before .before .before .before .before .before .before .before .before .before .args .degree) (now (c .before .before .before .before .before .before .before .before .before .before .before .before .before .before .before .before .before .before .before .before .before .before .before .before .before .before .before .args .knots)) (now (c .before .before .before .before .before .before .before .before .before .before .before .before .before .before .before .before .before .before .before .before .before .before .before .before .before .before .before .args .points)) (c .before .before .before .before .before .before .before .before .before .before .before .before .before .before .before .before .before .before .before .before .before .before .before .before .before .before .before .args .rational) (now (c .before .before .before .before .before .before .before .before .before .before .before .before .before .before .before .before .before .before .before .before .before .before .before .before .before .before .before .args .weights)) s) .count) (spansOf (c .before .before .before .before .before .before .before .before .before .before .before .before .before .before .before .before .before .before .before .before .before .before .before .before .before .before .before .args .degree) (now (c .before .before .before .before .before .before .before .before .before .before .before .before .before .before .before .before .before .before .before .before .before .before .before .before .before .before .before .args .knots)) (now (c .before .before .before .before .before .before .before .before .before .before .before .before .before .before .before .before .before .before .before .before .before .before .before .before .before .before .before .args .points))) (length (now (c .before .before .before .before .before .before .before .before .before .before .before .before .before .before .before .before .before .before .before .before .before .before .before .before .before .before .before .args .marks))) (length (now (c .before .before .before .before .before .before .before .before .before .before .before .before .before .before .before .before .before .before .before .before .before .before .before .before .before .before .before .args .boxes))) (c .before .before .before .before .before .before .before .before .before .before .before .before .before .before .before .before .before .before .before .before .clear-numbers .last .0) (c .before .before .before .before .before .before .before .before .before .before .before .before .before .before .before .before .clear .last .0) (c .before .before .before .before .before .before .before .before .before .before .before .before .before .before .before .before .before .before .before .before .clear-numbers .ensures) (c .before .before .before .before .before .before .before .before .before .before .before .before .before .before .before .before .clear .ensures) _ _ (rooms-stop (c .before .before .before .before .before .before .before .before .before .before .before .before .before .before .before .before .before .before .before .before .before .before .before .before .before .before .before .args .degree) (now (c .before .before .before .before .before .before .before .before .before .before .before .before .before .before .before .before .before .before .before .before .before .before .before .before .before .before .before .args .knots)) (now (c .before .before .before .before .before .before .before .before .before .before .before .before .before .before .before .before .before .before .before .before .before .before .before .before .before .before .before .args .points)) (c .before .before .before .before .before .before .before .before .before .before .before .before .before .before .before .before .before .before .before .before .before .before .before .before .before .before .before .args .rational) (now (c .before .before .before .before .before .before .before .before .before .before .before .before .before .before .before .before .before .before .before .before .before .before .before .before .before .before .before .args .weights)) (length (now (c .before .before .before .before .before .before .before .before .before .before .before .before .before .before .before .before .before .before .before .before .before .before .before .before .before .before .before .args .marks))) (length (now (c .before .before .before .before .before .before .before .before .before .before .before .before .before .before .before .before .before .before .before .before .before .before .before .before .before .before .before .args .boxes))) (c .before .before .before .before .before .before .before .before .before .before .before .before .before .before .before .before .before .before .before .before .clear-numbers .last .0) (c .before .before .before .before .before .before .before .before .before .before .before .before .before .before .before .before .clear .last .0) (c .before .before .before .before .before .before .before .before .before .before .before .before .before .before .before .before .before .before .before .before .clear-numbers .ensures) (c .before .before .before .before .before .before .before .before .before .before .before .before .before .before .before .before .clear .ensures) _ (c .before .before .before .before .before .before .before .before .before .before .before .before .before .table-refusal .ensures) (c .before .before .before .before .before .before .before .before .before .before .before .if1 .left) _ (c .before .before .before .before .before .before .before .before .before .before .span-count .ensures) _ (c .before .before .before .before .before .before .before .before .before .rooms-refusal .ensures)) (c .before .before .before .before .before .before .before .if2 .left) _ _ _ _ _ (c .before .before .before .before .before .before .before .before .before .before .span-count .ensures) refl refl (c .before .before .before .before .bound-each .ensures .0) (c .before .before .before .before .bound-each .ensures .1)
+returns-3 c =
+    let a = c .before .before .before .before .before .before .before .before .before .before .before .before .before .before .before .before .before .before .before .before .before .before .before .before .before .before .before .args in
+    meets-answered
+    (markAt (a .degree) (now (a .knots)) (now (a .points)) (a .rational) (now (a .weights))) 2 (λ s. refl) (boxAt (a .degree) (now (a .knots)) (now (a .points)) (a .rational) (now (a .weights))) 18
+    (λ s. box-says (boundIn (a .degree) (now (a .knots)) (now (a .points)) (a .rational) (now (a .weights)) s) .count) (spansOf (a .degree) (now (a .knots)) (now (a .points)))
+    (length (now (a .marks))) (length (now (a .boxes)))
+    (c .before .before .before .before .before .before .before .before .before .before .before .before .before .before .before .before .before .before .before .before .clear-numbers .last .0)
+    (c .before .before .before .before .before .before .before .before .before .before .before .before .before .before .before .before .clear .last .0)
+    (c .before .before .before .before .before .before .before .before .before .before .before .before .before .before .before .before .before .before .before .before .clear-numbers .ensures)
+    (c .before .before .before .before .before .before .before .before .before .before .before .before .before .before .before .before .clear .ensures) _ _
+    (rooms-stop
+    (a .degree) (now (a .knots)) (now (a .points)) (a .rational) (now (a .weights)) (length (now (a .marks))) (length (now (a .boxes)))
+    (c .before .before .before .before .before .before .before .before .before .before .before .before .before .before .before .before .before .before .before .before .clear-numbers .last .0)
+    (c .before .before .before .before .before .before .before .before .before .before .before .before .before .before .before .before .clear .last .0)
+    (c .before .before .before .before .before .before .before .before .before .before .before .before .before .before .before .before .before .before .before .before .clear-numbers .ensures)
+    (c .before .before .before .before .before .before .before .before .before .before .before .before .before .before .before .before .clear .ensures) _
+    (c .before .before .before .before .before .before .before .before .before .before .before .before .before .table-refusal .ensures)
+    (c .before .before .before .before .before .before .before .before .before .before .before .if1 .left) _
+    (c .before .before .before .before .before .before .before .before .before .before .span-count .ensures) _
+    (c .before .before .before .before .before .before .before .before .before .rooms-refusal .ensures))
+    (c .before .before .before .before .before .before .before .if2 .left) _ _ _ _ _ (c .before .before .before .before .before .before .before .before .before .before .span-count .ensures) refl refl
+    (c .before .before .before .before .bound-each .ensures .0) (c .before .before .before .before .bound-each .ensures .1)
 
 pub bound-spans-spec : {M : Type 1} → statement M
 bound-spans-spec =

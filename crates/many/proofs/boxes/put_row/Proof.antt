@@ -7,8 +7,8 @@ use Prim.Native.Nat.{_+_, _*_}
 use native.Mathlib.Omega.{arith}
 use lib.Seq.{sets}
 use lib.Ieee.{Float}
-use Rattle.many.proofs.Rows.{stored-two, sets-three}
-use Rattle.many.specs.Rows.{sixOf}
+use Rattle.runs.proofs.Stores.{stored-two, sets-three}
+use Rattle.bounds.specs.Numbers.{sixOf}
 use borrow.Author.Needs.{needs}
 use Rattle.many.proofs.boxes.put_row.Statement.{statement}
 use Rattle.many.proofs.boxes.put_row.Tie as tie
@@ -59,7 +59,16 @@ same-length-2 : tie.Need-same-length-2
 same-length-2 c = search needs
 
 returns : tie.Need-returns
-returns c = (stored-two (now (c .before .before .before .before .before .before .before .before .before .before .before .before .before .before .before .args .marks)) (c .before .before .before .before .before .before .before .before .before .before .before .before .before .before .before .args .i * 2) (c .before .before .before .before .before .before .before .before .before .before .before .before .before .before .before .args .s) (c .before .before .before .before .before .before .before .before .before .before .before .before .before .before .before .args .row .number), c .before .before .store-triple3 .ensures ∙ (ap (λ (l : List Float). sets l (c .before .before .before .before .before .before .before .before .before .before .before .before .before .before .before .args .i * 18 + 12) (sixOf (c .before .before .before .before .before .before .before .before .before .before .before .before .before .before .before .args .row .bounds .dv))) (c .before .before .before .before .before .before .store-triple2 .ensures ∙ ap (λ (l : List Float). sets l (c .before .before .before .before .before .before .before .before .before .before .before .before .before .before .before .args .i * 18 + 6) (sixOf (c .before .before .before .before .before .before .before .before .before .before .before .before .before .before .before .args .row .bounds .du))) (c .before .before .before .before .before .before .before .before .before .before .store-triple .ensures)) ∙ sets-three (sixOf (c .before .before .before .before .before .before .before .before .before .before .before .before .before .before .before .args .row .bounds .point)) (sixOf (c .before .before .before .before .before .before .before .before .before .before .before .before .before .before .before .args .row .bounds .du)) (sixOf (c .before .before .before .before .before .before .before .before .before .before .before .before .before .before .before .args .row .bounds .dv)) (now (c .before .before .before .before .before .before .before .before .before .before .before .before .before .before .before .args .boxes)) (c .before .before .before .before .before .before .before .before .before .before .before .before .before .before .before .args .i * 18) (c .before .before .before .before .before .before .before .before .before .before .before .before .before .before .before .args .i * 18 + 6) (c .before .before .before .before .before .before .before .before .before .before .before .before .before .before .before .args .i * 18 + 12) refl (omega arith)))
+returns c =
+    let a = c .before .before .before .before .before .before .before .before .before .before .before .before .before .before .before .args in (
+      stored-two (now (a .marks)) (a .i * 2) (a .s) (a .row .number),
+      c .before .before .store-triple3 .ensures
+          ∙ (ap
+          (λ (l : List Float). sets l (a .i * 18 + 12) (sixOf (a .row .bounds .dv)))
+          (c .before .before .before .before .before .before .store-triple2 .ensures
+          ∙ ap (λ (l : List Float). sets l (a .i * 18 + 6) (sixOf (a .row .bounds .du))) (c .before .before .before .before .before .before .before .before .before .before .store-triple .ensures))
+          ∙ sets-three (sixOf (a .row .bounds .point)) (sixOf (a .row .bounds .du)) (sixOf (a .row .bounds .dv)) (now (a .boxes)) (a .i * 18) (a .i * 18 + 6) (a .i * 18 + 12) refl (omega arith)),
+    )
 
 pub put-row-spec : {M : Type 1} → statement M
 put-row-spec =

@@ -40,13 +40,19 @@ add-s : tie.Need-add-s Inv-loop μ-loop
 add-s c = search needs
 
 add-n : tie.Need-add-n Inv-loop μ-loop
-add-n c = omega (arith, c .before .before .before .before .loop .inv .2, spans-few (now (c .before .before .before .before .before .args .knots)) (c .before .before .before .before .loop .s - c .before .before .before .before .before .args .degree) (c .before .before .before .before .before .args .degree))
+add-n c =
+    let a = c .before .before .before .before .before .args in
+    let l = c .before .before .before .before .loop in
+    omega (arith, l .inv .2, spans-few (now (a .knots)) (l .s - a .degree) (a .degree))
 
 loop-less : tie.Need-loop-less Inv-loop μ-loop
 loop-less c = search needs
 
 loop-again : tie.Need-loop-again Inv-loop μ-loop
-loop-again c = (search needs, search needs, count-here (now (c .before .before .before .before .before .args .knots)) (c .before .before .before .before .before .args .degree) (c .before .before .before .before .loop .s) (c .before .before .before .before .loop .inv .0) (c .before .before .before .before .loop .n) (c .before .before .before .before .loop .inv .2) (c .if1 .taken))
+loop-again c =
+    let a = c .before .before .before .before .before .args in
+    let l = c .before .before .before .before .loop in
+    (search needs, search needs, count-here (now (a .knots)) (a .degree) (l .s) (l .inv .0) (l .n) (l .inv .2) (c .if1 .taken))
 
 add-s-2 : tie.Need-add-s-2 Inv-loop μ-loop
 add-s-2 c = search needs
@@ -55,10 +61,16 @@ loop-less-2 : tie.Need-loop-less-2 Inv-loop μ-loop
 loop-less-2 c = search needs
 
 loop-again-2 : tie.Need-loop-again-2 Inv-loop μ-loop
-loop-again-2 c = (search needs, search needs, count-not (now (c .before .before .before .before .before .args .knots)) (c .before .before .before .before .before .args .degree) (c .before .before .before .before .loop .s) (c .before .before .before .before .loop .inv .0) (c .before .before .before .before .loop .n) (c .before .before .before .before .loop .inv .2) (c .if1 .left))
+loop-again-2 c =
+    let a = c .before .before .before .before .before .args in
+    let l = c .before .before .before .before .loop in
+    (search needs, search needs, count-not (now (a .knots)) (a .degree) (l .s) (l .inv .0) (l .n) (l .inv .2) (c .if1 .left))
 
 returns : tie.Need-returns Inv-loop μ-loop
-returns c = count-all (now (c .before .before .args .knots)) (c .before .before .args .degree) (c .before .loop .s) (c .before .before .args .count) (c .before .loop .n) (c .before .loop .inv .2) (c .before .loop .inv .1) (omega (arith, c .loop-test))
+returns c =
+    count-all
+    (now (c .before .before .args .knots)) (c .before .before .args .degree) (c .before .loop .s) (c .before .before .args .count) (c .before .loop .n) (c .before .loop .inv .2)
+    (c .before .loop .inv .1) (omega (arith, c .loop-test))
 
 pub span-count-spec : {M : Type 1} → statement M
 span-count-spec =

@@ -27,17 +27,29 @@ table-refusal-requires c κs = search needs
 
 returns-2 : tie.Need-returns-2
 unfolding pointsStart
-returns-2 c = rw (← (c .before .before .before .before .over-long .ensures), c .before .before .before .if1 .left, stop (c .before .before .table-refusal .ensures) (c .if2 .taken)) (c .before .before .table-refusal .ensures)
+returns-2 c =
+    rw
+    (← (c .before .before .before .before .over-long .ensures), c .before .before .before .if1 .left, stop (c .before .before .table-refusal .ensures) (c .if2 .taken))
+    (c .before .before .table-refusal .ensures)
 
 mul-rooms-refusal : tie.Need-mul-rooms-refusal
-mul-rooms-refusal c = let a = small-product _ (c .before .before .before .before .before .before .before .before .before .args .width) (within true (now (c .before .before .before .before .before .before .before .before .before .args .ts)) (sym (c .before .before .before .before .over-long .ensures) ∙ c .before .before .before .if1 .left) refl) (c .before .before .before .before .before .before .before .before .before .pre) in omega (arith, a)
+mul-rooms-refusal c =
+    let as₁ = c .before .before .before .before .before .before .before .before .before .args in
+    let a =
+    small-product
+    _ (as₁ .width) (within true (now (as₁ .ts)) (sym (c .before .before .before .before .over-long .ensures) ∙ c .before .before .before .if1 .left) refl)
+    (c .before .before .before .before .before .before .before .before .before .pre) in
+    omega (arith, a)
 
 rooms-refusal-requires : tie.Need-rooms-refusal-requires
 rooms-refusal-requires c κs = search needs
 
 returns-3 : tie.Need-returns-3
 unfolding pointsStart
-returns-3 c = rw (← (c .before .before .before .before .before .over-long .ensures), c .before .before .before .before .if1 .left, skip (c .before .before .before .table-refusal .ensures) (c .before .if2 .left)) (c .rooms-refusal .ensures)
+returns-3 c =
+    rw
+    (← (c .before .before .before .before .before .over-long .ensures), c .before .before .before .before .if1 .left, skip (c .before .before .before .table-refusal .ensures) (c .before .if2 .left))
+    (c .rooms-refusal .ensures)
 
 pub points-start-spec : {M : Type 1} → statement M
 points-start-spec =

@@ -49,7 +49,8 @@ unfolding degreeOf
 returns-3 c =
     let a = c .before .before .before .before .before .before .before .before .args in
     let n = c .before .before .before .before .got .given .0 .0 in
-    let e : fieldOf (now (a .s)) 1 ≡ Is (c .before .before .before .before .got .given .0 .0) = sym (c .before .before .before .before .before .before .field-at .ensures .0) ∙ c .before .before .before .before .got .given .1 in
+    let e : fieldOf (now (a .s)) 1 ≡ Is (c .before .before .before .before .got .given .0 .0) = sym (c .before .before .before .before .before .before .field-at .ensures .0)
+    ∙ c .before .before .before .before .got .given .1 in
     rw (e, eq-eqb n 2 (omega arith)) (ap Is (c .size .ensures ∙ c .before .u16-at .ensures .0))
 
 pub degree-at-spec : {M : Type 1} → statement M

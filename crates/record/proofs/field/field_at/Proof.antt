@@ -50,15 +50,30 @@ returns-4 : tie.Need-returns-4
 returns-4 c =
     let a = c .before .before .before .before .before .before .before .before .args in
     let left = length (now (a .s)) - a .i in
-    let n : c .before .size .result ≡ number 2 (drop (a .i + 1) (now (a .s))) = c .before .size .ensures ∙ c .before .before .u16-at .ensures .0 in
-    (rw (field-tests (now (a .s)) (a .i) (a .tag), le-ltb left 3 (omega arith), eq-eqb (getD (now (a .s)) (a .i) 0) (a .tag) (omega arith), lt-ltb (left - 3) (number 2 (drop (a .i + 1) (now (a .s)))) (omega arith)), tt)
+    let n : c .before .size .result ≡ number 2 (drop (a .i + 1) (now (a .s))) = c .before .size .ensures ∙ c .before .before .u16-at .ensures .0 in (
+      rw (
+        field-tests (now (a .s)) (a .i) (a .tag),
+        le-ltb left 3 (omega arith),
+        eq-eqb (getD (now (a .s)) (a .i) 0) (a .tag) (omega arith),
+        lt-ltb (left - 3) (number 2 (drop (a .i + 1) (now (a .s)))) (omega arith),
+      ),
+      tt,
+    )
 
 returns-5 : tie.Need-returns-5
 returns-5 c =
     let a = c .before .before .before .before .before .before .before .before .args in
     let left = length (now (a .s)) - a .i in
-    let n : c .before .size .result ≡ number 2 (drop (a .i + 1) (now (a .s))) = c .before .size .ensures ∙ c .before .before .u16-at .ensures .0 in
-    (rw (field-tests (now (a .s)) (a .i) (a .tag), le-ltb left 3 (omega arith), eq-eqb (getD (now (a .s)) (a .i) 0) (a .tag) (omega arith), le-ltb (left - 3) (number 2 (drop (a .i + 1) (now (a .s)))) (omega arith)) (ap Is n), omega arith)
+    let n : c .before .size .result ≡ number 2 (drop (a .i + 1) (now (a .s))) = c .before .size .ensures ∙ c .before .before .u16-at .ensures .0 in (
+      rw (
+        field-tests (now (a .s)) (a .i) (a .tag),
+        le-ltb left 3 (omega arith),
+        eq-eqb (getD (now (a .s)) (a .i) 0) (a .tag) (omega arith),
+        le-ltb (left - 3) (number 2 (drop (a .i + 1) (now (a .s)))) (omega arith),
+      )
+          (ap Is n),
+      omega arith,
+    )
 
 pub field-at-spec : {M : Type 1} → statement M
 field-at-spec =

@@ -1,6 +1,6 @@
 -- The runs are cleared first, so that each refusal is done; then the numbers that the layout names are stored into them.
 -- Assumes nothing.
-use Rattle.knots.specs.Refusal.{refuse, too-long}
+use Rattle.knots.specs.Refusal.{refuse, length-bad}
 use mathlib.Core.Path.{_≡_, sym, _∙_}
 use mathlib.Core.Bool.{true}
 use Rattle.record.specs.Reading.{roomFor}
@@ -14,12 +14,14 @@ use Rattle.record.proofs.read.read_numbers.Statement.{statement}
 use Rattle.record.proofs.read.read_numbers.Tie as tie
 
 -- what is known where the record is read and the runs have room: where its runs stand, and that they fit
-room-at : (c : tie.Else1) → Room (now (c .before .before .before .before .before .before .before .before .before .before .before .before .before .before .before .before .before .before .before .before .before .before .args .s)) (c .before .before .before .read .given .0 .0)
+room-at : (c : tie.Else1)
+    → Room (now (c .before .before .before .before .before .before .before .before .before .before .before .before .before .before .before .before .before .before .before .before .before .before .args .s)) (c .before .before .before .read .given .0 .0)
 room-at c =
     let read = c .before .before .before .before .before .read-record in
     numbers-room _ _ (read .ensures .means) (sym (c .before .before .before .read .given .1) ∙ read .ensures .answer)
 
-fits-at : (c : tie.Else1) → roomFor (c .before .before .before .read .given .0 .0) (length (c .before .before .before .before .before .before .before .before .before .before .before .before .before .before .before .before .clear .last .0)) (length (c .before .before .before .before .before .before .before .before .before .before .before .before .clear2 .last .0)) (length (c .before .before .before .before .before .before .before .before .clear3 .last .0)) ≡ true
+fits-at : (c : tie.Else1)
+    → roomFor (c .before .before .before .read .given .0 .0) (length (c .before .before .before .before .before .before .before .before .before .before .before .before .before .before .before .before .clear .last .0)) (length (c .before .before .before .before .before .before .before .before .before .before .before .before .clear2 .last .0)) (length (c .before .before .before .before .before .before .before .before .clear3 .last .0)) ≡ true
 fits-at c = sym (c .before .has-room .ensures) ∙ not-false _ (c .if1 .left)
 
 clear-requires : tie.Need-clear-requires
@@ -58,7 +60,12 @@ returns c =
     let w = now (a .weights) in
     let told = c .enum-told .given in
     let read = c .before .before .read-record .ensures in
-    rw (told .1, c .before .before .before .before .before .before .before .before .before .before .before .before .before .clear .ensures, c .before .before .before .before .before .before .before .before .before .clear2 .ensures, c .before .before .before .before .before .clear3 .ensures)
+    rw (
+      told .1,
+      c .before .before .before .before .before .before .before .before .before .before .before .before .before .clear .ensures,
+      c .before .before .before .before .before .before .before .before .before .clear2 .ensures,
+      c .before .before .before .before .before .clear3 .ensures,
+    )
     (numbers-refused s k p w (told .0 .0) (read .means) (no-record s (length k) (length p) (length w) (told .0 .0) (sym (told .1) ∙ read .answer)))
 
 has-room-requires : tie.Need-has-room-requires
@@ -87,8 +94,22 @@ returns-2 c =
     let read = c .before .before .before .before .before .before .read-record .ensures in
     let e = sym (c .before .before .before .before .read .given .1) ∙ read .answer in
     let none-for = sym (c .before .before .has-room .ensures) ∙ not-true _ (c .before .if1 .taken) in
-    rw (c .refuse .ensures, c .before .before .before .before .before .before .before .before .before .before .before .before .before .before .before .before .before .clear .ensures, c .before .before .before .before .before .before .before .before .before .before .before .before .before .clear2 .ensures, c .before .before .before .before .before .before .before .before .before .clear3 .ensures)
-    (numbers-refused s k p w (refuse too-long) (read .means) (no-room s l (length k) (length p) (length w) e (rw (← c .before .before .before .before .before .before .before .before .before .before .before .before .before .before .before .before .before .clear .kept .0, ← c .before .before .before .before .before .before .before .before .before .before .before .before .before .clear2 .kept .0, ← c .before .before .before .before .before .before .before .before .before .clear3 .kept .0) none-for)))
+    rw (
+      c .refuse .ensures,
+      c .before .before .before .before .before .before .before .before .before .before .before .before .before .before .before .before .before .clear .ensures,
+      c .before .before .before .before .before .before .before .before .before .before .before .before .before .clear2 .ensures,
+      c .before .before .before .before .before .before .before .before .before .clear3 .ensures,
+    )
+    (numbers-refused
+    s k p w (refuse length-bad) (read .means)
+    (no-room
+    s l (length k) (length p) (length w) e
+    (rw (
+      ← c .before .before .before .before .before .before .before .before .before .before .before .before .before .before .before .before .before .clear .kept .0,
+      ← c .before .before .before .before .before .before .before .before .before .before .before .before .before .clear2 .kept .0,
+      ← c .before .before .before .before .before .before .before .before .before .clear3 .kept .0,
+    )
+    none-for)))
 
 mul-at : tie.Need-mul-at
 mul-at c = let room = room-at (c) in omega (arith, room .short, room .points)
@@ -112,13 +133,21 @@ add-fill : tie.Need-add-fill
 add-fill c = let room = room-at (c .before .before .before .before) in omega (arith, room .short, room .points)
 
 fill-requires-2 : tie.Need-fill-requires-2
-fill-requires-2 c κs = (λ h. room-at (c .before .before .before .before .before) .points, fits-runs (c .before .before .before .before .before .before .before .before .read .given .0 .0) _ _ _ (fits-at (c .before .before .before .before .before)) .1)
+fill-requires-2 c κs = (
+  λ h. room-at (c .before .before .before .before .before) .points,
+  fits-runs (c .before .before .before .before .before .before .before .before .read .given .0 .0) _ _ _ (fits-at (c .before .before .before .before .before)) .1,
+)
 
 add-fill-2 : tie.Need-add-fill-2
 add-fill-2 c = let room = room-at (c .before .before .before .before .before .before .before .before) in omega (arith, room .short, room .points)
 
 fill-requires-3 : tie.Need-fill-requires-3
-fill-requires-3 c κs = (room-at (c .before .before .before .before .before .before .before .before .before) .weights, fits-runs (c .before .before .before .before .before .before .before .before .before .before .before .before .read .given .0 .0) _ _ _ (fits-at (c .before .before .before .before .before .before .before .before .before)) .2)
+fill-requires-3 c κs = (
+  room-at (c .before .before .before .before .before .before .before .before .before) .weights,
+  fits-runs
+      (c .before .before .before .before .before .before .before .before .before .before .before .before .read .given .0 .0) _ _ _
+      (fits-at (c .before .before .before .before .before .before .before .before .before)) .2,
+)
 
 same-length-7 : tie.Need-same-length-7
 same-length-7 c = search needs
@@ -131,16 +160,46 @@ same-length-9 c = search needs
 
 returns-3 : tie.Need-returns-3
 returns-3 c =
-    let a = c .before .before .before .before .before .before .before .before .before .before .before .before .before .before .before .before .before .before .before .before .before .before .before .before .before .before .before .before .before .before .before .before .before .before .args in
+    let a = c .before .before .before .before .before .before .before .before .before .before .before .before .before .before .before .before .before .before .before .before .before .before .before .before
+    .before .before .before .before .before .before .before .before .before .before .args in
     let s = now (a .s) in
     let k = now (a .knots) in
     let p = now (a .points) in
     let w = now (a .weights) in
     let l = c .before .before .before .before .before .before .before .before .before .before .before .before .before .before .before .read .given .0 .0 in
     let m = c .before .before .before .before .before .before .before .before .before .before .before .before .before .before .before .before .before .read-record .ensures .means in
-    let e = sym (c .before .before .before .before .before .before .before .before .before .before .before .before .before .before .before .read .given .1) ∙ c .before .before .before .before .before .before .before .before .before .before .before .before .before .before .before .before .before .read-record .ensures .answer in
-    let fits = sym (c .before .before .before .before .before .before .before .before .before .before .before .before .before .has-room .ensures) ∙ not-false _ (c .before .before .before .before .before .before .before .before .before .before .before .before .if1 .left) in
-    rw (c .before .before .before .before .before .before .before .before .before .before .fill .ensures, c .before .before .before .before .before .before .fill2 .ensures, c .before .before .fill3 .ensures, c .before .before .before .before .before .before .before .before .before .before .before .before .before .before .before .before .before .before .before .before .before .before .before .before .before .before .before .before .clear .ensures, c .before .before .before .before .before .before .before .before .before .before .before .before .before .before .before .before .before .before .before .before .before .before .before .before .clear2 .ensures, c .before .before .before .before .before .before .before .before .before .before .before .before .before .before .before .before .before .before .before .before .clear3 .ensures) (numbers-read s l k p w m e (rw (← c .before .before .before .before .before .before .before .before .before .before .before .before .before .before .before .before .before .before .before .before .before .before .before .before .before .before .before .before .clear .kept .0, ← c .before .before .before .before .before .before .before .before .before .before .before .before .before .before .before .before .before .before .before .before .before .before .before .before .clear2 .kept .0, ← c .before .before .before .before .before .before .before .before .before .before .before .before .before .before .before .before .before .before .before .before .clear3 .kept .0) fits))
+    let e =
+    sym (c .before .before .before .before .before .before .before .before .before .before .before .before .before .before .before .read .given .1)
+    ∙ c .before .before .before .before .before .before .before .before .before .before .before .before .before .before .before .before .before .read-record .ensures .answer in
+    let fits =
+    sym (c .before .before .before .before .before .before .before .before .before .before .before .before .before .has-room .ensures)
+    ∙ not-false _ (c .before .before .before .before .before .before .before .before .before .before .before .before .if1 .left) in
+    rw (
+      c .before .before .before .before .before .before .before .before .before .before .fill .ensures,
+      c .before .before .before .before .before .before .fill2 .ensures,
+      c .before .before .fill3 .ensures,
+      c .before
+          .before .before .before .before .before .before .before .before .before .before .before .before .before .before .before .before .before .before .before .before .before .before .before
+          .before .before .before .before .clear .ensures,
+      c .before
+          .before .before .before .before .before .before .before .before .before .before .before .before .before .before .before .before .before .before .before .before .before .before .before
+          .clear2 .ensures,
+      c .before .before .before .before .before .before .before .before .before .before .before .before .before .before .before .before .before .before .before .before .clear3 .ensures,
+    )
+    (numbers-read
+    s l k p w m e
+    (rw (
+      ←
+          c .before .before .before .before .before .before .before .before .before .before .before .before .before .before .before .before .before .before .before .before .before .before .before
+          .before
+          .before .before .before .before .clear .kept .0,
+      ←
+          c .before .before .before .before .before .before .before .before .before .before .before .before .before .before .before .before .before .before .before .before .before .before .before
+          .before
+          .clear2 .kept .0,
+      ← c .before .before .before .before .before .before .before .before .before .before .before .before .before .before .before .before .before .before .before .before .clear3 .kept .0,
+    )
+    fits))
 
 pub read-numbers-spec : {M : Type 1} → statement M
 read-numbers-spec =

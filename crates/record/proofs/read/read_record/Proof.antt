@@ -64,7 +64,8 @@ returns-3 c =
     let a = c .before .before .before .before .before .before .before .before .before .before .args in
     let s = now (a .s) in
     let m = means s (λ i. c .before .before .before .before .before .before .before .before .before .shared-slice-known .given i .fits) in
-    let d : degreeOf s ≡ Is (c .before .before .before .before .before .first .given .0 .0) = sym (c .before .before .before .before .before .before .before .degree-at .ensures) ∙ c .before .before .before .before .before .first .given .1 in
+    let d : degreeOf s ≡ Is (c .before .before .before .before .before .first .given .0 .0) = sym (c .before .before .before .before .before .before .before .degree-at .ensures)
+    ∙ c .before .before .before .before .before .first .given .1 in
     let k : runOf (drop 5 s) 2 ≡ Bad = sym (c .before .before .before .run-at .ensures .0) ∙ c .before .enum-told2 .given .1 in
     record { means = m; answer = c .malformed3 .ensures ∙ rw (le-ltb 65536 (length s) (c .before .before .before .before .before .before .before .before .if1 .left), d, k) }
 
@@ -92,13 +93,22 @@ returns-4 c =
     let a = c .before .before .before .before .before .before .before .before .before .before .before .before .before .before .args in
     let s = now (a .s) in
     let m = means s (λ i. c .before .before .before .before .before .before .before .before .before .before .before .before .before .shared-slice-known .given i .fits) in
-    let d : degreeOf s ≡ Is (c .before .before .before .before .before .before .before .before .before .first .given .0 .0) = sym (c .before .before .before .before .before .before .before .before .before .before .before .degree-at .ensures) ∙ c .before .before .before .before .before .before .before .before .before .first .given .1 in
-    let k : runOf (drop 5 s) 2 ≡ Is (c .before .before .before .before .before .second .given .0 .0) = sym (c .before .before .before .before .before .before .before .run-at .ensures .0) ∙ c .before .before .before .before .before .second .given .1 in
+    let d : degreeOf s ≡ Is (c .before .before .before .before .before .before .before .before .before .first .given .0 .0) = sym (c .before .before .before .before .before .before .before .before .before .before .before .degree-at .ensures)
+    ∙ c .before .before .before .before .before .before .before .before .before .first .given .1 in
+    let k : runOf (drop 5 s) 2 ≡ Is (c .before .before .before .before .before .second .given .0 .0) = sym (c .before .before .before .before .before .before .before .run-at .ensures .0)
+    ∙ c .before .before .before .before .before .second .given .1 in
     let n : runOf (drop (8 + 8 * c .before .before .before .before .before .second .given .0 .0) s) 3 ≡ Bad = sym (c .before .before .before .run-at2 .ensures .0) ∙ c .before .enum-told3 .given .1 in
-    record { means = m; answer = c .malformed4 .ensures ∙ rw (le-ltb 65536 (length s) (c .before .before .before .before .before .before .before .before .before .before .before .before .if1 .left), d, k, n) }
+    record {
+      means =
+          m;
+      answer = c .malformed4 .ensures ∙ rw (le-ltb 65536 (length s) (c .before .before .before .before .before .before .before .before .before .before .before .before .if1 .left), d, k, n);
+    }
 
 end-at-requires : tie.Need-end-at-requires
-end-at-requires c κs = (is-below 8192 _ _ (c .before .before .before .before .before .second .given .1) (c .before .before .before .before .before .before .before .run-at .ensures .1), is-below 8192 _ _ (c .before .third .given .1) (c .before .before .before .run-at2 .ensures .1))
+end-at-requires c κs = (
+  is-below 8192 _ _ (c .before .before .before .before .before .second .given .1) (c .before .before .before .before .before .before .before .run-at .ensures .1),
+  is-below 8192 _ _ (c .before .third .given .1) (c .before .before .before .run-at2 .ensures .1),
+)
 
 returns-5 : tie.Need-returns-5
 unfolding tableOf
@@ -106,10 +116,17 @@ returns-5 c =
     let a = c .before .before .before .before .before .before .before .before .before .before .before .before .before .before .before .args in
     let s = now (a .s) in
     let m = means s (λ i. c .before .before .before .before .before .before .before .before .before .before .before .before .before .before .shared-slice-known .given i .fits) in
-    let d : degreeOf s ≡ Is (c .before .before .before .before .before .before .before .before .before .before .first .given .0 .0) = sym (c .before .before .before .before .before .before .before .before .before .before .before .before .degree-at .ensures) ∙ c .before .before .before .before .before .before .before .before .before .before .first .given .1 in
-    let k : runOf (drop 5 s) 2 ≡ Is (c .before .before .before .before .before .before .second .given .0 .0) = sym (c .before .before .before .before .before .before .before .before .run-at .ensures .0) ∙ c .before .before .before .before .before .before .second .given .1 in
-    let n : runOf (drop (8 + 8 * c .before .before .before .before .before .before .second .given .0 .0) s) 3 ≡ Is (c .before .before .third .given .0 .0) = sym (c .before .before .before .before .run-at2 .ensures .0) ∙ c .before .before .third .given .1 in
-    record { means = m; answer = rw (le-ltb 65536 (length s) (c .before .before .before .before .before .before .before .before .before .before .before .before .before .if1 .left), d, k, n) (c .end-at .ensures) }
+    let d : degreeOf s ≡ Is (c .before .before .before .before .before .before .before .before .before .before .first .given .0 .0) = sym (c .before .before .before .before .before .before .before .before .before .before .before .before .degree-at .ensures)
+    ∙ c .before .before .before .before .before .before .before .before .before .before .first .given .1 in
+    let k : runOf (drop 5 s) 2 ≡ Is (c .before .before .before .before .before .before .second .given .0 .0) = sym (c .before .before .before .before .before .before .before .before .run-at .ensures .0)
+    ∙ c .before .before .before .before .before .before .second .given .1 in
+    let n : runOf (drop (8 + 8 * c .before .before .before .before .before .before .second .given .0 .0) s) 3 ≡ Is (c .before .before .third .given .0 .0) = sym (c .before .before .before .before .run-at2 .ensures .0)
+    ∙ c .before .before .third .given .1 in
+    record {
+      means =
+          m;
+      answer = rw (le-ltb 65536 (length s) (c .before .before .before .before .before .before .before .before .before .before .before .before .before .if1 .left), d, k, n) (c .end-at .ensures);
+    }
 
 pub read-record-spec : {M : Type 1} → statement M
 read-record-spec =

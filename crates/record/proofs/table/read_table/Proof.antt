@@ -18,8 +18,8 @@ enum-known-read c = search needs
 enum-known-read-2 : tie.Need-enum-known-read-2
 enum-known-read-2 c = search needs
 
-front-refusal-requires : tie.Need-front-refusal-requires
-front-refusal-requires c κs =
+layout-refusal-requires : tie.Need-layout-refusal-requires
+layout-refusal-requires c κs =
     let a = c .before .before .before .before .before .before .before .before .before .before .before .before .before .before .before .before .before .before .before .before .args in
     let s = now (a .s) in
     let k = now (a .knots) in
@@ -51,16 +51,30 @@ same-length-3 c = search needs
 
 returns : tie.Need-returns
 returns c =
-    let a = c .before .before .before .before .before .before .before .before .before .before .before .before .before .before .before .before .before .before .before .before .before .before .before .before .before .before .before .before .before .before .before .before .before .before .before .args in
+    let a = c .before .before .before .before .before .before .before .before .before .before .before .before .before .before .before .before .before .before .before .before .before .before .before .before
+    .before .before .before .before .before .before .before .before .before .before .before .args in
     let s = now (a .s) in
     let k = now (a .knots) in
     let p = now (a .points) in
     let w = now (a .weights) in
-    let read = c .before .before .before .before .before .before .before .before .before .before .before .before .before .before .before .before .before .before .before .before .before .before .before .before .before .before .before .read-numbers in
+    let read = c .before .before .before .before .before .before .before .before .before .before .before .before .before .before .before .before .before .before .before .before .before .before .before .before
+    .before .before .before .read-numbers in
     let l = c .before .before .before .before .before .before .before .before .before .before .before .before .before .before .before .before .before .before .before .read2 .given .0 .0 in
-    let r : ReadsNumbers s k p w _ _ _ (Fields l) = rw (c .before .before .before .before .before .before .before .before .before .before .before .before .before .before .before .before .before .before .before .read2 .given .1) at (read .ensures) in
-    rw (c .before .before .before .before .before .before .before .before .before .before .clear .ensures, c .before .before .before .before .before .before .clear2 .ensures, c .before .before .clear3 .ensures, read .kept .1 .0, read .kept .1 .1 .0, read .kept .1 .1 .1 .0)
-    (refused-curve s k p w _ _ _ l r _ (c .before .before .before .before .before .before .before .before .before .before .before .before .before .before .front-refusal .ensures) (c .before .before .before .before .before .before .before .before .before .before .before .before .if1 .taken))
+    let r : ReadsNumbers s k p w _ _ _ (Fields l) =
+    rw
+    (c .before .before .before .before .before .before .before .before .before .before .before .before .before .before .before .before .before .before .before .read2 .given .1) at (read .ensures)
+    in
+    rw (
+      c .before .before .before .before .before .before .before .before .before .before .clear .ensures,
+      c .before .before .before .before .before .before .clear2 .ensures,
+      c .before .before .clear3 .ensures,
+      read .kept .1 .0,
+      read .kept .1 .1 .0,
+      read .kept .1 .1 .1 .0,
+    )
+    (refused-curve
+    s k p w _ _ _ l r _ (c .before .before .before .before .before .before .before .before .before .before .before .before .before .before .layout-refusal .ensures)
+    (c .before .before .before .before .before .before .before .before .before .before .before .before .if1 .taken))
 
 is-rational-requires : tie.Need-is-rational-requires
 is-rational-requires c κs = search needs
@@ -97,7 +111,8 @@ same-length-9 c = search needs
 
 returns-3 : tie.Need-returns-3
 returns-3 c =
-    let a = c .before .before .before .before .before .before .before .before .before .before .before .before .before .before .before .before .before .before .before .before .before .before .before .before .args in
+    let a = c .before .before .before .before .before .before .before .before .before .before .before .before .before .before .before .before .before .before .before .before .before .before .before .before
+    .args in
     let s = now (a .s) in
     let k = now (a .knots) in
     let p = now (a .points) in
@@ -105,7 +120,9 @@ returns-3 c =
     let read = c .before .before .before .before .before .before .before .before .before .before .before .before .before .before .before .before .read-numbers in
     let l = c .before .before .before .before .before .before .before .before .read2 .given .0 .0 in
     let r : ReadsNumbers s k p w _ _ _ (Fields l) = rw (c .before .before .before .before .before .before .before .before .read2 .given .1) at (read .ensures) in
-    rw (c .is-rational .ensures) (curve-read s k p w _ _ _ l r _ (c .before .before .before .front-refusal .ensures) (read .kept .1 .0) (read .kept .1 .1 .0) (read .kept .1 .1 .1 .0) (c .before .if1 .left))
+    rw
+    (c .is-rational .ensures)
+    (curve-read s k p w _ _ _ l r _ (c .before .before .before .layout-refusal .ensures) (read .kept .1 .0) (read .kept .1 .1 .0) (read .kept .1 .1 .1 .0) (c .before .if1 .left))
 
 pub read-table-spec : {M : Type 1} → statement M
 read-table-spec =
@@ -114,7 +131,7 @@ read-table-spec =
     read-numbers-requires
     enum-known-read
     enum-known-read-2
-    front-refusal-requires
+    layout-refusal-requires
     clear-requires
     clear-requires-2
     clear-requires-3

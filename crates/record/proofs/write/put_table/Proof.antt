@@ -41,7 +41,10 @@ add-end-2 c = search needs
 
 put-run-requires-3 : tie.Need-put-run-requires-3
 put-run-requires-3 c κs =
-    let room = rw (c .before .if1 .taken) at (c .before .before .before .before .before .before .before .before .before .before .before .before .before .before .before .before .before .before .before .before .before .before .pre) in
+    let room =
+    rw
+    (c .before .if1 .taken) at
+    (c .before .before .before .before .before .before .before .before .before .before .before .before .before .before .before .before .before .before .before .before .before .before .pre) in
     omega arith
 
 same-length : tie.Need-same-length
@@ -49,12 +52,18 @@ same-length c = search needs
 
 returns : tie.Need-returns
 returns c =
-    let a = c .before .before .before .before .before .before .before .before .before .before .before .before .before .before .before .before .before .before .before .before .before .before .before .before .before .args in
+    let a = c .before .before .before .before .before .before .before .before .before .before .before .before .before .before .before .before .before .before .before .before .before .before .before .before
+    .before .args in
     let ks = now (a .knots) in
     let ps = now (a .points) in
     let ws = now (a .weights) in
     let out = now (a .out) in
-    let f = front-stored out (a .degree) ks ps (c .before .before .before .before .before .before .before .before .before .before .before .before .before .before .before .before .before .before .before .put-head .ensures) (c .before .before .before .before .before .before .before .before .before .before .before .before .before .before .before .put-u16 .ensures) (c .before .before .before .before .before .before .before .before .before .before .before .put-run .ensures) (c .before .before .before .before .before .before .before .put-run2 .ensures) in
+    let f =
+    front-stored
+    out (a .degree) ks ps
+    (c .before .before .before .before .before .before .before .before .before .before .before .before .before .before .before .before .before .before .before .put-head .ensures)
+    (c .before .before .before .before .before .before .before .before .before .before .before .before .before .before .before .put-u16 .ensures)
+    (c .before .before .before .before .before .before .before .before .before .before .before .put-run .ensures) (c .before .before .before .before .before .before .before .put-run2 .ensures) in
     rw (c .before .before .before .before .if1 .taken)
     (c .before .before .put-run3 .ensures
     ∙ (ap (λ (x : List ℕ). sets x (8 + 8 * length ks + 3 + 8 * length ps) (run 4 ws)) f ∙ rational-put out (a .degree) ks ps ws))
@@ -69,7 +78,11 @@ returns-2 c =
     let ps = now (a .points) in
     let ws = now (a .weights) in
     let out = now (a .out) in
-    let f = front-stored out (a .degree) ks ps (c .before .before .before .before .before .before .before .before .before .before .before .before .before .before .before .put-head .ensures) (c .before .before .before .before .before .before .before .before .before .before .before .put-u16 .ensures) (c .before .before .before .before .before .before .before .put-run .ensures) (c .before .before .before .put-run2 .ensures) in
+    let f =
+    front-stored
+    out (a .degree) ks ps (c .before .before .before .before .before .before .before .before .before .before .before .before .before .before .before .put-head .ensures)
+    (c .before .before .before .before .before .before .before .before .before .before .before .put-u16 .ensures) (c .before .before .before .before .before .before .before .put-run .ensures)
+    (c .before .before .before .put-run2 .ensures) in
     rw (c .if1 .left) (f ∙ polynomial-put out (a .degree) ks ps ws)
 
 pub put-table-spec : {M : Type 1} → statement M

@@ -1,6 +1,6 @@
 -- The bytes are cleared first, so that each refusal is done; then the record is stored from the front.
 -- Assumes nothing.
-use Rattle.knots.specs.Refusal.{refuse, too-long}
+use Rattle.knots.specs.Refusal.{refuse, length-bad}
 use Rattle.record.specs.Writing.{Writes, tableFrom}
 use Rattle.record.proofs.RoundTrip.{reads-back}
 use mathlib.Core.Path.{_≡_, sym, _∙_}
@@ -40,8 +40,16 @@ returns c =
     let out = now (a .out) in
     let t = tableFrom (a .degree) ks ps (a .rational) ws in
     let none-held = size-none (a .degree) ks ps (a .rational) ws (sym (c .before .before .before .record-size .ensures) ∙ c .before .enum-told .given .1) in
-    let w : Writes t out (c .before .before .before .before .before .before .clear-bytes .last .0) (Refused (refuse too-long)) = rw (c .before .before .before .before .before .before .clear-bytes .ensures) (writes-none t out none-held) in
-    rw (c .refuse .ensures) (w, reads-back (a .degree) ks ps (a .rational) ws (λ i. c .before .before .before .before .before .before .before .before .before .before .before .shared-slice-known .given i) (λ i. c .before .before .before .before .before .before .before .before .before .before .shared-slice-known2 .given i) (λ i. c .before .before .before .before .before .before .before .before .before .shared-slice-known3 .given i) out _ _ w)
+    let w : Writes t out (c .before .before .before .before .before .before .clear-bytes .last .0) (Refused (refuse length-bad)) =
+    rw (c .before .before .before .before .before .before .clear-bytes .ensures) (writes-none t out none-held) in
+    rw
+    (c .refuse .ensures) (
+      w,
+      reads-back
+          (a .degree) ks ps (a .rational) ws (λ i. c .before .before .before .before .before .before .before .before .before .before .before .shared-slice-known .given i)
+          (λ i. c .before .before .before .before .before .before .before .before .before .before .shared-slice-known2 .given i)
+          (λ i. c .before .before .before .before .before .before .before .before .before .shared-slice-known3 .given i) out _ _ w,
+    )
 
 refuse-requires-2 : tie.Need-refuse-requires-2
 refuse-requires-2 c κs = search needs
@@ -57,10 +65,21 @@ returns-2 c =
     let ws = now (a .weights) in
     let out = now (a .out) in
     let t = tableFrom (a .degree) ks ps (a .rational) ws in
-    let size = size-some (a .degree) ks ps (a .rational) ws (c .before .before .before .size .given .0 .0) (sym (c .before .before .before .before .before .record-size .ensures) ∙ c .before .before .before .size .given .1) in
+    let size =
+    size-some
+    (a .degree) ks ps (a .rational) ws (c .before .before .before .size .given .0 .0)
+    (sym (c .before .before .before .before .before .record-size .ensures) ∙ c .before .before .before .size .given .1) in
     let long : length (c .before .before .before .before .before .before .before .before .clear-bytes .last .0) ≡ length out = c .before .before .before .before .before .before .before .before .clear-bytes .kept .0 in
-    let w : Writes t out (c .before .before .before .before .before .before .before .before .clear-bytes .last .0) (Refused (refuse too-long)) = rw (c .before .before .before .before .before .before .before .before .clear-bytes .ensures) (writes-short t out (size .0) (omega arith)) in
-    rw (c .refuse2 .ensures) (w, reads-back (a .degree) ks ps (a .rational) ws (λ i. c .before .before .before .before .before .before .before .before .before .before .before .before .before .shared-slice-known .given i) (λ i. c .before .before .before .before .before .before .before .before .before .before .before .before .shared-slice-known2 .given i) (λ i. c .before .before .before .before .before .before .before .before .before .before .before .shared-slice-known3 .given i) out _ _ w)
+    let w : Writes t out (c .before .before .before .before .before .before .before .before .clear-bytes .last .0) (Refused (refuse length-bad)) =
+    rw (c .before .before .before .before .before .before .before .before .clear-bytes .ensures) (writes-short t out (size .0) (omega arith)) in
+    rw
+    (c .refuse2 .ensures) (
+      w,
+      reads-back
+          (a .degree) ks ps (a .rational) ws (λ i. c .before .before .before .before .before .before .before .before .before .before .before .before .before .shared-slice-known .given i)
+          (λ i. c .before .before .before .before .before .before .before .before .before .before .before .before .shared-slice-known2 .given i)
+          (λ i. c .before .before .before .before .before .before .before .before .before .before .before .shared-slice-known3 .given i) out _ _ w,
+    )
 
 put-table-requires : tie.Need-put-table-requires
 put-table-requires c κs =
@@ -69,7 +88,10 @@ put-table-requires c κs =
     let ps = now (a .points) in
     let ws = now (a .weights) in
     let out = now (a .out) in
-    let size = size-some (a .degree) ks ps (a .rational) ws (c .before .before .before .size .given .0 .0) (sym (c .before .before .before .before .before .record-size .ensures) ∙ c .before .before .before .size .given .1) in
+    let size =
+    size-some
+    (a .degree) ks ps (a .rational) ws (c .before .before .before .size .given .0 .0)
+    (sym (c .before .before .before .before .before .record-size .ensures) ∙ c .before .before .before .size .given .1) in
     let long : length (c .before .before .before .before .before .before .before .before .clear-bytes .last .0) ≡ length out = c .before .before .before .before .before .before .before .before .clear-bytes .kept .0 in
     let table = length-table (a .degree) ks ps (a .rational) ws in
     omega arith
@@ -85,10 +107,22 @@ returns-3 c =
     let ws = now (a .weights) in
     let out = now (a .out) in
     let t = tableFrom (a .degree) ks ps (a .rational) ws in
-    let size = size-some (a .degree) ks ps (a .rational) ws (c .before .before .before .before .before .before .size .given .0 .0) (sym (c .before .before .before .before .before .before .before .before .record-size .ensures) ∙ c .before .before .before .before .before .before .size .given .1) in
+    let size =
+    size-some
+    (a .degree) ks ps (a .rational) ws (c .before .before .before .before .before .before .size .given .0 .0)
+    (sym (c .before .before .before .before .before .before .before .before .record-size .ensures) ∙ c .before .before .before .before .before .before .size .given .1) in
     let long : length (c .before .before .before .before .before .before .before .before .before .before .before .clear-bytes .last .0) ≡ length out = c .before .before .before .before .before .before .before .before .before .before .before .clear-bytes .kept .0 in
-    let w : Writes t out (c .before .before .put-table .last .1 .1 .1 .1 .1 .0) (Written (c .before .before .before .before .before .before .size .given .0 .0)) = rw (c .before .before .put-table .ensures, c .before .before .before .before .before .before .before .before .before .before .before .clear-bytes .ensures, ← size .1) (writes-all t out (size .0) (omega arith)) in
-    (w, reads-back (a .degree) ks ps (a .rational) ws (λ i. c .before .before .before .before .before .before .before .before .before .before .before .before .before .before .before .before .shared-slice-known .given i) (λ i. c .before .before .before .before .before .before .before .before .before .before .before .before .before .before .before .shared-slice-known2 .given i) (λ i. c .before .before .before .before .before .before .before .before .before .before .before .before .before .before .shared-slice-known3 .given i) out _ _ w)
+    let w : Writes t out (c .before .before .put-table .last .1 .1 .1 .1 .1 .0) (Written (c .before .before .before .before .before .before .size .given .0 .0)) =
+    rw
+    (c .before .before .put-table .ensures, c .before .before .before .before .before .before .before .before .before .before .before .clear-bytes .ensures, ← size .1)
+    (writes-all t out (size .0) (omega arith)) in (
+      w,
+      reads-back
+          (a .degree) ks ps (a .rational) ws
+          (λ i. c .before .before .before .before .before .before .before .before .before .before .before .before .before .before .before .before .shared-slice-known .given i)
+          (λ i. c .before .before .before .before .before .before .before .before .before .before .before .before .before .before .before .shared-slice-known2 .given i)
+          (λ i. c .before .before .before .before .before .before .before .before .before .before .before .before .before .before .shared-slice-known3 .given i) out _ _ w,
+    )
 
 pub write-record-spec : {M : Type 1} → statement M
 write-record-spec =

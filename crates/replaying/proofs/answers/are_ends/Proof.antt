@@ -22,7 +22,8 @@ returns : tie.Need-returns
 returns c =
     let first = c .before .before .before in
     record {
-      holds = λ e. record { low = rw (first .before .lo .ensures) at (first .same .ensures .holds (c .before .before .if1 .taken)); high = rw (c .before .hi .ensures) at (c .same2 .ensures .holds e) };
+      holds =
+          λ e. record { low = rw (first .before .lo .ensures) at (first .same .ensures .holds (c .before .before .if1 .taken)); high = rw (c .before .hi .ensures) at (c .same2 .ensures .holds e) };
       says = λ e. c .same2 .ensures .says (rw (c .before .hi .ensures) (e .high));
     }
 

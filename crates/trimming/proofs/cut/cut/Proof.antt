@@ -3,7 +3,7 @@ use native.Mathlib.Omega.{arith}
 use denote.Ref.{now}
 use lib.ListN.{length}
 use Rattle.trimming.proofs.Cutting.{taken-open, cut-done}
-use Rattle.insertion.proofs.Working.{front-is}
+use Rattle.edits.proofs.WorkCalls.{front-is}
 use borrow.Author.Needs.{needs}
 use Rattle.trimming.proofs.cut.cut.Statement.{statement}
 use Rattle.trimming.proofs.cut.cut.Tie as tie
@@ -21,7 +21,15 @@ same-length-3 : tie.Need-same-length-3
 same-length-3 c = c .before .before .before .weights .given
 
 returns : tie.Need-returns
-returns c = absurd (c .if1 .taken (taken-open (c .before .before .before .before .before .before .before .before .before .before .before .before .before .before .before .before .args .p) (c .before .before .before .before .before .before .before .before .before .before .before .before .before .before .before .before .args .m) (c .before .before .before .before .before .before .before .before .before .before .before .before .before .before .before .before .args .f) (c .before .before .before .before .before .before .before .before .before .before .before .before .before .before .before .before .args .rational) (c .before .before .before .before .before .before .before .before .before .before .before .before .before .before .before .before .args .a) (length (now (c .before .before .before .before .before .before .before .before .before .before .before .before .before .before .before .before .args .work))) (length (now (c .before .before .before .before .before .before .before .before .before .before .before .before .before .before .before .before .args .knots))) (length (now (c .before .before .before .before .before .before .before .before .before .before .before .before .before .before .before .before .args .points))) (length (now (c .before .before .before .before .before .before .before .before .before .before .before .before .before .before .before .before .args .weights))) _ (c .before .before .before .before .before .before .before .before .take-curve .ensures .0) (c .before .before .before .before .before .before .before .before .before .before .before .before .before .before .before .before .pre .0 .0) (c .before .before .before .before .before .before .before .before .before .before .before .before .before .before .before .before .pre .0 .1) (c .before .before .before .before .before .before .before .before .before .before .before .before .before .before .before .before .pre .1 .0) (c .before .before .before .before .before .before .before .before .before .before .before .before .before .before .before .before .pre .1 .1 .0) (c .before .before .before .before .before .before .before .before .before .before .before .before .before .before .before .before .pre .1 .1 .1)))
+returns c =
+    let a = c .before .before .before .before .before .before .before .before .before .before .before .before .before .before .before .before .args in
+    let q = c .before .before .before .before .before .before .before .before .before .before .before .before .before .before .before .before .pre in
+    absurd
+    (c
+    .if1 .taken
+    (taken-open
+    (a .p) (a .m) (a .f) (a .rational) (a .a) (length (now (a .work))) (length (now (a .knots))) (length (now (a .points))) (length (now (a .weights))) _
+    (c .before .before .before .before .before .before .before .before .take-curve .ensures .0) (q .0 .0) (q .0 .1) (q .1 .0) (q .1 .1 .0) (q .1 .1 .1)))
 
 front-refusal-requires : tie.Need-front-refusal-requires
 front-refusal-requires c κs = search needs
@@ -36,7 +44,16 @@ same-length-6 : tie.Need-same-length-6
 same-length-6 c = c .before .before .before .before .before .before .before .weights .given
 
 returns-2 : tie.Need-returns-2
-returns-2 c = cut-done (c .before .before .before .before .before .before .before .before .before .before .before .before .before .before .before .before .before .before .before .before .args .p) (c .before .before .before .before .before .before .before .before .before .before .before .before .before .before .before .before .before .before .before .before .args .m) (c .before .before .before .before .before .before .before .before .before .before .before .before .before .before .before .before .before .before .before .before .args .rational) (c .before .before .before .before .before .before .before .before .before .before .before .before .before .before .before .before .before .before .before .before .args .a) (c .before .before .before .before .before .before .before .before .before .before .before .before .before .before .before .before .before .before .before .before .args .f) (now (c .before .before .before .before .before .before .before .before .before .before .before .before .before .before .before .before .before .before .before .before .args .work)) _ _ _ _ _ _ _ _ (c .before .before .before .before .if1 .left) (c .before .before .before .before .before .before .before .before .before .before .before .before .before .before .before .before .before .before .before .before .pre .0 .1) (c .before .before .before .before .before .before .before .before .before .before .before .before .take-curve .ensures .1 .0) (c .before .before .before .before .before .before .before .before .before .before .before .before .take-curve .ensures .1 .1 .0) (c .before .before .before .before .before .before .before .before .before .before .before .before .take-curve .ensures .1 .1 .1) (let x = c .before .before .before .before .before .before .before .before .before .before .before .knots .given in let y = c .before .before .before .before .before .before .before .before .before .points .given in let z = c .before .before .before .before .before .before .before .weights .given in let i = c .before .before .before .before .before .before .before .before .before .before .before .before .before .before .before .before .before .before .before .before .pre .1 .0 in let j = c .before .before .before .before .before .before .before .before .before .before .before .before .before .before .before .before .before .before .before .before .pre .1 .1 .0 in let k = c .before .before .before .before .before .before .before .before .before .before .before .before .before .before .before .before .before .before .before .before .pre .1 .1 .1 in c .front-refusal .ensures ∙ front-is (c .before .before .before .before .before .before .before .before .before .before .before .before .before .before .before .before .before .before .before .before .args .p) (c .before .before .before .before .before .before .before .before .before .before .before .before .before .before .before .before .before .before .before .before .args .m) (c .before .before .before .before .before .before .before .before .before .before .before .before .before .before .before .before .before .before .before .before .args .rational) _ _ _ (omega arith) (omega arith) (omega arith))
+returns-2 c =
+    let a = c .before .before .before .before .before .before .before .before .before .before .before .before .before .before .before .before .before .before .before .before .args in
+    let q = c .before .before .before .before .before .before .before .before .before .before .before .before .before .before .before .before .before .before .before .before .pre in
+    cut-done
+    (a .p) (a .m) (a .rational) (a .a) (a .f) (now (a .work)) _ _ _ _ _ _ _ _ (c .before .before .before .before .if1 .left) (q .0 .1)
+    (c .before .before .before .before .before .before .before .before .before .before .before .before .take-curve .ensures .1 .0)
+    (c .before .before .before .before .before .before .before .before .before .before .before .before .take-curve .ensures .1 .1 .0)
+    (c .before .before .before .before .before .before .before .before .before .before .before .before .take-curve .ensures .1 .1 .1) (let x =
+    c .before .before .before .before .before .before .before .before .before .before .before .knots .given in let y = c .before .before .before .before .before .before .before .before .before .points .given in let z = c .before .before .before .before .before .before .before .weights .given in let i = q .1 .0 in let j = q .1 .1 .0 in let k = q .1 .1 .1 in c .front-refusal .ensures
+    ∙ front-is (a .p) (a .m) (a .rational) _ _ _ (omega arith) (omega arith) (omega arith))
 
 pub cut-spec : {M : Type 1} → statement M
 cut-spec =

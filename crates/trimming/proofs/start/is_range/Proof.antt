@@ -21,15 +21,32 @@ returns-2 c = simp (sym (c .before .before .before .is-finite .ensures) ∙ not-
 
 returns-3 : tie.Need-returns-3
 unfolding inRange
-returns-3 c = simp (sym (c .before .before .before .before .is-finite .ensures) ∙ not-false _ (c .before .before .before .if1 .left), sym (c .before .before .is-finite2 .ensures) ∙ not-false _ (c .before .if2 .left), c .if3 .taken)
+returns-3 c =
+    simp (
+      sym (c .before .before .before .before .is-finite .ensures) ∙ not-false _ (c .before .before .before .if1 .left),
+      sym (c .before .before .is-finite2 .ensures) ∙ not-false _ (c .before .if2 .left),
+      c .if3 .taken,
+    )
 
 returns-4 : tie.Need-returns-4
 unfolding inRange
-returns-4 c = simp (sym (c .before .before .before .before .before .is-finite .ensures) ∙ not-false _ (c .before .before .before .before .if1 .left), sym (c .before .before .before .is-finite2 .ensures) ∙ not-false _ (c .before .before .if2 .left), c .before .if3 .left, c .if4 .taken)
+returns-4 c =
+    simp (
+      sym (c .before .before .before .before .before .is-finite .ensures) ∙ not-false _ (c .before .before .before .before .if1 .left),
+      sym (c .before .before .before .is-finite2 .ensures) ∙ not-false _ (c .before .before .if2 .left),
+      c .before .if3 .left,
+      c .if4 .taken,
+    )
 
 returns-5 : tie.Need-returns-5
 unfolding inRange
-returns-5 c = simp (sym (c .before .before .before .before .before .is-finite .ensures) ∙ not-false _ (c .before .before .before .before .if1 .left), sym (c .before .before .before .is-finite2 .ensures) ∙ not-false _ (c .before .before .if2 .left), c .before .if3 .left, c .if4 .left)
+returns-5 c =
+    simp (
+      sym (c .before .before .before .before .before .is-finite .ensures) ∙ not-false _ (c .before .before .before .before .if1 .left),
+      sym (c .before .before .before .is-finite2 .ensures) ∙ not-false _ (c .before .before .if2 .left),
+      c .before .if3 .left,
+      c .if4 .left,
+    )
 
 pub is-range-spec : {M : Type 1} → statement M
 is-range-spec =

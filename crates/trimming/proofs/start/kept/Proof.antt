@@ -20,7 +20,10 @@ below-requires-2 : tie.Need-below-requires-2
 below-requires-2 c κs = search needs
 
 add-result : tie.Need-add-result
-add-result c = let p = c .before .before .before .before .pre .0 in let q = c .before .before .before .before .pre .1 .0 in let b = below-long (now (c .before .before .before .before .args .knots)) (c .before .before .before .before .args .hi) in let e = c .below2 .ensures in let f = c .before .before .missing .ensures in omega arith
+add-result c =
+    let a = c .before .before .before .before .args in
+    let pr = c .before .before .before .before .pre in
+    let p = pr .0 in let q = pr .1 .0 in let b = below-long (now (a .knots)) (a .hi) in let e = c .below2 .ensures in let f = c .before .before .missing .ensures in omega arith
 
 sub-result : tie.Need-sub-result
 sub-result c = let p = c .before .before .before .before .pre .1 .1 in let e = c .below2 .ensures in let f = c .before .below .ensures in omega arith

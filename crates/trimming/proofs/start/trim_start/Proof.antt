@@ -3,7 +3,7 @@ use native.Mathlib.Omega.{arith}
 use denote.Ref.{now}
 use Rattle.knots.specs.declared.refusal.Refusal.{Refusal}
 use Rattle.knots.proofs.Refusals.{stop, skip}
-use Rattle.insertion.proofs.Starting.{edit-open}
+use Rattle.edits.proofs.Starting.{edit-open}
 use Rattle.trimming.specs.Trim.{trimStart}
 use borrow.Author.Needs.{needs}
 use Rattle.trimming.proofs.start.trim_start.Statement.{statement}
@@ -17,7 +17,12 @@ unfolding trimStart
 returns c = simp (stop (c .before .before .edit-start .ensures) (λ z. omega arith)) (c .before .before .edit-start .ensures)
 
 range-refusal-requires : tie.Need-range-refusal-requires
-range-refusal-requires c κs = let o = edit-open (c .before .before .before .before .before .before .args .degree) (now (c .before .before .before .before .before .before .args .knots)) (now (c .before .before .before .before .before .before .args .points)) (c .before .before .before .before .before .before .args .rational) (now (c .before .before .before .before .before .before .args .weights)) (sym (ap (λ (r : Refusal). r .number) (c .before .before .edit-start .ensures)) ∙ omega arith) .0 in (o .knots, o .short .knots)
+range-refusal-requires c κs =
+    let a = c .before .before .before .before .before .before .args in
+    let o =
+    edit-open
+    (a .degree) (now (a .knots)) (now (a .points)) (a .rational) (now (a .weights)) (sym (ap (λ (r : Refusal). r .number) (c .before .before .edit-start .ensures)) ∙ omega arith) .0 in
+    (o .knots, o .short .knots)
 
 returns-2 : tie.Need-returns-2
 unfolding trimStart

@@ -2,7 +2,7 @@ use Prim.Native.Nat.{_+_, _*_, _/_}
 use native.Mathlib.Omega.{arith}
 use denote.Ref.{now}
 use lib.ListN.{length}
-use Rattle.insertion.proofs.Counted.{multiplicity-most}
+use Rattle.insertion.proofs.KnotCounts.{multiplicity-most}
 use Rattle.trimming.proofs.Ranges.{kept-fits}
 use Rattle.trimming.proofs.Cutting.{into-refused, into-cut}
 use borrow.Author.Needs.{needs}
@@ -10,43 +10,121 @@ use Rattle.trimming.proofs.trim.trim_into.Statement.{statement}
 use Rattle.trimming.proofs.trim.trim_into.Tie as tie
 
 add-missing : tie.Need-add-missing
-add-missing c = let v = c .before .before .before .before .before .before .before .pre .0 in let l = v .knots .long in let k = v .knots .count in let s = v .short .knots in let q = c .before .before .before .before .before .before .before .pre .1 .1 .1 .1 .1 in let g = c .before .before .before .before .before .before .before .good in let f = c .before .before .before .before .before .before .before .fits in search needs
+add-missing c =
+    let pr = c .before .before .before .before .before .before .before .pre in
+    let v = pr .0 in
+    let l = v .knots .long in
+    let k = v .knots .count in
+    let s = v .short .knots in
+    let q = pr .1 .1 .1 .1 .1 in let g = c .before .before .before .before .before .before .before .good in let f = c .before .before .before .before .before .before .before .fits in search needs
 
 missing-requires : tie.Need-missing-requires
 missing-requires c κs = search needs
 
 add-missing-2 : tie.Need-add-missing-2
-add-missing-2 c = let v = c .before .before .before .before .before .before .before .before .pre .0 in let l = v .knots .long in let k = v .knots .count in let s = v .short .knots in let q = c .before .before .before .before .before .before .before .before .pre .1 .1 .1 .1 .1 in let g = c .before .before .before .before .before .before .before .before .good in let f = c .before .before .before .before .before .before .before .before .fits in search needs
+add-missing-2 c =
+    let pr = c .before .before .before .before .before .before .before .before .pre in
+    let v = pr .0 in
+    let l = v .knots .long in
+    let k = v .knots .count in
+    let s = v .short .knots in
+    let q = pr .1 .1 .1 .1 .1 in
+    let g = c .before .before .before .before .before .before .before .before .good in let f = c .before .before .before .before .before .before .before .before .fits in search needs
 
 missing-requires-2 : tie.Need-missing-requires-2
 missing-requires-2 c κs = search needs
 
 add-a : tie.Need-add-a
-add-a c = let v = c .before .before .before .before .before .before .before .before .before .pre .0 in let l = v .knots .long in let k = v .knots .count in let s = v .short .knots in let q = c .before .before .before .before .before .before .before .before .before .pre .1 .1 .1 .1 .1 in let g = c .before .before .before .before .before .before .before .before .before .good in let f = c .before .before .before .before .before .before .before .before .before .fits in let x = c .before .missing .ensures in let y = c .missing2 .ensures in omega arith
+add-a c =
+    let pr = c .before .before .before .before .before .before .before .before .before .pre in
+    let v = pr .0 in
+    let l = v .knots .long in
+    let k = v .knots .count in
+    let s = v .short .knots in
+    let q = pr .1 .1 .1 .1 .1 in
+    let g = c .before .before .before .before .before .before .before .before .before .good in
+    let f = c .before .before .before .before .before .before .before .before .before .fits in let x = c .before .missing .ensures in let y = c .missing2 .ensures in omega arith
 
 add-a-2 : tie.Need-add-a-2
-add-a-2 c = let v = c .before .before .before .before .before .before .before .before .before .pre .0 in let l = v .knots .long in let k = v .knots .count in let s = v .short .knots in let q = c .before .before .before .before .before .before .before .before .before .pre .1 .1 .1 .1 .1 in let g = c .before .before .before .before .before .before .before .before .before .good in let f = c .before .before .before .before .before .before .before .before .before .fits in let x = c .before .missing .ensures in let y = c .missing2 .ensures in omega arith
+add-a-2 c =
+    let pr = c .before .before .before .before .before .before .before .before .before .pre in
+    let v = pr .0 in
+    let l = v .knots .long in
+    let k = v .knots .count in
+    let s = v .short .knots in
+    let q = pr .1 .1 .1 .1 .1 in
+    let g = c .before .before .before .before .before .before .before .before .before .good in
+    let f = c .before .before .before .before .before .before .before .before .before .fits in let x = c .before .missing .ensures in let y = c .missing2 .ensures in omega arith
 
 mul-a : tie.Need-mul-a
-mul-a c = let v = c .before .before .before .before .before .before .before .before .before .pre .0 in let l = v .knots .long in let k = v .knots .count in let s = v .short .knots in let q = c .before .before .before .before .before .before .before .before .before .pre .1 .1 .1 .1 .1 in let g = c .before .before .before .before .before .before .before .before .before .good in let f = c .before .before .before .before .before .before .before .before .before .fits in let x = c .before .missing .ensures in let y = c .missing2 .ensures in omega (arith, g, f)
+mul-a c =
+    let pr = c .before .before .before .before .before .before .before .before .before .pre in
+    let v = pr .0 in
+    let l = v .knots .long in
+    let k = v .knots .count in
+    let s = v .short .knots in
+    let q = pr .1 .1 .1 .1 .1 in
+    let g = c .before .before .before .before .before .before .before .before .before .good in
+    let f = c .before .before .before .before .before .before .before .before .before .fits in let x = c .before .missing .ensures in let y = c .missing2 .ensures in omega (arith, g, f)
 
 insert-ends-requires : tie.Need-insert-ends-requires
-insert-ends-requires c κs = let v = c .before .before .before .before .before .before .before .before .before .before .pre .0 in let l = v .knots .long in let k = v .knots .count in let s = v .short .knots in let q = c .before .before .before .before .before .before .before .before .before .before .pre .1 .1 .1 .1 .1 in let g = c .before .before .before .before .before .before .before .before .before .before .good in let f = c .before .before .before .before .before .before .before .before .before .before .fits in let x = c .before .before .missing .ensures in let y = c .before .missing2 .ensures in (c .before .before .before .before .before .before .before .before .before .before .pre .0, (omega arith, omega arith))
+insert-ends-requires c κs =
+    let pr = c .before .before .before .before .before .before .before .before .before .before .pre in
+    let v = pr .0 in
+    let l = v .knots .long in
+    let k = v .knots .count in
+    let s = v .short .knots in
+    let q = pr .1 .1 .1 .1 .1 in
+    let g = c .before .before .before .before .before .before .before .before .before .before .good in
+    let f = c .before .before .before .before .before .before .before .before .before .before .fits in
+    let x = c .before .before .missing .ensures in let y = c .before .missing2 .ensures in (pr .0, (omega arith, omega arith))
 
 same-length : tie.Need-same-length
 same-length c = c .before .before .before .work .given
 
 returns : tie.Need-returns
-returns c = into-refused (c .before .before .before .before .before .before .before .before .before .before .before .before .before .before .before .args .degree) (now (c .before .before .before .before .before .before .before .before .before .before .before .before .before .before .before .args .knots)) (now (c .before .before .before .before .before .before .before .before .before .before .before .before .before .before .before .args .points)) (c .before .before .before .before .before .before .before .before .before .before .before .before .before .before .before .args .rational) (now (c .before .before .before .before .before .before .before .before .before .before .before .before .before .before .before .args .weights)) (c .before .before .before .before .before .before .before .before .before .before .before .before .before .before .before .pre .0) (c .before .before .before .before .before .before .before .before .before .before .before .before .before .before .before .args .lo) (c .before .before .before .before .before .before .before .before .before .before .before .before .before .before .before .args .hi) (length (now (c .before .before .before .before .before .before .before .before .before .before .before .before .before .before .before .args .out-knots))) (length (now (c .before .before .before .before .before .before .before .before .before .before .before .before .before .before .before .args .out-points))) (length (now (c .before .before .before .before .before .before .before .before .before .before .before .before .before .before .before .args .out-weights))) _ _ _ _ (c .before .before .before .before .insert-ends .ensures .0) (c .if1 .taken)
+returns c =
+    let a = c .before .before .before .before .before .before .before .before .before .before .before .before .before .before .before .args in
+    into-refused
+    (a .degree) (now (a .knots)) (now (a .points)) (a .rational) (now (a .weights))
+    (c .before .before .before .before .before .before .before .before .before .before .before .before .before .before .before .pre .0) (a .lo) (a .hi) (length (now (a .out-knots)))
+    (length (now (a .out-points))) (length (now (a .out-weights))) _ _ _ _ (c .before .before .before .before .insert-ends .ensures .0) (c .if1 .taken)
 
 below-requires : tie.Need-below-requires
 below-requires c κs = search needs
 
 kept-requires : tie.Need-kept-requires
-kept-requires c κs = let v = c .before .before .before .before .before .before .before .before .before .before .before .before .before .before .before .before .pre .0 in let l = v .knots .long in let k = v .knots .count in let s = v .short .knots in let q = c .before .before .before .before .before .before .before .before .before .before .before .before .before .before .before .before .pre .1 .1 .1 .1 .1 in let g = c .before .before .before .before .before .before .before .before .before .before .before .before .before .before .before .before .good in let f = c .before .before .before .before .before .before .before .before .before .before .before .before .before .before .before .before .fits in (omega arith, (s, c .before .before .before .before .before .before .before .before .before .before .before .before .before .before .before .before .pre .1 .0))
+kept-requires c κs =
+    let pr = c .before .before .before .before .before .before .before .before .before .before .before .before .before .before .before .before .pre in
+    let v = pr .0 in
+    let l = v .knots .long in
+    let k = v .knots .count in
+    let s = v .short .knots in
+    let q = pr .1 .1 .1 .1 .1 in
+    let g = c .before .before .before .before .before .before .before .before .before .before .before .before .before .before .before .before .good in
+    let f = c .before .before .before .before .before .before .before .before .before .before .before .before .before .before .before .before .fits in (omega arith, (s, pr .1 .0))
 
 cut-requires : tie.Need-cut-requires
-cut-requires c κs = let v = c .before .before .before .before .before .before .before .before .before .before .before .before .before .before .before .before .before .before .before .before .before .pre .0 in let l = v .knots .long in let k = v .knots .count in let s = v .short .knots in let q = c .before .before .before .before .before .before .before .before .before .before .before .before .before .before .before .before .before .before .before .before .before .pre .1 .1 .1 .1 .1 in let g = c .before .before .before .before .before .before .before .before .before .before .before .before .before .before .before .before .before .before .before .before .before .good in let f = c .before .before .before .before .before .before .before .before .before .before .before .before .before .before .before .before .before .before .before .before .before .fits in let x = c .before .before .before .before .before .before .before .before .before .before .before .before .before .missing .ensures in let y = c .before .before .before .before .before .before .before .before .before .before .before .before .missing2 .ensures in let F = c .before .before .before .before .before .below .ensures in let M = c .before .before .before .before .kept .ensures in let w = c .before .before .before .before .before .before .before .before .before .work .given in let b = (kept-fits (c .before .before .before .before .before .before .before .before .before .before .before .before .before .before .before .before .before .before .before .before .before .args .degree) (length (now (c .before .before .before .before .before .before .before .before .before .before .before .before .before .before .before .before .before .before .before .before .before .args .points)) / 3) (now (c .before .before .before .before .before .before .before .before .before .before .before .before .before .before .before .before .before .before .before .before .before .args .knots)) (c .before .before .before .before .before .before .before .before .before .before .before .before .before .before .before .before .before .before .before .before .before .pre .0 .knots) (c .before .before .before .before .before .before .before .before .before .before .before .before .before .before .before .before .before .before .before .before .before .args .lo) (c .before .before .before .before .before .before .before .before .before .before .before .before .before .before .before .before .before .before .before .before .before .args .hi) (c .before .before .before .before .before .before .before .before .before .before .before .before .before .before .before .before .before .before .before .before .before .pre .1 .0) (multiplicity-most (c .before .before .before .before .before .before .before .before .before .before .before .before .before .before .before .before .before .before .before .before .before .args .degree) (length (now (c .before .before .before .before .before .before .before .before .before .before .before .before .before .before .before .before .before .before .before .before .before .args .points)) / 3) (now (c .before .before .before .before .before .before .before .before .before .before .before .before .before .before .before .before .before .before .before .before .before .args .knots)) (c .before .before .before .before .before .before .before .before .before .before .before .before .before .before .before .before .before .before .before .before .before .pre .0 .knots) (c .before .before .before .before .before .before .before .before .before .before .before .before .before .before .before .before .before .before .before .before .before .args .hi))) in let o = c .before .before .before .before .before .before .before .before .before .before .before .before .before .before .before .before .before .before .before .before .before .pre .1 .1 in let i = o .0 in let j = o .1 .0 in ((omega arith, omega arith), (omega arith, (omega arith, rw M (o .1 .1 .0))))
+cut-requires c κs =
+    let a = c .before .before .before .before .before .before .before .before .before .before .before .before .before .before .before .before .before .before .before .before .before .args in
+    let pr = c .before .before .before .before .before .before .before .before .before .before .before .before .before .before .before .before .before .before .before .before .before .pre in
+    let v = pr .0 in
+    let l = v .knots .long in
+    let k = v .knots .count in
+    let s = v .short .knots in
+    let q = pr .1 .1 .1 .1 .1 in
+    let g = c .before .before .before .before .before .before .before .before .before .before .before .before .before .before .before .before .before .before .before .before .before .good in
+    let f = c .before .before .before .before .before .before .before .before .before .before .before .before .before .before .before .before .before .before .before .before .before .fits in
+    let x = c .before .before .before .before .before .before .before .before .before .before .before .before .before .missing .ensures in
+    let y = c .before .before .before .before .before .before .before .before .before .before .before .before .missing2 .ensures in
+    let F = c .before .before .before .before .before .below .ensures in
+    let M = c .before .before .before .before .kept .ensures in
+    let w = c .before .before .before .before .before .before .before .before .before .work .given in
+    let b =
+    (kept-fits
+    (a .degree) (length (now (a .points)) / 3) (now (a .knots)) (pr .0 .knots) (a .lo) (a .hi) (pr .1 .0)
+    (multiplicity-most (a .degree) (length (now (a .points)) / 3) (now (a .knots)) (pr .0 .knots) (a .hi))) in
+    let o = pr .1 .1 in let i = o .0 in let j = o .1 .0 in ((omega arith, omega arith), (omega arith, (omega arith, rw M (o .1 .1 .0))))
 
 same-length-2 : tie.Need-same-length-2
 same-length-2 c = c .before .before .before .before .before .out-knots .given
@@ -61,7 +139,35 @@ same-length-5 : tie.Need-same-length-5
 same-length-5 c = c .before .before .before .before .before .before .before .before .before .before .before .before .before .before .before .before .work .given
 
 returns-2 : tie.Need-returns-2
-returns-2 c = let v = c .before .before .before .before .before .before .before .before .before .before .before .before .before .before .before .before .before .before .before .before .before .before .before .before .before .before .before .before .pre .0 in let l = v .knots .long in let k = v .knots .count in let s = v .short .knots in let q = c .before .before .before .before .before .before .before .before .before .before .before .before .before .before .before .before .before .before .before .before .before .before .before .before .before .before .before .before .pre .1 .1 .1 .1 .1 in let g = c .before .before .before .before .before .before .before .before .before .before .before .before .before .before .before .before .before .before .before .before .before .before .before .before .before .before .before .before .good in let f = c .before .before .before .before .before .before .before .before .before .before .before .before .before .before .before .before .before .before .before .before .before .before .before .before .before .before .before .before .fits in let x = c .before .before .before .before .before .before .before .before .before .before .before .before .before .before .before .before .before .before .before .before .missing .ensures in let y = c .before .before .before .before .before .before .before .before .before .before .before .before .before .before .before .before .before .before .before .missing2 .ensures in into-cut (c .before .before .before .before .before .before .before .before .before .before .before .before .before .before .before .before .before .before .before .before .before .before .before .before .before .before .before .before .args .degree) (now (c .before .before .before .before .before .before .before .before .before .before .before .before .before .before .before .before .before .before .before .before .before .before .before .before .before .before .before .before .args .knots)) (now (c .before .before .before .before .before .before .before .before .before .before .before .before .before .before .before .before .before .before .before .before .before .before .before .before .before .before .before .before .args .points)) (c .before .before .before .before .before .before .before .before .before .before .before .before .before .before .before .before .before .before .before .before .before .before .before .before .before .before .before .before .args .rational) (now (c .before .before .before .before .before .before .before .before .before .before .before .before .before .before .before .before .before .before .before .before .before .before .before .before .before .before .before .before .args .weights)) (c .before .before .before .before .before .before .before .before .before .before .before .before .before .before .before .before .before .before .before .before .before .before .before .before .before .before .before .before .pre .0) (c .before .before .before .before .before .before .before .before .before .before .before .before .before .before .before .before .before .before .before .before .before .before .before .before .before .before .before .before .args .lo) (c .before .before .before .before .before .before .before .before .before .before .before .before .before .before .before .before .before .before .before .before .before .before .before .before .before .before .before .before .args .hi) (length (now (c .before .before .before .before .before .before .before .before .before .before .before .before .before .before .before .before .before .before .before .before .before .before .before .before .before .before .before .before .args .out-knots))) (length (now (c .before .before .before .before .before .before .before .before .before .before .before .before .before .before .before .before .before .before .before .before .before .before .before .before .before .before .before .before .args .out-points))) (length (now (c .before .before .before .before .before .before .before .before .before .before .before .before .before .before .before .before .before .before .before .before .before .before .before .before .before .before .before .before .args .out-weights))) _ _ _ ((length (now (c .before .before .before .before .before .before .before .before .before .before .before .before .before .before .before .before .before .before .before .before .before .before .before .before .before .before .before .before .args .points)) / 3 + (c .before .before .before .before .before .before .before .before .before .before .before .before .before .before .before .before .before .before .before .before .missing .result + c .before .before .before .before .before .before .before .before .before .before .before .before .before .before .before .before .before .before .before .missing2 .result)) * 4) (length (now (c .before .before .before .before .before .before .before .before .before .before .before .before .before .before .before .before .before .before .before .before .before .before .before .before .before .before .before .before .args .work))) _ _ (c .before .before .before .before .before .before .before .before .before .before .before .before .below .ensures) (c .before .before .before .before .before .before .before .before .before .before .before .kept .ensures) (kept-fits (c .before .before .before .before .before .before .before .before .before .before .before .before .before .before .before .before .before .before .before .before .before .before .before .before .before .before .before .before .args .degree) (length (now (c .before .before .before .before .before .before .before .before .before .before .before .before .before .before .before .before .before .before .before .before .before .before .before .before .before .before .before .before .args .points)) / 3) (now (c .before .before .before .before .before .before .before .before .before .before .before .before .before .before .before .before .before .before .before .before .before .before .before .before .before .before .before .before .args .knots)) (c .before .before .before .before .before .before .before .before .before .before .before .before .before .before .before .before .before .before .before .before .before .before .before .before .before .before .before .before .pre .0 .knots) (c .before .before .before .before .before .before .before .before .before .before .before .before .before .before .before .before .before .before .before .before .before .before .before .before .before .before .before .before .args .lo) (c .before .before .before .before .before .before .before .before .before .before .before .before .before .before .before .before .before .before .before .before .before .before .before .before .before .before .before .before .args .hi) (c .before .before .before .before .before .before .before .before .before .before .before .before .before .before .before .before .before .before .before .before .before .before .before .before .before .before .before .before .pre .1 .0) (multiplicity-most (c .before .before .before .before .before .before .before .before .before .before .before .before .before .before .before .before .before .before .before .before .before .before .before .before .before .before .before .before .args .degree) (length (now (c .before .before .before .before .before .before .before .before .before .before .before .before .before .before .before .before .before .before .before .before .before .before .before .before .before .before .before .before .args .points)) / 3) (now (c .before .before .before .before .before .before .before .before .before .before .before .before .before .before .before .before .before .before .before .before .before .before .before .before .before .before .before .before .args .knots)) (c .before .before .before .before .before .before .before .before .before .before .before .before .before .before .before .before .before .before .before .before .before .before .before .before .before .before .before .before .pre .0 .knots) (c .before .before .before .before .before .before .before .before .before .before .before .before .before .before .before .before .before .before .before .before .before .before .before .before .before .before .before .before .args .hi))) (omega arith) (omega arith) _ (c .before .before .before .before .before .before .before .before .before .before .before .before .before .before .before .before .before .insert-ends .ensures .0) (c .before .before .before .before .before .before .before .before .before .before .before .before .before .if1 .left) _ (c .before .before .before .before .before .before .before .before .before .before .before .before .before .before .before .before .before .insert-ends .ensures .1) _ (c .before .before .before .before .before .before .cut .ensures)
+returns-2 c =
+    let a = c .before .before .before .before .before .before .before .before .before .before .before .before .before .before .before .before .before .before .before .before .before .before .before .before
+    .before .before .before .before .args in
+    let pr = c .before .before .before .before .before .before .before .before .before .before .before .before .before .before .before .before .before .before .before .before .before .before .before .before
+    .before .before .before .before .pre in
+    let v = pr .0 in
+    let l = v .knots .long in
+    let k = v .knots .count in
+    let s = v .short .knots in
+    let q = pr .1 .1 .1 .1 .1 in
+    let g = c .before .before .before .before .before .before .before .before .before .before .before .before .before .before .before .before .before .before .before .before .before .before .before .before
+    .before .before .before .before .good in
+    let f = c .before .before .before .before .before .before .before .before .before .before .before .before .before .before .before .before .before .before .before .before .before .before .before .before
+    .before .before .before .before .fits in
+    let x = c .before .before .before .before .before .before .before .before .before .before .before .before .before .before .before .before .before .before .before .before .missing .ensures in
+    let y = c .before .before .before .before .before .before .before .before .before .before .before .before .before .before .before .before .before .before .before .missing2 .ensures in
+    into-cut
+    (a .degree) (now (a .knots)) (now (a .points)) (a .rational) (now (a .weights)) (pr .0) (a .lo) (a .hi) (length (now (a .out-knots))) (length (now (a .out-points))) (length (now (a .out-weights)))
+    _ _ _
+    ((length (now (a .points)) / 3 + (c .before .before .before .before .before .before .before .before .before .before .before .before .before .before .before .before .before .before .before .before .missing .result + c .before .before .before .before .before .before .before .before .before .before .before .before .before .before .before .before .before .before .before .missing2 .result)) * 4)
+    (length (now (a .work))) _ _ (c .before .before .before .before .before .before .before .before .before .before .before .before .below .ensures)
+    (c .before .before .before .before .before .before .before .before .before .before .before .kept .ensures)
+    (kept-fits
+    (a .degree) (length (now (a .points)) / 3) (now (a .knots)) (pr .0 .knots) (a .lo) (a .hi) (pr .1 .0)
+    (multiplicity-most (a .degree) (length (now (a .points)) / 3) (now (a .knots)) (pr .0 .knots) (a .hi)))
+    (omega arith) (omega arith) _ (c .before .before .before .before .before .before .before .before .before .before .before .before .before .before .before .before .before .insert-ends .ensures .0)
+    (c .before .before .before .before .before .before .before .before .before .before .before .before .before .if1 .left) _
+    (c .before .before .before .before .before .before .before .before .before .before .before .before .before .before .before .before .before .insert-ends .ensures .1) _
+    (c .before .before .before .before .before .before .cut .ensures)
 
 pub trim-into-spec : {M : Type 1} → statement M
 trim-into-spec =

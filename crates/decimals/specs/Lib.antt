@@ -1,0 +1,6 @@
+pub mod Ascii
+pub mod Text
+pub mod Fixed
+pub mod Figures
+pub mod Stored
+pub mod Worked

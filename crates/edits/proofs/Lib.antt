@@ -1,0 +1,12 @@
+pub mod CountLoop
+pub mod Tested
+pub mod RowStores
+pub mod RowReads
+pub mod LayLoop
+pub mod LiftLoop
+pub mod IntoRun
+pub mod RunWithCurve
+pub mod Starting
+pub mod WorkCalls
+pub mod LiftCall
+pub mod Outcomes

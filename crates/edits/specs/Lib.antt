@@ -1,0 +1,9 @@
+pub mod Control
+pub mod Counts
+pub mod Rows
+pub mod Outcome
+pub mod Start
+pub mod Work
+pub mod Whole
+pub mod Numbers
+pub mod Passes

@@ -1,0 +1,4 @@
+pub mod Jet
+pub mod Net
+pub mod Cartesian
+pub mod Three

@@ -1,0 +1,3 @@
+pub mod Reverses
+pub mod Isos
+pub mod IsoCurves

@@ -1,0 +1,3 @@
+pub mod Reverse
+pub mod Iso
+pub mod IsoCurve

@@ -1,0 +1,210 @@
+// Points, the reversed curve and the isocurve: what is read behind a table, and what the Rust answers.
+use evaluate::curve::CurveAnswer;
+use evaluate::curve::eval;
+use evaluate::curve2::CurveAnswer2;
+use evaluate::curve2::eval2;
+use evaluate::surface::SurfaceAnswer;
+use evaluate::surface::eval_surface;
+use made::iso_curve::iso_curve;
+use made::iso_curve::iso_knots;
+use made::reverse::reversed;
+use replaying::answers::accepted;
+use replaying::answers::refused;
+use replaying::answers::same;
+use replaying::runs::flag;
+use replaying::runs::size;
+use replaying::words::double;
+use replaying::words::word;
+use runs::vector::Vector;
+
+// Reads three words: the vector has them.
+fn vector(v: Vector) -> bool {
+    let x = word();
+    let y = word();
+    let z = word();
+    if same(v.x, x, false) {
+        if same(v.y, y, false) {
+            return same(v.z, z, false);
+        }
+    }
+    false
+}
+
+fn two(a: Vector, b: Vector) -> bool {
+    let x = vector(a);
+    let y = vector(b);
+    if x { y } else { false }
+}
+
+fn three(a: Vector, b: Vector, c: Vector) -> bool {
+    let x = two(a, b);
+    let y = vector(c);
+    if x { y } else { false }
+}
+
+// Reads a run: it stands at the front, and +0.0 behind it.
+fn held(out: &[f64]) -> bool {
+    let n = size();
+    let mut all = true;
+    let mut i = 0usize;
+    while i < out.len() {
+        let want = if i < n { word() } else { 0 };
+        if !same(out[i], want, false) {
+            all = false;
+        }
+        i += 1;
+    }
+    all
+}
+
+fn all(a: bool, b: bool, c: bool, d: bool) -> bool {
+    if a {
+        if b {
+            if c {
+                return d;
+            }
+        }
+    }
+    false
+}
+
+pub fn eval_agrees(
+    degree: usize,
+    knots: &[f64],
+    points: &[f64],
+    rational: bool,
+    weights: &[f64],
+) -> bool {
+    let t = double();
+    match eval(degree, knots, points, rational, weights, t) {
+        CurveAnswer::At(d) => if accepted() {
+            two(d.point, d.d1)
+        } else {
+            false
+        },
+        CurveAnswer::Refused(r) => refused(r.number, r.direction),
+    }
+}
+
+pub fn eval2_agrees(
+    degree: usize,
+    knots: &[f64],
+    points: &[f64],
+    rational: bool,
+    weights: &[f64],
+) -> bool {
+    let t = double();
+    match eval2(degree, knots, points, rational, weights, t) {
+        CurveAnswer2::At(d) => if accepted() {
+            three(d.point, d.d1, d.d2)
+        } else {
+            false
+        },
+        CurveAnswer2::Refused(r) => refused(r.number, r.direction),
+    }
+}
+
+// Reads what `eval_surface` answers.
+fn surface_agrees(a: SurfaceAnswer) -> bool {
+    match a {
+        SurfaceAnswer::At(d) => if accepted() {
+            three(d.point, d.du, d.dv)
+        } else {
+            false
+        },
+        SurfaceAnswer::Refused(r) => refused(r.number, r.direction),
+    }
+}
+
+pub fn surface(
+    u_degree: usize,
+    v_degree: usize,
+    u_knots: &[f64],
+    v_knots: &[f64],
+    u_count: usize,
+    v_count: usize,
+    points: &[f64],
+    rational: bool,
+    weights: &[f64],
+) -> bool {
+    let u = double();
+    let v = double();
+    surface_agrees(eval_surface(
+        u_degree,
+        v_degree,
+        u_knots,
+        v_knots,
+        u_count,
+        v_count,
+        points,
+        rational,
+        weights,
+        u,
+        v,
+    ))
+}
+
+pub fn reversal(
+    degree: usize,
+    knots: &[f64],
+    points: &[f64],
+    rational: bool,
+    weights: &[f64],
+) -> bool {
+    let mut out_knots = [1.0; 512];
+    let mut out_points = [1.0; 512];
+    let mut out_weights = [1.0; 512];
+    let r = reversed(
+        degree,
+        knots,
+        points,
+        rational,
+        weights,
+        &mut out_knots,
+        &mut out_points,
+        &mut out_weights,
+    );
+    let number = refused(r.number, r.direction);
+    let a = held(&out_knots);
+    let b = held(&out_points);
+    let c = held(&out_weights);
+    all(number, a, b, c)
+}
+
+// The knots that are handed back are held against the Rust's whether the curve is refused or not.
+pub fn along<'a>(
+    u_degree: usize,
+    v_degree: usize,
+    u_knots: &'a [f64],
+    v_knots: &'a [f64],
+    u_count: usize,
+    v_count: usize,
+    points: &[f64],
+    rational: bool,
+    weights: &[f64],
+) -> bool {
+    let mut out_points = [1.0; 512];
+    let mut out_weights = [1.0; 512];
+    let constant_u = flag();
+    let t = double();
+    let r = iso_curve(
+        u_degree,
+        v_degree,
+        u_knots,
+        v_knots,
+        u_count,
+        v_count,
+        points,
+        rational,
+        weights,
+        constant_u,
+        t,
+        &mut out_points,
+        &mut out_weights,
+    );
+    let number = refused(r.number, r.direction);
+    let a = held(&out_points);
+    let b = held(&out_weights);
+    let c = held(iso_knots(constant_u, u_knots, v_knots));
+    all(number, a, b, c)
+}

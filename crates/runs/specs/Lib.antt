@@ -1,0 +1,7 @@
+pub mod Coordinate
+pub mod Point
+pub mod Weight
+pub mod Scale
+pub mod Larger
+pub mod Tabulate
+pub mod Lent
