@@ -1,8 +1,8 @@
 -- The knot differences under a parameter, and what the loops of A2.2 leave in a flat table of 65 columns: column j holds the functions of degree j.
 -- Assumes nothing.
-use Prim.Native.Nat.{ℕ, zero, suc, _+_, _-_, _*_, _≤_, _<_}
+use Prim.Native.Nat.{ℕ, _+_, _-_, _*_, _≤_, _<_}
 use mathlib.Core.Path.{_≡_}
-use mathlib.Core.List.{List, [], _∷_}
+use mathlib.Core.List.{List}
 use lib.ListN.{length}
 use lib.Ieee.{Float, binary64, sub}
 use Rattle.exact.specs.Scheme.{widthOf, carryOf, partOf, basisOf}

@@ -19,7 +19,7 @@ use Rattle.exact.proofs.Local.{Near}
 use Rattle.exact.proofs.Window.{window, window-is, window-knots}
 use Rattle.doubles.specs.Run.{at, valAt}
 use Rattle.doubles.specs.Value.{val}
-use Rattle.doubles.proofs.Tests.{T-of, Tn-of}
+use Rattle.doubles.proofs.TestFacts.{T-of, Tn-of}
 use Rattle.doubles.proofs.Value.{val-lt, val-le}
 use Rattle.interval.specs.Inside.{Inside}
 use Rattle.interval.specs.Ops.{pointOf}

@@ -1,7 +1,6 @@
 -- From the boxes of a span to those of the whole answer. Assumes nothing.
 use mathlib.Core.Path.{_≡_, refl}
 use mathlib.Core.Bool.{Bool, true, false, cond}
-use Prim.Native.Nat.{_-_}
 use lib.Dec.{eqb}
 use borrow.Author.Tests.{eqb-true}
 use Rattle.jets.specs.declared.cartesian.BoundAnswer.{BoundAnswer}

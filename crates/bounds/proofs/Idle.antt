@@ -12,7 +12,8 @@ use borrow.Author.Tests.{eqb-true}
 use Rattle.exact.proofs.Field.{≤-refl}
 use Rattle.doubles.specs.Run.{at}
 use Rattle.doubles.specs.Value.{val}
-use Rattle.knots.specs.Refusal.{refuse, accepted, orElse, along, degree-zero, few-points, knot-count, knots-unordered, domain-empty, domain-wide, knot-repeated, point-not-finite, weight-count, weight-bad, net-size, range-bad, range-in-no-span, length-bad, degree-high, points-uneven}
+use Rattle.knots.specs.Refusal.{refuse, accepted, orElse, along, degree-zero, few-points, knot-count, knots-unordered, domain-empty, domain-wide, knot-repeated, point-not-finite}
+use Rattle.knots.specs.Refusal.{weight-count, weight-bad, net-size, range-bad, range-in-no-span, length-bad, degree-high, points-uneven}
 use Rattle.knots.specs.Knots.{allFinite, ordered, apart, orderRefusal, knotRefusal}
 use Rattle.knots.specs.Curve.{countOf, overLong, anyLong, allWeights, controlRefusal, formedRefusal, curveRefusal}
 use Rattle.knots.specs.Shape.{weightShape, knotShape, curveShape}
@@ -35,9 +36,9 @@ use Rattle.jets.proofs.NetIn.{Given}
 use Rattle.jets.proofs.CartesianIn.{Boxes}
 use Rattle.ranges.proofs.SpanIn.{span-valid}
 use Rattle.bounds.proofs.Active.{valid-active, started}
-use Rattle.bounds.proofs.CurveIn.{span-bound-in}
+use Rattle.bounds.proofs.CurveHolds.{span-bound-in}
 use Rattle.bounds.proofs.SpansIn.{ranges-valid}
-use Rattle.bounds.proofs.SurfaceIn.{spans-bound-in}
+use Rattle.bounds.proofs.SurfaceHolds.{spans-bound-in}
 
 -- ---- what is refused before the steps
 

@@ -3,7 +3,7 @@ pub mod WeightIn
 pub mod NetWeight
 pub mod Active
 pub mod Boxes
-pub mod CurveIn
+pub mod CurveHolds
 pub mod SpansIn
-pub mod SurfaceIn
+pub mod SurfaceHolds
 pub mod Idle

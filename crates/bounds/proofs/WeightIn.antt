@@ -10,7 +10,7 @@ use lib.Dec.{T}
 use lib.ListN.{length}
 use lib.Ieee.{Float, nan, inf, fin, lt, le, isNan}
 use lib.Ieee.Scale.{finite}
-use Rattle.doubles.proofs.Tests.{T-of, or-split}
+use Rattle.doubles.proofs.TestFacts.{T-of, or-split}
 use Rattle.doubles.proofs.Enclose.{lower-le}
 use Rattle.doubles.proofs.Value.{val-lt, val-le, val-one}
 use Rattle.doubles.specs.Neighbour.{fmin, fmax}

@@ -20,7 +20,7 @@ use jets::net::zero_control;
 use runs::points::point_at;
 use runs::vector::Vector;
 ghost use mathlib.Core.Path.{_≡_};
-ghost use Prim.Native.Nat.{ℕ, _+_, _-_, _*_, _≤_, _<_};
+ghost use Prim.Native.Nat.{_+_, _-_, _*_, _≤_, _<_};
 ghost use lib.ListN.{length};
 ghost use Rattle.jets.specs.Net.{filledOf};
 ghost use Rattle.runs.specs.Weight.{weightAt};

@@ -5,11 +5,11 @@ use mathlib.Core.Bool.{Bool, true, false}
 use native.Mathlib.Omega.{arith}
 use lib.Arith.{le→nltb}
 use lib.IntN.{ℤ}
-use lib.Ieee.{fin, up, down, unlike}
+use lib.Ieee.{fin, up, down}
 use lib.Ieee.Fits.{down-pos}
 use Rattle.exact.specs.Rational.{ℚ, _≤q_}
 use Rattle.exact.proofs.Field.{≤-trans}
-use Rattle.doubles.specs.Value.{ratio, val, Lower, Upper}
+use Rattle.doubles.specs.Value.{val, Lower, Upper}
 use Rattle.doubles.proofs.Value.{ratio-le, val-is}
 use Rattle.decimals.specs.Fixed.{whole, written}
 use Rattle.decimals.proofs.Rounding.{cut, raised}

@@ -3,7 +3,8 @@
 use Prim.Native.Nat.{ℕ, _+_, _-_, _*_, _/_, _^_, _≤_, _<_}
 use mathlib.Core.Bool.{Bool, true, false, cond}
 use mathlib.Core.Path.{_≡_, sym, _∙_, ap}
-use native.Mathlib.Nat.{le-trans, lt-of-lt-of-le, lt-of-le-of-lt, mul-lt-mul-of-pos-right, add-mul, mul-comm, mul-assoc, mul-one, mul-le-mul-left, div-one, div-div-eq-div-mul, mul-div-mul-right, add-mul-div-right, div-lt-iff-lt-mul, div-mul-le-self, div-add-mod', mod-lt, div-le-self, add-zero}
+use native.Mathlib.Nat.{le-trans, lt-of-lt-of-le, lt-of-le-of-lt, mul-lt-mul-of-pos-right, add-mul, mul-comm, mul-assoc, mul-one, mul-le-mul-left, div-one, div-div-eq-div-mul}
+use native.Mathlib.Nat.{mul-div-mul-right, add-mul-div-right, div-lt-iff-lt-mul, div-mul-le-self, div-add-mod', mod-lt, div-le-self, add-zero}
 use native.Mathlib.Omega.{arith}
 use lib.Dec.{lit≤}
 use lib.Pow.{pow-add, pow-pos, pow-mono}

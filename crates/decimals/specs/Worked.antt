@@ -3,7 +3,7 @@
 use Prim.Native.Nat.{ℕ}
 use mathlib.Core.Bool.{true, false}
 use mathlib.Core.Path.{_≡_, refl}
-use mathlib.Core.List.{List, [], _∷_}
+use mathlib.Core.List.{[], _∷_}
 use lib.Ieee.{Float, binary64, ofBits}
 use Rattle.decimals.specs.Text.{digit, digits, width, decimal}
 use Rattle.decimals.specs.Fixed.{whole, billionths, fixed}

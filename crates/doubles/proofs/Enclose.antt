@@ -15,7 +15,7 @@ use Rattle.exact.specs.Rational.{ℚ, negq, _≤q_}
 use Rattle.exact.proofs.Field.{≤-trans, le-or-lt, lt→le, neg-le}
 use Rattle.doubles.specs.Value.{ratio, val, Lower, Upper, Number, _⊑_}
 use Rattle.doubles.specs.Neighbour.{upFrom, downFrom}
-use Rattle.doubles.proofs.Tests.{yes-or-no}
+use Rattle.doubles.proofs.TestFacts.{yes-or-no}
 use Rattle.doubles.proofs.Value.{le-ratio, ratio-neg, val-is, val-neg}
 use Rattle.doubles.proofs.Order.{lt-⊑, lt-irrefl, le-not}
 use Rattle.doubles.proofs.Place.{up-number}

@@ -1,5 +1,5 @@
 -- The smaller and the larger of two doubles that are no NaN, and of four. Assumes nothing.
-use mathlib.Core.Path.{_≡_, refl, sym, ap, _∙_, subst}
+use mathlib.Core.Path.{_≡_, refl, sym, ap, _∙_}
 use mathlib.Core.Bool.{Bool, true, false, not, _||_, cond}
 use lib.Dec.{T, not-T}
 use lib.Ieee.{Float, nan, inf, fin, Format, fits, isNan, lt}
@@ -7,7 +7,7 @@ use lib.Ieee.Fits.{inf-fits, cond-fits}
 use lib.Ieee.Bits.{is-false}
 use Rattle.doubles.specs.Value.{Number, _⊑_}
 use Rattle.doubles.specs.Neighbour.{fmin, fmax, least4, greatest4}
-use Rattle.doubles.proofs.Tests.{Tn-of}
+use Rattle.doubles.proofs.TestFacts.{Tn-of}
 use Rattle.doubles.proofs.Order.{⊑-trans, lt-trans, lt-irrefl, lt-asym, lt-left, lt-right}
 
 -- m is no NaN, and stands in the relation R to both

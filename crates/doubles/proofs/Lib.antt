@@ -1,7 +1,7 @@
-pub mod Tests
+pub mod TestFacts
 pub mod Value
 pub mod Order
-pub mod Tested
+pub mod TestedOrder
 pub mod Pattern
 pub mod Place
 pub mod PlaceOrder

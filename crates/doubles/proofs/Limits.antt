@@ -1,17 +1,16 @@
 -- Ends of intervals and comparisons: an end further out still limits, and an interval that does not hold 0 lies on one side of it. Assumes nothing.
-use mathlib.Core.Path.{_≡_, sym, subst}
+use mathlib.Core.Path.{subst}
 use mathlib.Core.Logic.{_⊎_, inl, inr}
-use Prim.Native.Nat.{ℕ, zero, suc}
+use Prim.Native.Nat.{zero}
 use mathlib.Core.Bool.{Bool, true, false, not, _&&_}
-use lib.IntN.{ℤ}
 use lib.Dec.{T}
 use lib.Ieee.{Float, nan, inf, fin, isNan, lt, le}
 use lib.Ieee.Scale.{finite}
-use Rattle.exact.specs.Rational.{ℚ, q0, _≤q_, _<q_}
+use Rattle.exact.specs.Rational.{ℚ, q0, _<q_}
 use Rattle.exact.proofs.Field.{≤-refl, ≤-trans, ≤-<-trans, <-≤-trans}
 use Rattle.doubles.specs.Value.{zero+, val, Lower, Upper, Number, _⊑_}
 use Rattle.doubles.proofs.Value.{val-lt, val-le, val-zero}
-use Rattle.doubles.proofs.Order.{le-not, not-le}
+use Rattle.doubles.proofs.Order.{not-le}
 
 pub lower-number : (x : Float) (p : ℚ) → Lower x p → Number x
 unfolding isNan

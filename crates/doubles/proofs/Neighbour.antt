@@ -1,17 +1,17 @@
 -- `nextUp x` is the least double above x, and `nextDown x` the greatest below: nothing that the format holds lies strictly between. Assumes nothing.
 use mathlib.Core.Path.{_≡_, refl, sym, ap, _∙_, subst}
-use Prim.Native.Nat.{ℕ, zero, suc, _+_, _-_, _*_, _≤_, _<_}
-use native.Mathlib.Nat.{le-refl, zero-lt-suc, add-comm}
+use Prim.Native.Nat.{ℕ, zero, suc, _+_, _-_, _*_, _<_}
+use native.Mathlib.Nat.{le-refl, add-comm}
 use native.Mathlib.Omega.{arith}
-use mathlib.Core.Bool.{Bool, true, false, not, _&&_, cond}
+use mathlib.Core.Bool.{Bool, true, false, not}
 use lib.IntN.{ℤ, pos, negsuc, negℤ, sucℤ, predℤ, negℤ-negℤ, negℤ-sucℤ}
 use lib.Signed.{ltZ}
-use lib.Dec.{T, leb, ltb, ltb→lt, lt→ltb}
-use lib.Ieee.{Float, nan, inf, fin, Format, up, down, fits, isNan, ofBits, toBits, lt, below, neg}
+use lib.Dec.{T, ltb, ltb→lt, lt→ltb}
+use lib.Ieee.{Float, nan, inf, fin, Format, up, down, fits, isNan, toBits, lt, below, neg}
 use lib.Ieee.Fits.{neg-fits}
 use lib.Ieee.Bits.{ofBits-fits}
 use Rattle.doubles.specs.Neighbour.{upFrom, downFrom}
-use Rattle.doubles.proofs.Tests.{neg-neg}
+use Rattle.doubles.proofs.TestFacts.{neg-neg}
 use Rattle.doubles.proofs.Order.{lt-left, lt-right, lt-top}
 use Rattle.doubles.specs.Place.{mag, place}
 use Rattle.doubles.proofs.Place.{up-place, up-number}

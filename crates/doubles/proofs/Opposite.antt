@@ -1,17 +1,17 @@
 -- Products of one double with two that are opposite as numbers are opposite as numbers: a rounding does not see the sign. A product's operands may be exchanged. Assumes nothing.
 use mathlib.Core.Path.{_≡_, refl, sym, ap, _∙_, subst}
-use mathlib.Core.Logic.{_⊎_, inl, inr}
-use Prim.Native.Nat.{ℕ, zero, suc, _+_, _-_, _*_, _≤_, _<_}
+use mathlib.Core.Logic.{inl, inr}
+use Prim.Native.Nat.{ℕ, zero, suc, _+_, _-_, _*_, _<_}
 use native.Mathlib.Nat.{mul-comm, mul-mul-mul-comm, mul-pos, zero-lt-suc, zero-mul}
 use native.Mathlib.Omega.{arith}
 use mathlib.Core.Bool.{Bool, true, false, not, _&&_, _||_, Bool·beq, cond}
 use lib.IntN.{ℤ, pos}
 use lib.Dec.{T, ltb, eqb, eqb→eq, eqb·suc-zero}
-use lib.Ieee.{Float, nan, inf, fin, Format, up, down, round, sum, add, mul, unlike, fits, isNan, lt, eq, neg, level}
+use lib.Ieee.{Float, nan, inf, fin, Format, up, down, round, sum, add, mul, unlike, fits, isNan, lt, eq, neg}
 use lib.Ieee.Fits.{up-pos, down-pos, and-l, and-r}
 use lib.Ieee.Scale.{round-same}
 use Rattle.doubles.specs.Value.{_⊑_}
-use Rattle.doubles.proofs.Tests.{or-split}
+use Rattle.doubles.proofs.TestFacts.{or-split}
 use Rattle.doubles.proofs.Order.{lt-irrefl}
 use Rattle.doubles.proofs.Neighbour.{neg-nan}
 use Rattle.doubles.proofs.Own.{own}
@@ -134,7 +134,8 @@ unfolding sum
 sum-opposed f s a t b c h = rw (both-not s t) (go (Bool·beq s t) (ltb a b) refl)
   where
     go : (k l : Bool) → ltb a b ≡ l
-        → Opposed (cond k (round f (not s) (a + b) c) (cond l (round f (not t) (b - a) c) (round f (not s && ltb b a) (a - b) c))) (cond k (round f s (a + b) c) (cond l (round f t (b - a) c) (round f (s && ltb b a) (a - b) c)))
+        → Opposed (cond k (round f (not s) (a + b) c) (cond l (round f (not t) (b - a) c) (round f (not s && ltb b a) (a - b) c)))
+        (cond k (round f s (a + b) c) (cond l (round f t (b - a) c) (round f (s && ltb b a) (a - b) c)))
     go true l e = opposed-neg _ _ (round-neg f s (a + b) c)
     go false true e = opposed-neg _ _ (round-neg f t (b - a) c)
     go false false e = rest-opposed f s a b c h e (ltb b a) refl

@@ -1,21 +1,19 @@
 -- The order of doubles. `⊑` is the `≤` of numbers: `<` the other way round fails. All holds of infinities too; finite doubles are compared as the fractions that they are. Assumes nothing.
-use mathlib.Core.Path.{_≡_, refl, sym, ap, _∙_, subst}
+use mathlib.Core.Path.{_≡_, refl, sym, subst}
 use mathlib.Core.Logic.{_⊎_, inl, inr}
-use Prim.Native.Nat.{ℕ, zero, suc, _+_, _*_, _≤_, _<_}
+use Prim.Native.Nat.{ℕ, _+_, _*_, _≤_, _<_}
 use native.Mathlib.Nat.{le-of-eq, le-of-lt, eq-or-lt-of-le}
 use native.Mathlib.Omega.{arith}
-use mathlib.Core.Bool.{Bool, true, false, not, _&&_, _||_, Bool·beq}
-use lib.IntN.{ℤ}
+use mathlib.Core.Bool.{Bool, true, false, not, _||_, Bool·beq}
 use lib.Dec.{T, T-not, not-T, ltb, eqb, eqb→eq, ltb→lt, lt→ltb, nltb→le}
 use lib.Arith.{le→nltb}
 use lib.Ieee.{Float, nan, inf, fin, up, down, isNan, lt, eq, le, below, level}
 use lib.Ieee.Scale.{finite}
 use lib.Ieee.Fits.{and-l, and-r, and-i, eq→eqb}
-use lib.Ieee.Bits.{is-true, is-false}
-use Rattle.exact.specs.Rational.{_≤q_, _<q_}
+use Rattle.exact.specs.Rational.{_≤q_}
 use Rattle.exact.proofs.Field.{≤-refl, ≤-antisym, <-≤-trans, lt→le}
 use Rattle.doubles.specs.Value.{val, Number, _⊑_}
-use Rattle.doubles.proofs.Tests.{yes-or-no, same-test, or-r, or-split}
+use Rattle.doubles.proofs.TestFacts.{yes-or-no, same-test, or-r, or-split}
 use Rattle.doubles.proofs.Value.{val-lt, val-le, lt-val, le-val}
 
 -- ---- what `<` says of its sides

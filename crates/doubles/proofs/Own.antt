@@ -2,17 +2,18 @@
 use mathlib.Core.Path.{_≡_, refl, sym, ap, _∙_, subst}
 use mathlib.Core.Logic.{_⊎_, inl, inr}
 use Prim.Native.Nat.{ℕ, zero, suc, _+_, _-_, _*_, _/_, _%_, _^_, _≤_, _<_}
-use native.Mathlib.Nat.{le-trans, le-of-eq, le-of-lt, lt-of-lt-of-le, lt-irrefl, zero-lt-suc, mul-one, mul-comm, mul-assoc, mul-right-comm, mul-pos, mod-lt, eq-of-mul-eq-mul-right, add-zero, sub-le, pow-succ'}
+use native.Mathlib.Nat.{le-of-eq, lt-of-lt-of-le, lt-irrefl, mul-one, mul-right-comm, mod-lt, eq-of-mul-eq-mul-right}
+use native.Mathlib.Nat.{add-zero, sub-le, pow-succ'}
 use native.Mathlib.Omega.{arith}
-use mathlib.Core.Bool.{Bool, true, false, not, cond}
-use lib.IntN.{ℤ, pos, negsuc}
-use lib.Dec.{T, leb, ltb, ltb→lt, nltb→le}
-use lib.Pow.{pow-add, pow-pos, pow-mono}
+use mathlib.Core.Bool.{Bool, cond}
+use lib.IntN.{ℤ}
+use lib.Dec.{T, ltb, ltb→lt, nltb→le}
+use lib.Pow.{pow-add, pow-mono}
 use lib.Ieee.{Float, nan, inf, fin, Format, prec, emax, low, up, down, hid, ones, fits, round, ofBits, toBits}
 use lib.Ieee.Fits.{two, down-pos, round-fits}
 use lib.Ieee.Bits.{ofBits-toBits}
 use lib.Ieee.Exact.{HasValue, round-exact}
-use Rattle.doubles.proofs.Tests.{yes-or-no}
+use Rattle.doubles.proofs.TestFacts.{yes-or-no}
 use Rattle.doubles.proofs.Pattern.{field, ticks, ticks-at, ticks-lt, hid-pos}
 use Rattle.doubles.specs.Place.{infPat, mag}
 use Rattle.doubles.proofs.Place.{mag-lt, units-of, toBits-split}
@@ -71,7 +72,9 @@ unique f (fin t m e) (fin u n d) s a c C h k p q =
     let y = fin u n d in
     let N = ticks f (mag f x) in
     let M = ticks f (mag f y) in
-    let v : N ≡ M = eq-of-mul-eq-mul-right c C N M (same-units (m * up e) N c a (down e) (2 ^ low f) (down-pos e) (p .1) (units-of f t m e h .1) ∙ sym (same-units (n * up d) M c a (down d) (2 ^ low f) (down-pos d) (q .1) (units-of f u n d k .1))) in
+    let v : N ≡ M = eq-of-mul-eq-mul-right c C N M
+    (same-units (m * up e) N c a (down e) (2 ^ low f) (down-pos e) (p .1) (units-of f t m e h .1) ∙ sym
+    (same-units (n * up d) M c a (down d) (2 ^ low f) (down-pos d) (q .1) (units-of f u n d k .1))) in
     let b : toBits f x ≡ toBits f y =
     toBits-split f t m e
     ∙ ap (λ (z : Bool). cond z (lib.Ieee.top f) 0 + mag f x) (p .0 ∙ sym (q .0))

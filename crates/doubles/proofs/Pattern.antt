@@ -2,16 +2,17 @@
 -- `ticks` goes on past the largest finite value: at the infinity's pattern it is the overflow threshold 2 ^ (emax + 1). Assumes nothing.
 use mathlib.Core.Path.{_≡_, refl, sym, ap, _∙_, subst}
 use mathlib.Core.Logic.{_⊎_, inl, inr}
-use Prim.Native.Nat.{ℕ, zero, suc, _+_, _-_, _*_, _/_, _%_, _^_, _≤_, _<_}
-use native.Mathlib.Nat.{le-trans, le-of-eq, le-refl, lt-of-lt-of-le, lt-of-le-of-lt, lt-irrefl, zero-lt-suc, zero-add, add-zero, mul-comm, mul-assoc, suc-mul, mul-pos, mul-one, one-mul, mul-le-mul-right, mul-lt-mul-of-pos-right, mod-lt, mod-eq-of-lt, add-mod-left, mul-add-mod-self-left, le-add-right, pow-succ', div-add-mod', div-lt-iff-lt-mul, eq-or-lt-of-le, le-of-suc-le-suc, not-le-of-lt}
+use Prim.Native.Nat.{ℕ, zero, suc, _+_, _-_, _*_, _/_, _%_, _^_, _<_}
+use native.Mathlib.Nat.{le-of-eq, le-refl, lt-of-lt-of-le, lt-irrefl, zero-add, add-zero, mul-comm, mul-assoc, suc-mul, mul-one}
+use native.Mathlib.Nat.{mul-lt-mul-of-pos-right, mod-lt, mod-eq-of-lt, add-mod-left, mul-add-mod-self-left, le-add-right, pow-succ', div-add-mod'}
+use native.Mathlib.Nat.{div-lt-iff-lt-mul, eq-or-lt-of-le, le-of-suc-le-suc}
 use native.Mathlib.Omega.{arith}
-use mathlib.Core.Bool.{Bool, true, false, not, _&&_, cond}
-use lib.IntN.{ℤ, pos, negsuc}
-use lib.Dec.{T, leb, ltb, eqb, not-T, eqb→eq, le→leb, leb→le, eqb-refl, ltb→lt, nltb→le, nleb→lt}
+use mathlib.Core.Bool.{Bool, true, false, not, cond}
+use lib.Dec.{T, leb, eqb, not-T, eqb→eq, le→leb}
 use lib.Arith.{digits-lt, digits-div, digits-mod, lt→nleb}
-use lib.Pow.{pow-pos, pow-mono}
+use lib.Pow.{pow-pos}
 use lib.Ieee.{Float, nan, inf, fin, Format, prec, emax, low, odd, hid, ones, top, ofFields, ofBits}
-use lib.Ieee.Fits.{eq→eqb, two}
+use lib.Ieee.Fits.{eq→eqb}
 use lib.Ieee.Bits.{is-true, is-false, cond-no}
 use lib.Ieee.Exact.{HasValue, odd-sign}
 use Rattle.doubles.specs.Place.{infPat}

@@ -3,7 +3,8 @@
 use mathlib.Core.Path.{_≡_, refl, sym, ap, _∙_, subst}
 use mathlib.Core.Logic.{_⊎_, inl, inr}
 use Prim.Native.Nat.{ℕ, zero, suc, _+_, _-_, _*_, _/_, _%_, _^_, _≤_, _<_}
-use native.Mathlib.Nat.{le-of-eq, le-refl, le-of-lt, lt-of-lt-of-le, lt-irrefl, zero-lt-suc, zero-add, zero-mul, mul-comm, mul-pos, mod-lt, div-lt-iff-lt-mul, le-div-iff-mul-le, eq-or-lt-of-le, le-of-suc-le-suc, not-le-of-lt, le-antisymm, zero-div, zero-sub, lt-of-not-le, eq-zero-or-pos}
+use native.Mathlib.Nat.{le-of-eq, le-refl, le-of-lt, lt-of-lt-of-le, lt-irrefl, zero-lt-suc, zero-add, zero-mul, mul-comm, mul-pos, mod-lt, div-lt-iff-lt-mul, le-div-iff-mul-le}
+use native.Mathlib.Nat.{eq-or-lt-of-le, le-of-suc-le-suc, not-le-of-lt, le-antisymm, zero-div, zero-sub, lt-of-not-le, eq-zero-or-pos}
 use native.Mathlib.Omega.{arith}
 use mathlib.Core.Bool.{Bool, true, false, not, cond, true≢false}
 use lib.IntN.{ℤ, pos, negsuc, negℤ, sucℤ}
@@ -16,7 +17,7 @@ use lib.Ieee.Exact.{HasValue}
 use Rattle.doubles.specs.Neighbour.{upFrom}
 use Rattle.doubles.specs.Value.{signed}
 use Rattle.doubles.specs.Place.{sign-bit, infPat, mag, place}
-use Rattle.doubles.proofs.Tests.{yes-or-no}
+use Rattle.doubles.proofs.TestFacts.{yes-or-no}
 use Rattle.doubles.proofs.Pattern.{ticks, ticks-zero, hid-pos, bits-ticks, inf-bits, fields, ofFields-ones}
 
 -- ---- a finite value's pattern

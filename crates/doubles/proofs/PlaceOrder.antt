@@ -2,8 +2,9 @@
 -- Assumes nothing.
 use mathlib.Core.Path.{_≡_, refl, sym, ap, _∙_, subst}
 use mathlib.Core.Logic.{_⊎_, inl, inr}
-use Prim.Native.Nat.{ℕ, zero, suc, _+_, _-_, _*_, _^_, _≤_, _<_}
-use native.Mathlib.Nat.{le-refl, le-of-lt, lt-irrefl, zero-lt-suc, zero-add, zero-mul, mul-comm, mul-assoc, mul-right-comm, mul-pos, mul-lt-mul-of-pos-right, eq-or-lt-of-le, not-le-of-lt, lt-of-not-le}
+use Prim.Native.Nat.{ℕ, zero, suc, _+_, _*_, _^_, _≤_, _<_}
+use native.Mathlib.Nat.{le-refl, le-of-lt, lt-irrefl, zero-lt-suc, zero-add, zero-mul, mul-comm, mul-assoc, mul-right-comm, mul-pos, mul-lt-mul-of-pos-right, eq-or-lt-of-le}
+use native.Mathlib.Nat.{not-le-of-lt, lt-of-not-le}
 use native.Mathlib.Omega.{arith}
 use mathlib.Core.Bool.{Bool, true, false, not, _&&_}
 use lib.Signed.{ltZ}
@@ -15,7 +16,7 @@ use lib.Ieee.Fits.{down-pos}
 use lib.Ieee.Bits.{is-true, is-false}
 use Rattle.doubles.specs.Value.{signed}
 use Rattle.doubles.specs.Place.{sign-bit, infPat, mag, place}
-use Rattle.doubles.proofs.Tests.{same-test}
+use Rattle.doubles.proofs.TestFacts.{same-test}
 use Rattle.doubles.proofs.Pattern.{ticks, ticks-lt, ticks-zero}
 use Rattle.doubles.proofs.Place.{mag-lt, units-of, infPat-pos}
 

@@ -1,7 +1,8 @@
--- The ends of a product of two intervals: of p in [a, b] and q in [c, d] the product lies above `nextDown m` for any m that is no larger than each of the four rounded products of ends, none of which is a NaN.
+-- The ends of a product of two intervals: of p in [a, b] and q in [c, d] the product lies above `nextDown m` for any m that is no larger than each of the four rounded products of
+-- ends, none of which is a NaN.
 -- An end may be an infinity. The upper end is the mirror of the lower. Assumes nothing.
 use mathlib.Core.Path.{_≡_, refl, sym, ap, _∙_, subst}
-use mathlib.Core.Logic.{_⊎_, inl, inr}
+use mathlib.Core.Logic.{inl, inr}
 use mathlib.Core.List.{[], _∷_}
 use Prim.Native.Nat.{ℕ, zero, suc, _*_, _<_}
 use mathlib.Core.Bool.{Bool, true, false, not, cond}
@@ -9,11 +10,11 @@ use lib.IntN.{ℤ}
 use lib.Dec.{T, eqb}
 use lib.Ieee.{Float, nan, inf, fin, Format, up, down, round, mul, unlike, fits, isNan, lt, neg}
 use lib.Ieee.Fits.{neg-fits}
-use Rattle.exact.specs.Rational.{ℚ, _*q_, negq, q0, _≤q_, _<q_}
+use Rattle.exact.specs.Rational.{ℚ, _*q_, negq, q0, _≤q_}
 use Rattle.exact.proofs.Field.{qring, q-ring, ≤-trans, ≤-<-trans, <-≤-trans, lt→le, le-or-lt, not-both, up-left, down-left, up-right, down-right}
 use Rattle.doubles.specs.Value.{val, Lower, Upper, Number, _⊑_}
 use Rattle.doubles.specs.Neighbour.{upFrom, downFrom}
-use Rattle.doubles.proofs.Tests.{neg-neg}
+use Rattle.doubles.proofs.TestFacts.{neg-neg}
 use Rattle.doubles.proofs.Value.{val-plus, val-minus, val-above, val-below}
 use Rattle.doubles.proofs.Neighbour.{neg-lt, neg-nan}
 use Rattle.doubles.proofs.Enclose.{lower-neg, upper-neg, round-neg}

@@ -1,14 +1,15 @@
--- The ends of a reciprocal: for a q in [a, b], all on one side of 0, 1 / q lies above `nextDown m` for any m no larger than the rounded 1 / b, and below `nextUp m` for any m no smaller than the rounded 1 / a. Assumes nothing.
-use mathlib.Core.Path.{_≡_, refl, sym, ap, _∙_, subst}
+-- The ends of a reciprocal: for a q in [a, b], all on one side of 0, 1 / q lies above `nextDown m` for any m no larger than the rounded 1 / b, and below `nextUp m` for any m no
+-- smaller than the rounded 1 / a. Assumes nothing.
+use mathlib.Core.Path.{_≡_, refl, sym, ap, _∙_}
 use mathlib.Core.Logic.{_⊎_, inl, inr}
 use Prim.Native.Nat.{ℕ, zero, suc, _*_, _<_}
 use native.Mathlib.Nat.{mul-pos, zero-lt-suc, one-mul, mul-one}
-use mathlib.Core.Bool.{Bool, true, false, not, cond}
+use mathlib.Core.Bool.{Bool, true, false, cond}
 use lib.IntN.{ℤ, pos}
 use lib.Dec.{T, eqb, eqb·suc-zero}
 use lib.Ieee.{Float, nan, inf, fin, Format, up, down, round, div, unlike, fits, isNan, lt}
 use lib.Ieee.Fits.{down-pos, up-pos}
-use Rattle.exact.specs.Rational.{ℚ, inv, q0, _≤q_, _<q_}
+use Rattle.exact.specs.Rational.{ℚ, inv, q0, _<q_}
 use Rattle.exact.proofs.Field.{≤-refl, ≤-eq, ≤-<-trans, <-≤-trans, lt→ne, not-both, inv-mono, inv-mono-neg, inv-neg, inv-nonneg}
 use Rattle.doubles.specs.Value.{zero+, one+, ratio, val, Lower, Upper, Number, _⊑_}
 use Rattle.doubles.specs.Neighbour.{upFrom, downFrom}

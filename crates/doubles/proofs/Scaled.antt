@@ -8,7 +8,7 @@ use lib.Pow.{pow-pos}
 use lib.Dec.{T, T-not, not-T, eqb, eqb·suc-zero}
 use lib.IntN.{ℤ, pos, negsuc, natAbs, _+ℤ_, _*ℤ_}
 use lib.Signed.{_≤ℤ_, ltZ, ltZ-no}
-use lib.Ieee.{Float, nan, inf, fin, Format, low, up, down, round, add, mul, div, unlike, fits, lt}
+use lib.Ieee.{Float, nan, inf, fin, Format, low, up, down, round, add, mul, div, unlike, fits}
 use lib.Ieee.Fits.{down-pos, up-pos, round-fits}
 use lib.Ieee.Scale.{finite}
 use Rattle.ring.specs.Int.{_⊞_, _⊠_, ⊟_, z1, zring, z-ring, den, _∗_, den-mul, den-0, nonneg, nonneg-times}

@@ -1,15 +1,14 @@
 -- The ends of a square. Assumes nothing.
-use mathlib.Core.Path.{_≡_, refl, sym, subst}
+use mathlib.Core.Path.{refl, sym, subst}
 use mathlib.Core.Logic.{_⊎_, inl, inr}
 use mathlib.Core.List.{[], _∷_}
-use Prim.Native.Nat.{ℕ, _*_}
-use mathlib.Core.Bool.{Bool, true, false, not}
-use lib.IntN.{ℤ}
+use Prim.Native.Nat.{_*_}
+use mathlib.Core.Bool.{true, false}
 use lib.Dec.{T}
 use lib.Ieee.{Float, nan, inf, fin, Format, up, down, mul, unlike, fits, isNan, lt}
-use Rattle.exact.specs.Rational.{ℚ, _+q_, _*q_, q0, _≤q_, _<q_}
+use Rattle.exact.specs.Rational.{ℚ, _*q_, q0, _≤q_}
 use Rattle.exact.proofs.Field.{qring, q-ring, ≤-refl, ≤-trans, lt→le, le-or-lt, le-by, le-sub, mul-nonneg, up-left, up-right, down-left, down-right}
-use Rattle.doubles.specs.Value.{zero+, val, Lower, Upper, Number, _⊑_}
+use Rattle.doubles.specs.Value.{zero+, Lower, Upper, Number, _⊑_}
 use Rattle.doubles.specs.Neighbour.{upFrom, downFrom}
 use Rattle.doubles.proofs.Value.{val-zero}
 use Rattle.doubles.proofs.Enclose.{round-number}

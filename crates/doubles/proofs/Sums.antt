@@ -1,15 +1,15 @@
 -- What + and * round, and the ends of a sum: one step outward from the rounded sum of two ends lies beyond the exact sum. An infinite end sets no limit. Assumes nothing.
 use mathlib.Core.Path.{_≡_, refl, sym, ap, _∙_, subst}
 use mathlib.Core.List.{[], _∷_}
-use Prim.Native.Nat.{ℕ, zero, suc, _+_, _-_, _*_, pred, _≤_, _<_}
+use Prim.Native.Nat.{ℕ, _+_, _-_, _*_, pred, _≤_, _<_}
 use native.Mathlib.Nat.{mul-pos}
 use native.Mathlib.Omega.{arith}
 use mathlib.Core.Bool.{Bool, true, false, not, cond}
 use lib.IntN.{ℤ, pos}
 use lib.Dec.{T, ltb, ltb→lt, nltb→le}
-use lib.Ieee.{Float, nan, inf, fin, Format, up, down, round, sum, add, sub, mul, fits, isNan, lt, neg}
+use lib.Ieee.{Float, nan, inf, fin, Format, up, down, round, sum, add, sub, mul, fits, lt, neg}
 use lib.Ieee.Fits.{down-pos, add-fits}
-use Rattle.ring.specs.Int.{_⊞_, ⊟_, z0, zring, z-ring}
+use Rattle.ring.specs.Int.{_⊞_, ⊟_, zring, z-ring}
 use Rattle.exact.specs.Rational.{ℚ, frac, _+q_, _-q_, _*q_, negq, _≤q_}
 use Rattle.exact.proofs.Field.{≤-trans, ≤-eq, +-mono, sub-is}
 use Rattle.doubles.specs.Value.{signed, ratio, val, Lower, Upper, Number, _⊑_}

@@ -2,7 +2,7 @@
 -- Zeros of either sign count as one number, since a step from them is the same. Assumes nothing.
 use mathlib.Core.Path.{_≡_, refl, sym, ap, _∙_, subst}
 use mathlib.Core.Logic.{_⊎_, inl, inr}
-use Prim.Native.Nat.{ℕ, zero, suc, _+_, _-_, _*_, _/_, _^_, _≤_, _<_}
+use Prim.Native.Nat.{ℕ, zero, suc, _+_, _-_, _*_, _/_, _^_}
 use native.Mathlib.Nat.{le-antisymm, mul-right-comm}
 use native.Mathlib.Omega.{arith}
 use mathlib.Core.Bool.{Bool, true, false, not, _||_, cond}
@@ -13,12 +13,12 @@ use lib.Ieee.Fits.{down-pos, neg-fits}
 use lib.Ieee.Nearest.{div-same}
 use Rattle.doubles.specs.Neighbour.{upFrom, downFrom, fmin, fmax, least4, greatest4}
 use Rattle.doubles.specs.Value.{Number, _⊑_}
-use Rattle.doubles.proofs.Tests.{neg-neg}
+use Rattle.doubles.proofs.TestFacts.{neg-neg}
 use Rattle.doubles.proofs.Order.{⊑-trans}
 use Rattle.doubles.proofs.Neighbour.{neg-lt, neg-nan}
 use Rattle.doubles.proofs.Products.{number-neg}
 use Rattle.doubles.proofs.Stepping.{up-nan}
-use Rattle.doubles.proofs.Extremes.{Four, Over, Picked, larger, greatest, max-fits, max-number}
+use Rattle.doubles.proofs.Extremes.{Four, Over, larger, greatest, max-fits, max-number}
 use Rattle.doubles.proofs.Opposite.{Opposed, size-pos, no-size, no-zero}
 
 -- ---- a step from equal numbers

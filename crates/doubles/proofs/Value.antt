@@ -1,23 +1,23 @@
 -- The float comparisons of finite doubles are the order of their fractions, and what Rust's + * / and - round are the sum, product, reciprocal and opposite of them. Assumes nothing.
-use mathlib.Core.Path.{_≡_, refl, sym, _∙_, ap, ap₂, subst}
-use mathlib.Core.Bool.{Bool, true, false, not, _&&_, _||_, Bool·beq, cond}
+use mathlib.Core.Path.{_≡_, refl, sym, _∙_, ap, ap₂}
+use mathlib.Core.Bool.{Bool, true, false, not, cond}
 use mathlib.Core.List.{[], _∷_}
-use mathlib.Core.Logic.{_⊎_, inl, inr}
+use mathlib.Core.Logic.{inl, inr}
 use Prim.Native.Nat.{ℕ, zero, suc, _+_, _-_, _*_, pred, _≤_, _<_}
 use native.Mathlib.Nat.{mul-pos, zero-lt-suc, zero-mul}
 use native.Mathlib.Omega.{arith}
-use lib.Dec.{T, ltb, eqb, ltb→lt, nltb→le, eqb→eq, lt→ltb}
+use lib.Dec.{T, ltb, ltb→lt, nltb→le, lt→ltb}
 use lib.Arith.{le→nltb}
 use lib.IntN.{ℤ, pos, negsuc}
 use lib.Ieee.Scale.{finite}
 use lib.Ieee.Fits.{down-pos, up-pos}
-use lib.Ieee.{Float, nan, inf, fin, up, down, lt, eq, le, below, level, neg, unlike}
-use Rattle.ring.specs.Int.{_⊞_, _⊠_, ⊟_, z0, z1, zring, z-ring, den, _∗_, suc-prod, nonneg, nonneg-add, nonneg-0}
-use Rattle.exact.specs.Rational.{ℚ, frac, _+q_, _-q_, _*q_, negq, inv, nn, q0, q1, _≤q_, _<q_}
+use lib.Ieee.{Float, nan, inf, fin, up, down, lt, le, below, unlike}
+use Rattle.ring.specs.Int.{_⊞_, _⊠_, ⊟_, z0, zring, z-ring, den, _∗_, suc-prod, nonneg}
+use Rattle.exact.specs.Rational.{frac, _+q_, _-q_, _*q_, negq, inv, nn, q0, q1, _≤q_, _<q_}
 use Rattle.exact.proofs.Laws.{frac-0, frac-add, frac-mul, frac-neg}
-use Rattle.exact.proofs.Field.{≤-refl, ≤-antisym, ≤-eq, lt→le, not-both, same, by-same}
+use Rattle.exact.proofs.Field.{not-both}
 use Rattle.doubles.specs.Value.{zero+, one+, signed, ratio, val}
-use Rattle.doubles.proofs.Tests.{yes-or-no}
+use Rattle.doubles.proofs.TestFacts.{yes-or-no}
 
 -- ---- signed whole numbers
 

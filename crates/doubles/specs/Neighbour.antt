@@ -1,6 +1,6 @@
 -- The doubles next to a double (IEEE 754-2019, 5.3.1), and Rust's f64::min, max and abs, over the values of `lib.Ieee`.
-use Prim.Native.Nat.{ℕ, zero, suc, _+_, _-_}
-use mathlib.Core.Bool.{Bool, true, false, _||_, cond}
+use Prim.Native.Nat.{zero, suc, _+_, _-_}
+use mathlib.Core.Bool.{true, false, _||_, cond}
 use lib.Ieee.{Float, nan, inf, fin, Format, binary64, neg, lt, isNan, ofBits, toBits}
 
 -- The next one up, by its bits: one more where the sign is clear, one less where it is set; from either zero the smallest positive value. A NaN and +∞ are their own

@@ -1,6 +1,6 @@
 -- The place of a double in the order of all doubles: a whole number, 0 for both zeros (and for a NaN), one more for the next double up.
 use Prim.Native.Nat.{ℕ, suc, _-_, _*_}
-use mathlib.Core.Bool.{Bool, true, false, cond}
+use mathlib.Core.Bool.{Bool, false, cond}
 use lib.IntN.{ℤ, pos, negsuc, _-ℤ_}
 use lib.Ieee.{Float, nan, inf, fin, Format, binary64, hid, ones, toBits, le}
 use Rattle.doubles.specs.Value.{signed}

@@ -45,5 +45,6 @@ pub record Drawn : Type 0 where
   pub last : markOf one+ two 78 78 ≡ two
 
 pub drawn : Drawn
-unfolding ascii digit digits width decimal whole billionths fixed ofBits toBits neg lt isNan add sub mul div ofInt upFrom downFrom minFrom maxFrom leastOf greatestOf extentOf viewOf number pointText label partText sidesText pathText refusedText partsOf markOf
+unfolding ascii digit digits width decimal whole billionths fixed ofBits toBits neg lt isNan add sub mul div ofInt upFrom downFrom minFrom maxFrom leastOf greatestOf extentOf viewOf
+    number pointText label partText sidesText pathText refusedText partsOf markOf
 drawn = record { point = refl; path = refl; refusal = refl; view = refl; flat = refl; some-parts = refl; one-part = refl; middle = refl; last = refl }

@@ -153,7 +153,8 @@ module _ (a : ℕ) (ks ps : List Float) (g : Bool) (ws w₀ w₁ : List Float) (
   pub points-back : length ps ≡ countOf ps * 3 → pointsFrom (countOf ps) w₁ ≡ ps
   points-back L =
       tabulate-cong (countOf ps * 3) (λ j. at w₁ (j / 3 * 4 + j % 3)) (at ps)
-      (λ j b. row-axis g (countOf ps) w₁ (j / 3) (j % 3) (omega arith) ∙ (ap (λ (q : Control). axis (j % 3) (vectorOf q)) (C .rows (j / 3) (omega arith)) ∙ given-axis ps g ws j (j / 3) (j % 3) (omega arith) (omega arith)))
+      (λ j b. row-axis g (countOf ps) w₁ (j / 3) (j % 3) (omega arith) ∙ (ap (λ (q : Control). axis (j % 3) (vectorOf q)) (C .rows (j / 3) (omega arith)) ∙ given-axis ps g ws j
+      (j / 3) (j % 3) (omega arith) (omega arith)))
       ∙ (ap (λ (n : ℕ). tabulate n (at ps)) (sym L) ∙ tabulate-at ps)
 
   pub weights-back : (b : Bool) → b ≡ g → (b ≡ true → length ws ≡ countOf ps) → weightsFrom b (countOf ps) w₁ ≡ cond b ws (tabulate 0 (at ws))

@@ -1,7 +1,7 @@
 pub mod CountLoop
 pub mod Tested
-pub mod RowStores
 pub mod RowReads
+pub mod RowStores
 pub mod LayLoop
 pub mod LiftLoop
 pub mod IntoRun

@@ -5,7 +5,7 @@ use mathlib.Core.Bool.{Bool, true, false}
 use mathlib.Core.Path.{_≡_, refl, sym, _∙_, ap, ap₂, subst}
 use mathlib.Core.List.{List}
 use native.Mathlib.Omega.{arith}
-use lib.ListN.{length}
+use lib.ListN.{length, take, drop}
 use lib.Seq.{getD-take, getD-drop}
 use borrow.Author.Tests.{le-leb, lt-leb}
 use lib.Ieee.{Float, nan, binary64, div, ofBits}
@@ -83,11 +83,21 @@ pub rows-by : (g : Bool) (xs : List Float) (i : ℕ) {x y z w : Float} → x ≡
 rows-by g xs i a b c d = rw (a, b, c, d)
 
 pub row-out : (g : Bool) (xs : List Float) (i : ℕ) → length xs ≤ i
-    → rowBy g (div binary64 (ofBits binary64 0) (ofBits binary64 0)) (div binary64 (ofBits binary64 0) (ofBits binary64 0)) (div binary64 (ofBits binary64 0) (ofBits binary64 0)) (div binary64 (ofBits binary64 0) (ofBits binary64 0)) ≡ rowOf g xs i
+    → rowBy g (div binary64 (ofBits binary64 0) (ofBits binary64 0)) (div binary64 (ofBits binary64 0) (ofBits binary64 0)) (div binary64 (ofBits binary64 0) (ofBits binary64 0))
+    (div binary64 (ofBits binary64 0) (ofBits binary64 0)) ≡ rowOf g xs i
 row-out g xs i l = rows-by g xs i (none (i * 4) (omega arith)) (none (i * 4 + 1) (omega arith)) (none (i * 4 + 2) (omega arith)) (none (i * 4 + 3) (omega arith))
   where
     none : (j : ℕ) → length xs ≤ j → div binary64 (ofBits binary64 0) (ofBits binary64 0) ≡ at xs j
     none j b = zero-by-zero ∙ sym (at-out xs j b)
+
+-- ---- a row that is lent alone
+pub part-at : (xs : List Float) (i c : ℕ) → c < 4 → at (take (i * 4 + 4 - i * 4) (drop (i * 4) xs)) c ≡ at xs (i * 4 + c)
+part-at xs i c b = getD-take (i * 4 + 4 - i * 4) (drop (i * 4) xs) c nan (omega arith) ∙ getD-drop (i * 4) xs c nan
+
+pub row-part : (g : Bool) (xs : List Float) (i : ℕ) → rowOf g (take (i * 4 + 4 - i * 4) (drop (i * 4) xs)) 0 ≡ rowOf g xs i
+row-part g xs i =
+    let z : i * 4 + 0 ≡ i * 4 = omega arith in
+    rows-by g xs i (part-at xs i 0 (omega arith) ∙ ap (at xs) z) (part-at xs i 1 (omega arith)) (part-at xs i 2 (omega arith)) (part-at xs i 3 (omega arith))
 
 -- ---- room for weights
 pub given-room : (g : Bool) (m l : ℕ) → given g m ≤ l → g ≡ true → m ≤ l

@@ -1,19 +1,21 @@
 -- Rows of a run, stored one after the other.
 -- Assumes nothing.
-use Prim.Native.Nat.{ℕ, _+_, _-_, _*_, _/_, _<_}
+use Prim.Native.Nat.{ℕ, _+_, _-_, _*_, _/_, _≤_, _<_}
 use mathlib.Core.Bool.{Bool, true, false, cond}
-use mathlib.Core.Path.{_≡_, refl, _∙_, ap, subst}
-use mathlib.Core.Logic.{_⊎_, inl, inr}
-use mathlib.Core.List.{List}
+use mathlib.Core.Path.{_≡_, refl, sym, _∙_, ap, subst}
+use mathlib.Core.Logic.{_⊎_, inl, inr, ⊎-elim}
+use mathlib.Core.List.{List, _++_}
 use native.Mathlib.Omega.{arith}
 use borrow.Author.Count.{below-more}
-use lib.ListN.{length, set, length-set}
-use lib.Seq.{getD-set-same, getD-set-other}
+use lib.ListN.{length, set, take, drop, length-set, length-take, length-drop, length-append, List·getD-append}
+use lib.Seq.{getD-set-same, getD-set-other, getD-take, getD-drop, getD-append-add}
 use borrow.Author.Tests.{lt-ltb}
 use lib.Dec.{ltb}
 use lib.Ieee.{Float, nan}
 use Rattle.doubles.specs.Run.{at}
 use Rattle.doubles.specs.Value.{one+}
+use Rattle.runs.proofs.Cases.{lt-or-ge}
+use Rattle.edits.proofs.RowReads.{part-at}
 use Rattle.edits.specs.Passes.{rowPut, rowOf, stored, Untouched, RowPut}
 use Rattle.edits.specs.declared.control.Control.{Control}
 
@@ -114,6 +116,92 @@ rows-same g xs ys i e =
     let z : i * 4 + 0 ≡ i * 4 = omega arith in
     control-is _ _ _ _ (at ys (i * 4)) (at ys (i * 4 + 1)) (at ys (i * 4 + 2)) (cond g (at ys (i * 4 + 3)) one+)
     (subst (λ (k : ℕ). at xs k ≡ at ys k) z (e 0 (omega arith))) (e 1 (omega arith)) (e 2 (omega arith)) (ap (λ (x : Float). cond g x one+) (e 3 (omega arith)))
+
+-- ---- numbers that were lent are back in their run
+module _ (a k : ℕ) (xs ys : List Float) (L : length ys ≡ k) (b : a + k ≤ length xs) where
+  abbrev back : List Float
+  back = take a xs ++ (ys ++ drop k (drop a xs))
+
+  front : length (take a xs) ≡ a
+  front = length-take a xs ∙ omega arith
+
+  back-low : (j : ℕ) → j < a → at back j ≡ at xs j
+  back-low j l = List·getD-append (take a xs) (ys ++ drop k (drop a xs)) nan j (omega (arith, front)) ∙ getD-take a xs j nan l
+
+  back-from : (m : ℕ) → at back (a + m) ≡ at (ys ++ drop k (drop a xs)) m
+  back-from m = ap (λ (i : ℕ). at back (i + m)) (sym front) ∙ getD-append-add (take a xs) (ys ++ drop k (drop a xs)) m nan
+
+  back-in : (m : ℕ) → m < k → at back (a + m) ≡ at ys m
+  back-in m l = back-from m ∙ List·getD-append ys (drop k (drop a xs)) nan m (omega arith)
+
+  back-high : (m : ℕ) → at back (a + (k + m)) ≡ at xs (a + (k + m))
+  back-high m =
+      back-from (k + m)
+      ∙ (ap (λ (i : ℕ). at (ys ++ drop k (drop a xs)) (i + m)) (sym L)
+      ∙ (getD-append-add ys (drop k (drop a xs)) m nan ∙ (getD-drop k (drop a xs) m nan ∙ getD-drop a xs (k + m) nan)))
+
+module _ (i : ℕ) (q : Control) (xs : List Float) (l : i * 4 + 3 < length xs) (g : Bool) where
+  abbrev k : ℕ
+  k = i * 4 + 4 - i * 4
+
+  abbrev part : List Float
+  part = take k (drop (i * 4) xs)
+
+  part-long : length part ≡ k
+  part-long = length-take k (drop (i * 4) xs) ∙ omega (arith, length-drop (i * 4) xs)
+
+  put-long : (ys : List Float) → ys ≡ rowPut g part 0 q → length ys ≡ k
+  put-long ys E = ap length E ∙ (row-put-long g part 0 q ∙ part-long)
+
+  pub row-part-long : (ys : List Float) → ys ≡ rowPut g part 0 q → length (take (i * 4) xs ++ (ys ++ drop k (drop (i * 4) xs))) ≡ length xs
+  row-part-long ys E =
+      let f = length-take (i * 4) xs in
+      let m = length-append ys (drop k (drop (i * 4) xs)) in
+      let p = put-long ys E in
+      let d = length-drop k (drop (i * 4) xs) in
+      let e = length-drop (i * 4) xs in
+      length-append (take (i * 4) xs) (ys ++ drop k (drop (i * 4) xs)) ∙ omega arith
+
+  pub row-put-part : (ys zs : List Float) → ys ≡ rowPut g part 0 q → zs ≡ take (i * 4) xs ++ (ys ++ drop k (drop (i * 4) xs)) → RowPut g i q xs zs
+  row-put-part ys zs E Z = subst (RowPut g i q xs) (sym Z) (record { row = row; rest = rest })
+    where
+      P : RowPut g 0 q part ys
+      P = row-put 0 q part (omega (arith, part-long)) g ys E
+
+      L : length ys ≡ k
+      L = put-long ys E
+
+      B : i * 4 + k ≤ length xs
+      B = omega arith
+
+      inside : (c : ℕ) → c < 4 → at (back (i * 4) k xs ys L B) (i * 4 + c) ≡ at ys c
+      inside c b = back-in (i * 4) k xs ys L B c (omega arith)
+
+      row : rowOf g (back (i * 4) k xs ys L B) i ≡ stored g q
+      row =
+          let z : i * 4 + 0 ≡ i * 4 = omega arith in
+          control-is _ _ _ _ (at ys 0) (at ys 1) (at ys 2) (cond g (at ys 3) one+) (subst (λ (j : ℕ). at (back (i * 4) k xs ys L B) j ≡ at ys 0) z (inside 0 (omega arith)))
+          (inside 1 (omega arith)) (inside 2 (omega arith)) (ap (λ (x : Float). cond g x one+) (inside 3 (omega arith)))
+          ∙ P .row
+
+      high : (j : ℕ) → (i + 1) * 4 ≤ j → at (back (i * 4) k xs ys L B) j ≡ at xs j
+      high j b =
+          let e : i * 4 + (k + (j - (i + 1) * 4)) ≡ j = omega arith in
+          subst (λ (m : ℕ). at (back (i * 4) k xs ys L B) m ≡ at xs m) e (back-high (i * 4) k xs ys L B (j - (i + 1) * 4))
+
+      fourth : g ≡ false → at (back (i * 4) k xs ys L B) (i * 4 + 3) ≡ at xs (i * 4 + 3)
+      fourth e = inside 3 (omega arith) ∙ (P .rest 3 (inr (inr (e, refl))) ∙ part-at xs i 3 (omega arith))
+
+      rest : (j : ℕ) → (j < i * 4) ⊎ Untouched g (i + 1) j → at (back (i * 4) k xs ys L B) j ≡ at xs j
+      rest j (inl b) = back-low (i * 4) k xs ys L B j b
+      rest j (inr (inl b)) = high j b
+      rest j (inr (inr u)) = ⊎-elim (back-low (i * 4) k xs ys L B j) (λ (b : i * 4 ≤ j). ⊎-elim (near b) (high j) (lt-or-ge j ((i + 1) * 4))) (lt-or-ge j (i * 4))
+        where
+          near : i * 4 ≤ j → j < (i + 1) * 4 → at (back (i * 4) k xs ys L B) j ≡ at xs j
+          near b d =
+              let m = u .1 in
+              let e : i * 4 + 3 ≡ j = omega arith in
+              subst (λ (n : ℕ). at (back (i * 4) k xs ys L B) n ≡ at xs n) e (fourth (u .0))
 
 pub untouched-row : (g : Bool) (i : ℕ) (xs ys : List Float) → ((j : ℕ) → Untouched g i j → at xs j ≡ at ys j) → rowOf g xs i ≡ rowOf g ys i
 untouched-row g i xs ys h = rows-same g xs ys i (λ c b. h (i * 4 + c) (inl (omega arith)))

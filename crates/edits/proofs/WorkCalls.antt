@@ -6,10 +6,9 @@ use mathlib.Core.Path.{_≡_, refl, sym, _∙_, ap, subst}
 use mathlib.Core.Logic.{_⊎_, inl, inr, ⊎-elim}
 use mathlib.Core.List.{List}
 use native.Mathlib.Omega.{arith}
-use lib.ListN.{length, take, length-replicate}
+use lib.ListN.{length, take}
 use lib.Ieee.{Float}
 use Rattle.doubles.specs.Run.{at}
-use Rattle.doubles.specs.Value.{zero+}
 use Rattle.knots.specs.Refusal.{refuse, accepted, length-bad}
 use Rattle.knots.specs.Clear.{zeros}
 use Rattle.knots.specs.Curve.{countOf, formedRefusal}
@@ -24,7 +23,7 @@ use Rattle.edits.specs.Outcome.{Outcome, gives, refuses}
 use Rattle.edits.specs.Work.{laid, workRoom, layRefusal, layOutcome, refusalOf, workIn, takeRefusal, frontRefusal}
 use Rattle.edits.specs.Passes.{CurveIn}
 use Rattle.edits.proofs.Starting.{room-none, room-short, out-fits}
-use Rattle.edits.proofs.RunWithCurve.{laid-is, laid-in}
+use Rattle.edits.proofs.RunWithCurve.{laid-in}
 
 -- ---- 30
 module _ (n m a l : ℕ) where
@@ -82,13 +81,6 @@ module _ (p m f : ℕ) (g : Bool) (a l b c d : ℕ) where
       let v = work-open (f + m) (f + m + p + 1) a l (u .0) in
       (v .0, (v .1, u .1))
 
--- ---- a curve in a cleared run
-pub cleared-curve : (a : ℕ) (ks ps : List Float) (g : Bool) (ws : List Float) (l : ℕ) (w₀ w₁ : List Float) → w₀ ≡ zeros l → length w₁ ≡ l → countOf ps * 4 ≤ a → a + length ks ≤ l
-    → CurveIn a ks ps g ws w₀ w₁ → w₁ ≡ laid a (zeros l) ks ps g ws
-cleared-curve a ks ps g ws l w₀ w₁ Z L r b C =
-    let e = length-replicate l zero+ in
-    laid-is a (zeros l) ks ps g ws w₁ (L ∙ sym e) r (omega arith) (subst (λ (d : List Float). CurveIn a ks ps g ws d w₁) Z C)
-
 -- ---- a curve at the front of three runs
 module _ (p n : ℕ) (g : Bool) (ks ps ws : List Float) where
   pub front-short : (r : Refusal) → r ≡ outRoom p n g (length ks) (length ps) (length ws) → (r .number ≡ 0 → ⊥) → r ≡ frontRefusal p n g ks ps ws
@@ -105,13 +97,13 @@ module _ (p n : ℕ) (g : Bool) (ks ps ws : List Float) where
   front-is x y z = simp (skip {r = accepted} (out-fits p n g (length ks) (length ps) (length ws) x y z) refl)
 
 -- ---- where there is room
-pub laid-curve : (ks ps : List Float) (g : Bool) (ws : List Float) (a l : ℕ) → given g (countOf ps) ≤ length ws → countOf ps * 4 ≤ a → a + length ks ≤ l → (r : Refusal) (w₁ : List Float)
-    → r ≡ refusalOf (layOutcome ks ps g ws a l) → w₁ ≡ workIn a g (zeros l) (layOutcome ks ps g ws a l) → (r .number ≡ 0) × CurveIn a ks ps g ws (zeros l) w₁
-laid-curve ks ps g ws a l W A L r w₁ R Z =
-    let o : layOutcome ks ps g ws a l ≡ gives ks ps ws = lay-fits ks ps g ws a l accepted accepted (sym (room-none (length ws) (given g (countOf ps)) W)) refl (work-fits (countOf ps) (length ks) a l A L) refl in
-    let e = length-replicate l zero+ in (
+pub laid-curve : (ks ps : List Float) (g : Bool) (ws : List Float) (a l : ℕ) (w₀ : List Float) → length w₀ ≡ l → given g (countOf ps) ≤ length ws → countOf ps * 4 ≤ a → a + length ks ≤ l
+    → (r : Refusal) (w₁ : List Float) → r ≡ refusalOf (layOutcome ks ps g ws a l) → w₁ ≡ workIn a g w₀ (layOutcome ks ps g ws a l) → (r .number ≡ 0) × CurveIn a ks ps g ws w₀ w₁
+laid-curve ks ps g ws a l w₀ L W A b r w₁ R Z =
+    let o : layOutcome ks ps g ws a l ≡ gives ks ps ws =
+    lay-fits ks ps g ws a l accepted accepted (sym (room-none (length ws) (given g (countOf ps)) W)) refl (work-fits (countOf ps) (length ks) a l A b) refl in (
       ap (λ (x : Refusal). x .number) (R ∙ ap refusalOf o),
-      subst (CurveIn a ks ps g ws (zeros l)) (sym (Z ∙ ap (workIn a g (zeros l)) o)) (laid-in a (zeros l) ks ps g ws A (omega arith)),
+      subst (CurveIn a ks ps g ws w₀) (sym (Z ∙ ap (workIn a g w₀) o)) (laid-in a w₀ ks ps g ws A (omega arith)),
     )
 
 pub take-none : (p m f : ℕ) (g : Bool) (a l b c d : ℕ) → (f + m) * 4 ≤ a → a + (f + m + p + 1) ≤ l → m + p + 1 ≤ b → m * 3 ≤ c → given g m ≤ d → (r : Refusal) → r ≡ takeRefusal p m f g a l b c d

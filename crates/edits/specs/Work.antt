@@ -49,7 +49,7 @@ weightsFrom g n xs = tabulate (given g n) (λ i. at xs (i * 4 + 3))
 unfoldable pub workRoom : ℕ → ℕ → ℕ → ℕ → Refusal
 workRoom n m a l = orElse (roomRefusal a (n * 4)) (roomRefusal l (a + m))
 
--- ---- a curve is laid into a run of l numbers, +0.0 elsewhere
+-- ---- a curve is laid into a run of l numbers, which stays as it was elsewhere
 unfoldable pub layRefusal : List Float → List Float → Bool → List Float → ℕ → ℕ → Refusal
 layRefusal ks ps g ws a l = orElse (roomRefusal (length ws) (given g (countOf ps))) (workRoom (countOf ps) (length ks) a l)
 

@@ -1,9 +1,9 @@
 // A curve goes into a lent run, and out of it.
 use crate::counts::given_count;
 use crate::rows::kept_row;
-use crate::rows::put_row;
-use crate::rows::row_at;
 use crate::rows::vector_of;
+use crate::whole::put_whole;
+use crate::whole::whole_row;
 use runs::copy::clear_from;
 use runs::copy::copy_run;
 use runs::points::point_at;
@@ -11,10 +11,10 @@ use runs::points::put_point;
 use runs::weights::put_weight;
 use runs::weights::weight_at;
 ghost use mathlib.Core.Path.{_≡_};
-ghost use mathlib.Core.Bool.{true, cond};
+ghost use mathlib.Core.Bool.{true};
 ghost use mathlib.Core.List.{_++_};
 ghost use Prim.Native.Nat.{_+_, _*_, _/_, _<_, _≤_};
-ghost use lib.ListN.{length, drop, set};
+ghost use lib.ListN.{length, drop};
 ghost use Rattle.edits.specs.Rows.{given};
 ghost use Rattle.runs.specs.Lent.{padded};
 ghost use Rattle.edits.specs.Work.{knotsFrom, pointsFrom, weightsFrom};
@@ -30,7 +30,7 @@ pub fn lay_rows(n: usize, points: &[f64], rational: bool, weights: &[f64], rows:
     let mut i = 0usize;
     while i < n {
         let q = kept_row(point_at(points, i), weight_at(rational, weights, i));
-        put_row(rational, rows, i, q);
+        put_whole(rational, rows, i, q);
         i += 1;
     }
 }
@@ -75,7 +75,7 @@ pub fn take_rows(n: usize, rational: bool, rows: &[f64], points: &mut [f64], wei
 {
     let mut i = 0usize;
     while i < n {
-        let q = row_at(rational, rows, i);
+        let q = whole_row(rational, rows, i);
         put_point(points, i, vector_of(q));
         put_weight(weights, rational, i, q.w);
         i += 1;

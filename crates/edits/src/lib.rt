@@ -5,4 +5,5 @@ pub mod counts;
 mod lay;
 pub mod rows;
 pub mod start;
+mod whole;
 pub mod work;

@@ -2,6 +2,9 @@
 use crate::control::Control;
 use crate::control::is_lifted;
 use crate::control::lift_of;
+use crate::whole::put_whole;
+use crate::whole::row_of;
+use crate::whole::whole_row;
 use knots::clear::clear;
 use knots::refusal::Refusal;
 use knots::refusal::refuse;
@@ -17,17 +20,7 @@ ghost use Rattle.runs.specs.Larger.{largestFrom};
 ghost use Rattle.edits.specs.Rows.{liftAt};
 ghost use Rattle.edits.specs.Work.{pointsFrom, weightsFrom, scaleIn, liftRefusal, liftedRun};
 ghost use Rattle.edits.specs.Control.{vectorOf};
-ghost use Rattle.edits.specs.Passes.{rowOf, rowBy, rowPut, liftRow, keptRow, LiftDone};
-
-// The fourth number of a row counts where there are weights.
-fn row_of(rational: bool, x: f64, y: f64, z: f64, w: f64) -> Control
-    ensures { λ r. ⌜ r ≡ rowBy rational x y z w ⌝ }
-{
-    if rational {
-        return Control { x, y, z, w };
-    }
-    Control { x, y, z, w: 1.0 }
-}
+ghost use Rattle.edits.specs.Passes.{rowOf, rowPut, liftRow, keptRow, LiftDone};
 
 // A row that is not whole inside the run: NaN for what is outside.
 fn edge_row(rational: bool, rows: &[f64], i: usize) -> Control
@@ -49,8 +42,7 @@ pub fn row_at(rational: bool, rows: &[f64], i: usize) -> Control
     ensures { λ r. ⌜ r ≡ rowOf rational (now (rows .entry)) i ⌝ }
 {
     if i < rows.len() / 4 {
-        let at = i * 4;
-        return row_of(rational, rows[at], rows[at + 1], rows[at + 2], rows[at + 3]);
+        return whole_row(rational, rows, i);
     }
     edge_row(rational, rows, i)
 }
@@ -62,13 +54,7 @@ pub fn put_row(rational: bool, rows: &mut [f64], i: usize, q: Control)
     if i >= rows.len() / 4 {
         return;
     }
-    let at = i * 4;
-    rows[at] = q.x;
-    rows[at + 1] = q.y;
-    rows[at + 2] = q.z;
-    if rational {
-        rows[at + 3] = q.w;
-    }
+    put_whole(rational, rows, i, q);
 }
 
 // The point of a row.
@@ -127,11 +113,11 @@ fn lift_rows(n: usize, o: Vector, scale: f64, rational: bool, rows: &mut [f64]) 
 {
     let mut i = 0usize;
     while i < n {
-        let q = lift_row(scale, o, rational, row_at(rational, rows, i));
+        let q = lift_row(scale, o, rational, whole_row(rational, rows, i));
         if !is_lifted(q) {
             return false;
         }
-        put_row(rational, rows, i, q);
+        put_whole(rational, rows, i, q);
         i += 1;
     }
     true

@@ -41,7 +41,7 @@ pub fn work_room(n: usize, m: usize, a: usize, l: usize) -> Refusal
     refuse(0)
 }
 
-// A curve goes into a run, its knots to place a.
+// A curve goes into a run, its knots to place a. Beside it the run stays as it was.
 pub fn lay_curve(
     knots: &[f64],
     points: &[f64],
@@ -51,16 +51,17 @@ pub fn lay_curve(
     work: &mut [f64],
 ) -> Refusal
     ensures { λ r. ⌜ r ≡ refusalOf (layOutcome (now (knots .entry)) (now (points .entry)) rational (now (weights .entry)) a (length (now (work .entry)))) ⌝ }
-    ensures { λ _. ⌜ now (work .exit) ≡ workIn a rational (zeros (length (now (work .entry)))) (layOutcome (now (knots .entry)) (now (points .entry)) rational (now (weights .entry)) a (length (now (work .entry)))) ⌝ }
+    ensures { λ _. ⌜ now (work .exit) ≡ workIn a rational (now (work .entry)) (layOutcome (now (knots .entry)) (now (points .entry)) rational (now (weights .entry)) a (length (now (work .entry)))) ⌝ }
 {
-    clear(work);
     let n = points.len() / 3;
     let short = room_refusal(weights.len(), given_count(rational, n));
     if short.number != 0 {
+        clear(work);
         return short;
     }
     let room = work_room(n, knots.len(), a, work.len());
     if room.number != 0 {
+        clear(work);
         return room;
     }
     lay_into(knots, points, rational, weights, a, work);

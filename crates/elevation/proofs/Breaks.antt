@@ -10,7 +10,7 @@ use lib.ListN.{length}
 use lib.Ieee.{Float, lt, eq}
 use lib.Ieee.Scale.{finite}
 use Rattle.doubles.specs.Run.{at}
-use Rattle.doubles.proofs.Tested.{ge-lt-trans, lt-ge-trans}
+use Rattle.doubles.proofs.TestedOrder.{ge-lt-trans, lt-ge-trans}
 use Rattle.knots.specs.Knots.{ValidKnots}
 use Rattle.knots.proofs.Valid.{sorted}
 use Rattle.edits.specs.Counts.{bit, countBelow, multiplicityOf}

@@ -23,7 +23,7 @@ use Rattle.insertion.specs.Fold.{insertAll}
 use Rattle.edits.specs.Outcome.{Outcome, gives, refuses}
 use Rattle.edits.specs.Work.{laid, knotsFrom, pointsFrom, weightsFrom, workRoom, refusalOf, workIn}
 use Rattle.insertion.specs.Times.{timesStart, timesOutcome}
-use Rattle.insertion.proofs.Made.{andThen, insert-append}
+use Rattle.insertion.proofs.ListResult.{andThen, insert-append}
 use Rattle.insertion.proofs.Repeated.{repeated}
 use Rattle.edits.proofs.Starting.{room-none}
 use Rattle.edits.proofs.RunWithCurve.{laid-long}

@@ -14,7 +14,7 @@ use Rattle.doubles.specs.Value.{val}
 use Rattle.knots.specs.Knots.{ValidKnots}
 use Rattle.edits.specs.Counts.{multiplicityOf, belowOf}
 use Rattle.insertion.proofs.KnotCounts.{below-past, below-room}
-use Rattle.insertion.proofs.Places.{equal-value}
+use Rattle.insertion.proofs.EqualKnots.{equal-value}
 
 module _ (p n : ℕ) (ks : List Float) (v : ValidKnots p n ks) (hi : Float) (H : finite hi ≡ true) (full-high : multiplicityOf ks hi ≡ p + 1) where
   -- a is below the first of the breaks bs, each below the next, and the last below hi; all are full

@@ -11,10 +11,10 @@ use lib.ListN.{length, replicate}
 use lib.Ieee.{Float, lt, eq}
 use Rattle.exact.specs.Rational.{ℚ, _*q_, _/q_}
 use Rattle.exact.specs.Boehm.{inserted, insertedPoint, insertedAll, insertedPointAll}
-use Rattle.exact.proofs.Inserted.{ins-low, ins-break}
+use Rattle.exact.proofs.Shares.{ins-low, ins-break}
 use Rattle.doubles.specs.Run.{at, valAt}
 use Rattle.doubles.specs.Value.{val}
-use Rattle.doubles.proofs.Tested.{lt-irrefl, lt-asym, lt-trans, ge-trans, lt-ge-trans, le-gives}
+use Rattle.doubles.proofs.TestedOrder.{lt-irrefl, lt-asym, lt-trans, ge-trans, lt-ge-trans, le-gives}
 use Rattle.knots.specs.Knots.{ValidKnots}
 use Rattle.knots.specs.Span.{spanOf}
 use Rattle.knots.proofs.Valid.{sorted}
@@ -28,11 +28,11 @@ use Rattle.insertion.specs.Placed.{placed, Each}
 use Rattle.insertion.proofs.Storing.{knot-low, knot-here}
 use Rattle.insertion.proofs.Grown.{count-run}
 use Rattle.insertion.proofs.KnotCounts.{not-both, count-within, count-early, lt-not-eq, level-eq, eq-level, eq-self, below-rest, below-not}
-use Rattle.insertion.proofs.Places.{equal-value}
+use Rattle.insertion.proofs.EqualKnots.{equal-value}
 use Rattle.insertion.proofs.Folds.{inserted-valid}
-use Rattle.insertion.proofs.Made.{countIn, each-append, each-replicate, each-map, by-number, others, one-counts, made, made-below}
+use Rattle.insertion.proofs.ListResult.{countIn, each-append, each-replicate, each-map, by-number, others, one-counts, made, made-below}
 use Rattle.insertion.proofs.Domain.{Spot, spot}
-use Rattle.insertion.proofs.Placed.{spot-values}
+use Rattle.insertion.proofs.ExactList.{spot-values}
 use Rattle.elevation.specs.Breaks.{isFull, missingAll}
 use Rattle.elevation.proofs.Breaks.{Rising, each-zip}
 use Rattle.elevation.proofs.Missing.{missing-each, count-none-in}

@@ -18,7 +18,7 @@ use Rattle.edits.specs.Outcome.{gives, refuses}
 use Rattle.edits.specs.Start.{clampedEnds}
 use Rattle.insertion.proofs.KnotCounts.{gt-not-eq, lt-not-eq, eq-finite, eq-self, eq-lt-left, multiplicity-most}
 use Rattle.insertion.specs.Placed.{Each}
-use Rattle.insertion.proofs.Made.{countIn, each-append, each-replicate, each-map, count-append, count-replicate, Made, made, made-multiplicity}
+use Rattle.insertion.proofs.ListResult.{countIn, each-append, each-replicate, each-map, count-append, count-replicate, Made, made, made-multiplicity}
 use Rattle.insertion.proofs.Never.{Late, late}
 use Rattle.insertion.proofs.Repeated.{inside-by, room-more}
 use Rattle.elevation.specs.Breaks.{breaksOf, missingAll}

@@ -29,7 +29,8 @@ use Rattle.edits.proofs.RowReads.{scale-fits, row-point}
 use Rattle.edits.specs.declared.control.Control.{Control}
 use Rattle.elevation.specs.Breaks.{breaksOf, isFull, missingAll}
 use Rattle.elevation.specs.Raise.{raiseTimes}
-use Rattle.elevation.specs.Elevate.{extractedCount, raisedCount, raisedKnots, segmentOf, addedBy, keptFrom, keptAll, extracted, raisedControls, raisedPoints, raisedWeights, raisedRefusal, raisedOutcome, afterExtraction, raiseAll}
+use Rattle.elevation.specs.Elevate.{extractedCount, raisedCount, raisedKnots, segmentOf, addedBy, keptFrom, keptAll, extracted, raisedControls, raisedPoints, raisedWeights}
+use Rattle.elevation.specs.Elevate.{raisedRefusal, raisedOutcome, afterExtraction, raiseAll}
 use Rattle.elevation.specs.Whole.{elevatedCount}
 use Rattle.elevation.specs.Passes.{joinRefusal, Joined, Raised}
 use Rattle.elevation.proofs.Raising.{times-cong}

@@ -74,25 +74,25 @@ module _ (p : ℕ) (ks ps : List Float) (g : Bool) (ws : List Float) (e A B C d 
     room : m * 4 + length ks ≤ d
     room = let q = made-is in let s = scratch in let l = open-facts .curve .knots .long in omega arith
 
-    laid-out : (r : Refusal) (x₁ : List Float) → r ≡ refusalOf (layOutcome ks ps g ws (m * 4) d) → x₁ ≡ workIn (m * 4) g (zeros d) (layOutcome ks ps g ws (m * 4) d)
-        → (r .number ≡ 0) × CurveIn (m * 4) ks ps g ws (zeros d) x₁
-    laid-out = laid-curve ks ps g ws (m * 4) d (given-fits g n (length ws) (open-facts .curve .controls .weights)) wide room
+    laid-out : (x₀ : List Float) → length x₀ ≡ d → (r : Refusal) (x₁ : List Float) → r ≡ refusalOf (layOutcome ks ps g ws (m * 4) d)
+        → x₁ ≡ workIn (m * 4) g x₀ (layOutcome ks ps g ws (m * 4) d) → (r .number ≡ 0) × CurveIn (m * 4) ks ps g ws x₀ x₁
+    laid-out x₀ L = laid-curve ks ps g ws (m * 4) d x₀ L (given-fits g n (length ws) (open-facts .curve .controls .weights)) wide room
 
-    pub lay-none : (r : Refusal) → r ≡ refusalOf (layOutcome ks ps g ws (m * 4) d) → r .number ≡ 0
-    lay-none r R = laid-out r _ R refl .0
+    pub lay-none : (x₀ : List Float) → length x₀ ≡ d → (r : Refusal) → r ≡ refusalOf (layOutcome ks ps g ws (m * 4) d) → r .number ≡ 0
+    lay-none x₀ L r R = laid-out x₀ L r _ R refl .0
 
-    module _ (x₁ : List Float) (X : x₁ ≡ workIn (m * 4) g (zeros d) (layOutcome ks ps g ws (m * 4) d)) where
-      stands : CurveIn (m * 4) ks ps g ws (zeros d) x₁
-      stands = laid-out _ x₁ refl X .1
+    module _ (x₀ : List Float) (L : length x₀ ≡ d) (x₁ : List Float) (X : x₁ ≡ workIn (m * 4) g x₀ (layOutcome ks ps g ws (m * 4) d)) where
+      stands : CurveIn (m * 4) ks ps g ws x₀ x₁
+      stands = laid-out x₀ L _ x₁ refl X .1
 
       knots-are : knotsFrom (m * 4) p n x₁ ≡ ks
-      knots-are = knots-back (m * 4) ks ps g ws (zeros d) x₁ stands p n (open-facts .curve .knots .long)
+      knots-are = knots-back (m * 4) ks ps g ws x₀ x₁ stands p n (open-facts .curve .knots .long)
 
       points-are : pointsFrom n x₁ ≡ ps
-      points-are = points-back (m * 4) ks ps g ws (zeros d) x₁ stands points-long
+      points-are = points-back (m * 4) ks ps g ws x₀ x₁ stands points-long
 
       weights-are : weightsFrom g n x₁ ≡ givenOf g ws
-      weights-are = weights-back (m * 4) ks ps g ws (zeros d) x₁ stands g refl (open-facts .curve .controls .weights)
+      weights-are = weights-back (m * 4) ks ps g ws x₀ x₁ stands g refl (open-facts .curve .controls .weights)
 
       pub extract-ready : (l : ℕ) → l ≡ d
           → ((p < n) × (n ≤ length ks)) × (ValidKnots p n (knotsFrom (m * 4) p n x₁) × (((n + length (missingAll p ks bs)) * 4 ≤ m * 4) × (m * 4 + (n + length (missingAll p ks bs) + p + 1) ≤ l)))

@@ -16,7 +16,7 @@ use Rattle.edits.specs.Counts.{bit, countBelow, multiplicityOf}
 use Rattle.edits.specs.Start.{clampedEnds}
 use Rattle.insertion.proofs.KnotCounts.{lt-not-eq, gt-not-eq, eq-self}
 use Rattle.insertion.specs.Placed.{Each}
-use Rattle.insertion.proofs.Made.{countIn, each-append, each-replicate, each-map, count-append, count-replicate}
+use Rattle.insertion.proofs.ListResult.{countIn, each-append, each-replicate, each-map, count-append, count-replicate}
 use Rattle.elevation.specs.Breaks.{breaksOf, isFull}
 use Rattle.elevation.specs.Elevate.{breakKnots, raisedKnots, raisedCount}
 use Rattle.elevation.proofs.Breaks.{Rising, each-zip, IsBreak, distinct, breaks-are}

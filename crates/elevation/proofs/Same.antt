@@ -35,11 +35,12 @@ use Rattle.edits.specs.Whole.{givenOf}
 use Rattle.edits.specs.Start.{clampedEnds, editStart}
 use Rattle.insertion.specs.Placed.{placed, weightValue, coordinateValue, Each}
 use Rattle.insertion.proofs.KnotCounts.{multiplicity-low, multiplicity-high, below-room}
-use Rattle.insertion.proofs.Made.{each-map, by-number, Made, made, made-low, made-high, made-clamped}
+use Rattle.insertion.proofs.ListResult.{each-map, by-number, Made, made, made-low, made-high, made-clamped}
 use Rattle.edits.proofs.Starting.{edit-open}
-use Rattle.insertion.proofs.Placed.{placed-long, Placed, placed-all, weight-above}
+use Rattle.insertion.proofs.ExactList.{placed-long, Placed, placed-all, weight-above}
 use Rattle.elevation.specs.Breaks.{breaksOf, isFull, missingAll}
-use Rattle.elevation.specs.Elevate.{raisedCount, raisedKnots, extracted, extractedCount, raisedControls, allBlended, raisedPoints, raisedWeights, raisedRefusal, raisedOutcome, afterExtraction, raiseAll}
+use Rattle.elevation.specs.Elevate.{raisedCount, raisedKnots, extracted, extractedCount, raisedControls, allBlended, raisedPoints, raisedWeights, raisedRefusal}
+use Rattle.elevation.specs.Elevate.{raisedOutcome, afterExtraction, raiseAll}
 use Rattle.elevation.specs.Joined.{raisedWeightAt, raisedPointAt}
 use Rattle.elevation.specs.Whole.{raiseStart, elevated, elevateStart, elevateOutcome}
 use Rattle.elevation.proofs.Breaks.{IsBreak, Rising, breaks-are, distinct}

@@ -25,7 +25,8 @@ use Rattle.basis.specs.Ders.{basisTable}
 use Rattle.basis.proofs.Whole.{Reach, basis-at}
 use Rattle.knots.specs.Shape.{degreeRefusal, finiteRefusal, weightShape, knotShape, surfaceShape}
 use Rattle.runs.specs.Point.{pointOf}
-use Rattle.evaluate.specs.Surface.{NetReach, netScale, netSums, surfaceQuotient, activeNet, surfaceOf, degreesRefusal, parametersRefusal, surfaceStepRefusal, surfaceEvalRefusal, surfaceAtOf, evalSurfaceOf}
+use Rattle.evaluate.specs.Surface.{NetReach, netScale, netSums, surfaceQuotient, activeNet, surfaceOf, degreesRefusal, parametersRefusal, surfaceStepRefusal}
+use Rattle.evaluate.specs.Surface.{surfaceEvalRefusal, surfaceAtOf, evalSurfaceOf}
 use Rattle.runs.specs.declared.vector.Vector.{Vector}
 use Rattle.evaluate.specs.declared.sums.Sums.{Sums}
 use Rattle.evaluate.specs.declared.surface.SurfaceDerivs.{SurfaceDerivs}

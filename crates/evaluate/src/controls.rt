@@ -10,10 +10,9 @@ ghost use Prim.Native.Nat.{_+_, _*_, _<_, _≤_};
 ghost use lib.ListN.{length};
 ghost use Rattle.doubles.specs.Run.{at};
 ghost use Rattle.basis.specs.Basis.{cell};
-ghost use Rattle.evaluate.specs.Controls.{scaleOf, plus, termOf, rowSums};
+ghost use Rattle.evaluate.specs.Controls.{scaleOf, termOf, rowSums};
 ghost use Rattle.runs.specs.Scale.{weightOf};
-ghost use Rattle.runs.specs.Larger.{larger, largestFrom};
-ghost use Rattle.runs.specs.Point.{pointOf};
+ghost use Rattle.runs.specs.Larger.{largestFrom};
 
 // What a point q with weight w under a basis function n adds, relative to o. Relative to an active point no large coordinates are subtracted later.
 // The source has one order of operations where one derivative is asked for, and another for two.

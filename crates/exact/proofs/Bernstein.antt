@@ -17,8 +17,8 @@ use Rattle.exact.proofs.DeBoor.{level, level-is, deboor, deboor-is, mon
 use Rattle.exact.proofs.Source.{cond-yes, cond-no}
 use Rattle.exact.proofs.Curve.{whole-curve}
 use Rattle.exact.proofs.Refined.{split}
-use Rattle.exact.proofs.Inserted.{mix-cong, mix-pos}
-use Rattle.exact.proofs.Insertion.{whole-cong, put-back}
+use Rattle.exact.proofs.Shares.{mix-cong, mix-pos}
+use Rattle.exact.proofs.OneKnot.{whole-cong, put-back}
 
 -- ---- de Casteljau's recursion
 

@@ -13,7 +13,7 @@ use Rattle.exact.proofs.Laws.{mul-inv}
 use Rattle.exact.proofs.Field.{qring, q-ring, q-combine, q-combine₂, pos-ne, div-is, ≤-<-trans, <-≤-trans, lt-sub}
 use Rattle.exact.proofs.DeBoor.{level, level-is, deboor, curve, deboor-is, wide}
 use Rattle.exact.proofs.Refined.{split, Refined, OldSpan, old-knots}
-use Rattle.exact.proofs.Inserted.{mix-cong, ins-low, ins-mid, ins-high}
+use Rattle.exact.proofs.Shares.{mix-cong, ins-low, ins-mid, ins-high}
 
 -- ---- the algebra of one place: t the parameter, x the new knot, a, b, c controls
 
@@ -116,7 +116,8 @@ module _ {U W : ℕ → ℚ} {k : ℕ} {x : ℚ} (R : Refined U W k x) {n s : �
         at-knots (U (suc j)) (U (j + suc q)) e f _ _
         (ap (inserted U x k (suc q) c) z ∙ ins-mid U x k (suc q) c l (omega arith) (omega arith)) (ins-mid U x k (suc q) c j (omega arith) (omega arith))
         ∙ ap
-        (λ m. mix ((t -q U (suc j)) *q inv (U (j + suc q) -q U (suc j))) (mix ((x -q U m) *q inv (U (m + suc q) -q U m)) (c l) (c m)) (mix ((x -q U (suc j)) *q inv (U (suc j + suc q) -q U (suc j))) (c j) (c (suc j))))
+        (λ m. mix ((t -q U (suc j)) *q inv (U (j + suc q) -q U (suc j))) (mix ((x -q U m) *q inv (U (m + suc q) -q U m)) (c l) (c m))
+        (mix ((x -q U (suc j)) *q inv (U (suc j + suc q) -q U (suc j))) (c j) (c (suc j))))
         (sym z)
         ∙ middle-place t x (U (suc j)) (U j) (U (j + suc q)) (c l) (c j) (c (suc j)) (inv (U (j + suc q) -q U (suc j))) (inv (U (j + suc q) -q U j)) (inv (U (suc j + suc q) -q U (suc j)))
         (width-at (U (suc j)) (U (j + suc q)) e f) (wider (omega arith) (omega arith))

@@ -1,9 +1,9 @@
 -- The exact point of a rational curve is what the source's bound works out, and its weight lies between the active weights. Assumes nothing.
 -- U, w, P are the knots, the weights and one coordinate of the points, by index; count the number of points; p the degree; s the span.
-use mathlib.Core.Path.{_≡_, refl, sym, _∙_, ap, ap₂, subst, fun-ext}
+use mathlib.Core.Path.{_≡_, sym, _∙_, ap, ap₂, subst}
 use mathlib.Core.Logic.{_≢_}
-use mathlib.Core.List.{List, [], _∷_}
-use Prim.Native.Nat.{ℕ, zero, suc, _+_, _-_, _≤_, _<_}
+use mathlib.Core.List.{[], _∷_}
+use Prim.Native.Nat.{ℕ, suc, _+_, _-_, _≤_, _<_}
 use native.Mathlib.Omega.{arith}
 use Rattle.exact.specs.Rational.{ℚ, _+q_, _-q_, _*q_, _/q_, q0, q1, _≤q_, _<q_}
 use Rattle.exact.specs.Spline.{Σq, basis, Knots, exact, quotient, whole}

@@ -10,7 +10,7 @@ use Rattle.exact.specs.Rational.{ℚ, q0, _≤q_, _<q_}
 use Rattle.exact.specs.Spline.{whole, exact}
 use Rattle.exact.specs.Boehm.{SpanOf, InSpan, InEnd, Insert, Fits, refinedAll, insertedAll, insertedPointAll, cut}
 use Rattle.exact.proofs.Local.{Near, whole-local, exact-local}
-use Rattle.exact.proofs.Insertions.{insertions-same, insertions-same-end}
+use Rattle.exact.proofs.SeveralKnots.{insertions-same, insertions-same-end}
 
 module _ (f : ℕ) (U : ℕ → ℚ) where
   moved : (b i : ℕ) (c : ℕ → ℚ) → cut f c (b + i) ≡ c (f + b + i)

@@ -3,7 +3,7 @@
 use mathlib.Core.Path.{_≡_, refl, sym, _∙_, ap, ap₂, subst}
 use mathlib.Core.Bool.{Bool, true, false, cond, not}
 use mathlib.Core.Logic.{_≢_}
-use mathlib.Core.List.{List, [], _∷_}
+use mathlib.Core.List.{[], _∷_}
 use Prim.Native.Nat.{ℕ, zero, suc, _+_, _-_, _≤_, _<_}
 use native.Mathlib.Nat.{add-suc, suc-add, add-zero}
 use native.Mathlib.Omega.{arith}
@@ -11,7 +11,8 @@ use lib.Dec.{T, eqb, eqb→eq, eqb-refl, leb, leb→le, nleb→lt, ltb, ltb→lt
 use Rattle.exact.specs.Rational.{ℚ, _+q_, _-q_, _*q_, _/q_, negq, inv, q0, q1, _≤q_, _<q_}
 use Rattle.exact.specs.Spline.{Σq, Knots, basis, fall, rise}
 use Rattle.exact.proofs.Laws.{mul-inv}
-use Rattle.exact.proofs.Field.{qring, q-ring, q-combine, q-combine₂, mul-zero, mul-one, div-eq, mul-ne-0, inv-ne-0, ≤-refl, ≤-trans, ≤-<-trans, <-≤-trans, lt-sub, le-sub, le-by, pos-ne, div-nonneg, div-le-1, add-nonneg, mul-nonneg, lt→le, q0<q1}
+use Rattle.exact.proofs.Field.{qring, q-ring, q-combine, q-combine₂, mul-zero, mul-one, div-eq, mul-ne-0, inv-ne-0, ≤-refl, ≤-trans, ≤-<-trans, <-≤-trans, lt-sub, le-sub}
+use Rattle.exact.proofs.Field.{le-by, pos-ne, div-nonneg, div-le-1, add-nonneg, mul-nonneg, lt→le, q0<q1}
 use Rattle.exact.proofs.Sum.{Σ-cong, Σ-shift, Σ-mul, Σ-add}
 
 -- the sum of the p + 1 functions from b, with coefficients c 0, .., c p

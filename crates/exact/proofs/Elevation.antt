@@ -13,7 +13,7 @@ use Rattle.exact.specs.Boehm.{SpanOf, InSpan, InEnd, Insert, Fits, refin
 use Rattle.exact.specs.Bernstein.{ends, Segment, raisedTo, raisedPoint}
 use Rattle.exact.proofs.Refined.{split}
 use Rattle.exact.proofs.Local.{Near, whole-local}
-use Rattle.exact.proofs.Insertions.{insertions-pos, insertions-same, insertions-same-end}
+use Rattle.exact.proofs.SeveralKnots.{insertions-pos, insertions-same, insertions-same-end}
 use Rattle.exact.proofs.Bernstein.{casteljau, casteljau-cong, casteljau-raisedTo, ends-segment, ends-whole, raised-back}
 
 -- a span of a curve whose knots are those of a segment is that segment

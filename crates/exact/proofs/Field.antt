@@ -2,16 +2,15 @@
 -- An identity is `q-ring (a ∷ b ∷ []) (search qring depth 20) tt`, where the list holds every atom: a variable, `inv x`, a call; at most 16.
 -- One that rests on an equation h : u ≡ v is `q-combine k h (q-ring ..)`, where x - y is k (u - v).
 -- An inequality x ≤ y is `le-by z (q-ring ..)`, with z : q0 ≤q e and the identity y - x ≡ e.
-use mathlib.Core.Path.{_≡_, refl, sym, _∙_, ap, ap₂, subst}
+use mathlib.Core.Path.{_≡_, refl, sym, _∙_, ap, subst}
 use mathlib.Core.Bool.{Bool, true, false, not, _&&_}
 use mathlib.Core.Logic.{_≢_, _⊎_, inl, inr, _↔_}
 use mathlib.Core.List.{List, [], _∷_}
-use Prim.Native.Nat.{ℕ, zero, suc}
+use Prim.Native.Nat.{ℕ}
 use lib.Dec.{T, T-prop}
-use lib.IntN.{ℤ, pos, negsuc}
+use lib.IntN.{ℤ}
 use Rattle.ring.specs.Ring as Ring
 use Rattle.ring.specs.Solved as Solved
-use Rattle.ring.specs.Ring.{CommRing}
 use Rattle.ring.specs.Solved.{atoms}
 use Rattle.ring.specs.Solved.{Re}
 use Rattle.ring.specs.Int.{_⊞_, _⊠_, ⊟_, den, nonneg, z0, z1, _∗_}

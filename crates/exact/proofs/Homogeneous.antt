@@ -15,7 +15,7 @@ use Rattle.exact.specs.Edit.{blendBy, raiseToBy, liftBy, lowerBy, insert
 use Rattle.exact.proofs.Laws.{mul-inv}
 use Rattle.exact.proofs.Field.{qring, q-ring, q-combine, mul-zero, div-is, div-zero, div-eq, div-nonneg, mul-ne-0, inv-ne-0, pos-ne, neg-ne, lt→le, lt-of-le-ne, le-or-lt, ≤-antisym}
 use Rattle.exact.proofs.Sum.{Σ-cong, Σ-mul}
-use Rattle.exact.proofs.Insertion.{whole-cong, weights-pos, insertion-same, insertion-same-end}
+use Rattle.exact.proofs.OneKnot.{whole-cong, weights-pos, insertion-same, insertion-same-end}
 use Rattle.exact.proofs.Bernstein.{raisedTo-pos}
 use Rattle.exact.proofs.Elevation.{elevate-same}
 use Rattle.exact.proofs.Scheme.{fractions}

@@ -1,12 +1,12 @@
 -- The source's jets: de Boor's recursion with derivatives, by the source's indices; and the exact first derivative of a rational curve. Assumes nothing.
-use mathlib.Core.Path.{_≡_, refl, sym, _∙_, ap, ap₂, subst, fun-ext}
-use mathlib.Core.Bool.{Bool, true, false, cond}
+use mathlib.Core.Path.{_≡_, sym, _∙_, ap, ap₂, fun-ext}
+use mathlib.Core.Bool.{cond}
 use mathlib.Core.Logic.{_≢_}
-use mathlib.Core.List.{List, [], _∷_}
+use mathlib.Core.List.{[], _∷_}
 use Prim.Native.Nat.{ℕ, zero, suc, _+_, _-_, _≤_, _<_}
 use native.Mathlib.Nat.{add-zero, zero-add}
 use native.Mathlib.Omega.{arith}
-use lib.Dec.{T, leb, leb→le, le→leb}
+use lib.Dec.{leb, leb→le, le→leb}
 use Rattle.exact.specs.Rational.{ℚ, _+q_, _-q_, _*q_, _/q_, negq, inv, q0, q1}
 use Rattle.exact.specs.Spline.{Σq, Knots, basis, whole, slope, dbasis, quotient, dexact, dwhole, exact}
 use Rattle.exact.proofs.Field.{qring, q-ring, q-combine, q-combine₂, zero-mul, mul-zero, inv-ne-0}

@@ -1,7 +1,7 @@
 -- ℚ as a commutative ring with a reciprocal and a sign. Assumes nothing.
-use std.Quotient.{cls, eq/, /-set, /-elim-prop, /-elim-prop₂, /-elim-prop₃}
+use std.Quotient.{eq/, /-set, /-elim-prop, /-elim-prop₂, /-elim-prop₃}
 use mathlib.Core.Path.{_≡_, refl, sym, _∙_, ap}
-use mathlib.Core.Bool.{Bool, not}
+use mathlib.Core.Bool.{not}
 use mathlib.Core.HLevel.{→-prop}
 use mathlib.Core.Logic.{_≢_}
 use mathlib.Core.List.{[], _∷_}

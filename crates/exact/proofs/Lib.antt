@@ -7,10 +7,10 @@ pub mod Curve
 pub mod Refined
 pub mod Local
 pub mod Spans
-pub mod Inserted
+pub mod Shares
 pub mod Boehm
-pub mod Insertion
-pub mod Insertions
+pub mod OneKnot
+pub mod SeveralKnots
 pub mod Cut
 pub mod Bernstein
 pub mod Elevation

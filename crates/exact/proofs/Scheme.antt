@@ -1,15 +1,14 @@
 -- Worked over fractions, A2.2 gives the basis functions of the span and row 1 of A2.3 their first derivatives. Assumes nothing.
-use mathlib.Core.Path.{_≡_, refl, sym, _∙_, ap, ap₂, subst}
+use mathlib.Core.Path.{_≡_, refl, sym, _∙_, ap, ap₂}
 use mathlib.Core.Bool.{Bool, true, false, cond, not}
-use mathlib.Core.Logic.{_⊎_, inl, inr}
-use mathlib.Core.List.{List, [], _∷_}
+use mathlib.Core.List.{[], _∷_}
 use Prim.Native.Nat.{ℕ, zero, suc, _+_, _-_, min, max, _≤_, _<_}
 use native.Mathlib.Omega.{arith}
-use lib.Dec.{T, leb, ltb, eqb, ltb→lt, nltb→le, leb→le, le→leb, nleb→lt}
+use lib.Dec.{T, leb, ltb, ltb→lt, nltb→le, leb→le, le→leb}
 use Rattle.exact.specs.Rational.{ℚ, _+q_, _-q_, _*q_, _/q_, negq, inv, q0, q1, _≤q_, ofℕ}
 use Rattle.exact.specs.Spline.{rise, fall, slope, basis, dbasis}
-use Rattle.exact.specs.Scheme.{Arithmetic, widthOf, shareOf, carryOf, partOf, nextOf, basisOf, tableOf, numOf, coefOf, termOf, sumOf, startOf, derOf, rowOf, derivativeOf, factorOf, dersOf}
-use Rattle.exact.proofs.Field.{qring, q-ring, q-combine, q-combine₂, mul-zero, div-is}
+use Rattle.exact.specs.Scheme.{Arithmetic, widthOf, shareOf, carryOf, partOf, nextOf, basisOf, tableOf, termOf, sumOf, startOf, derOf, rowOf, derivativeOf, factorOf, dersOf}
+use Rattle.exact.proofs.Field.{qring, q-ring, q-combine, q-combine₂, mul-zero}
 use Rattle.exact.proofs.DeBoor.{basis-suc, basis-one, basis-low, basis-high}
 use Rattle.exact.proofs.Deriv.{formula, dbasis-formula}
 

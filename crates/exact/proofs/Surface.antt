@@ -1,8 +1,8 @@
 -- Surfaces: sums of products of basis functions along u and v, and the source's net of nets. Assumes nothing.
 use mathlib.Core.Path.{_≡_, refl, sym, _∙_, ap, ap₂, subst, fun-ext}
 use mathlib.Core.Logic.{_≢_}
-use mathlib.Core.List.{List, [], _∷_}
-use Prim.Native.Nat.{ℕ, zero, suc, _+_, _≤_, _<_, zero-le}
+use mathlib.Core.List.{[], _∷_}
+use Prim.Native.Nat.{ℕ, suc, _+_, _≤_, _<_, zero-le}
 use Rattle.exact.specs.Rational.{ℚ, _+q_, _-q_, _*q_, _/q_, negq, inv, q0, q1, _≤q_, _<q_}
 use Rattle.exact.specs.Spline.{Σq, basis, Knots, whole, dbasis, quotient, dwhole, exact}
 use Rattle.exact.specs.Surface.{exact₂, sum₂, whole₂, dexact₂u, dexact₂v}

@@ -14,7 +14,7 @@ use Rattle.exact.specs.Edit.{mixOf, blendBy, raiseBy, raiseToBy}
 use Rattle.exact.proofs.Field.{qring, q-ring, div-is}
 use Rattle.exact.proofs.Source.{cond-yes, cond-no}
 use Rattle.exact.proofs.Refined.{split}
-use Rattle.exact.proofs.Inserted.{ins-low, ins-mid, ins-high, ins-multiple, mix-cong}
+use Rattle.exact.proofs.Shares.{ins-low, ins-mid, ins-high, ins-multiple, mix-cong}
 use Rattle.exact.proofs.Scheme.{fractions}
 
 leb-no : (i j : ℕ) → j < i → T (leb i j) → ⊥

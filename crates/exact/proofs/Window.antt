@@ -1,14 +1,14 @@
 -- The derivative on a span has only the 2 p knots and the p + 1 controls around it, as the sum has. And a window of knots: what stands outside it, and does not count, put in order. Assumes nothing.
 -- U and W are the knots of two curves, s and s′ a span of each, b and b′ the first active control there.
-use mathlib.Core.Path.{_≡_, refl, sym, _∙_, ap, ap₂, subst}
+use mathlib.Core.Path.{_≡_, refl, sym, _∙_, ap, ap₂}
 use mathlib.Core.Bool.{Bool, true, false, not, cond}
 use mathlib.Core.Logic.{⊎-elim}
 use Prim.Native.Nat.{ℕ, zero, suc, _+_, _-_, _≤_, _<_}
-use native.Mathlib.Nat.{add-suc, suc-add, add-zero}
+use native.Mathlib.Nat.{add-suc, suc-add}
 use native.Mathlib.Omega.{arith}
 use lib.Dec.{T, leb, leb→le, nleb→lt}
 use Rattle.exact.specs.Rational.{ℚ, _+q_, _-q_, _*q_, negq, inv, q0, _≤q_, _<q_}
-use Rattle.exact.specs.Spline.{Knots, slope, rise, fall, basis, dbasis, whole, dwhole, quotient, dexact}
+use Rattle.exact.specs.Spline.{Knots, slope, rise, fall, basis, dbasis, dwhole, dexact}
 use Rattle.exact.proofs.Sum.{Σ-cong}
 use Rattle.exact.proofs.DeBoor.{basis-low, basis-high, mono-of-steps}
 use Rattle.exact.proofs.Deriv.{dbasis-suc, dbasis-low, dbasis-high, dcurve}
@@ -108,6 +108,7 @@ module _ (U : ℕ → ℚ) (c d : ℕ) where
   pub window-knots : ((i : ℕ) → i < d → U (c + i) ≤q U (c + suc i)) → (n s : ℕ) → c ≤ s → s < c + d → U s <q U (suc s) → Knots window n s
   unfolding window
   window-knots steps n s h l gap = record {
-    mono = λ i j m k. mono-of-steps (λ i. U (c + i)) (suc d) (λ i m. steps i (omega arith)) (least (i - c) d) (least (j - c) d) (least-mono (i - c) (j - c) d (omega arith)) (let x = least-le (j - c) d in omega arith);
+    mono = λ i j m k. mono-of-steps (λ i. U (c + i)) (suc d) (λ i m. steps i (omega arith)) (least (i - c) d) (least (j - c) d) (least-mono (i - c) (j - c) d (omega arith))
+        (let x = least-le (j - c) d in omega arith);
     gap = rw (window-is s h (omega arith), window-is (suc s) (omega arith) (omega arith)) gap;
   }

@@ -1,9 +1,9 @@
 -- Worked numbers, by computation: table A has degree 2, knots 0 0 0 1 2 2 2 and x = 0 2 4 6. Assumes nothing.
 use mathlib.Core.Path.{_≡_, refl}
-use mathlib.Core.List.{List, [], _∷_}
+use mathlib.Core.List.{[], _∷_}
 use Prim.Native.Nat.{ℕ, zero, suc, _<_}
 use native.Mathlib.Omega.{arith}
-use lib.IntN.{ℤ, pos, negsuc}
+use lib.IntN.{pos, negsuc}
 use lib.ListN.{getD}
 use Rattle.exact.specs.Rational.{ℚ, frac, q1, _≤q_, ofℕ}
 use Rattle.exact.specs.Spline.{basis, Knots, exact, dbasis, ddbasis, dexact}

@@ -3,7 +3,6 @@ use crate::tables::packed;
 use interval::Interval;
 use knots::clear::clear;
 use knots::refusal::Refusal;
-ghost use mathlib.Core.Path.{_≡_};
 ghost use mathlib.Core.List.{_∷_, []};
 ghost use Rattle.interval.specs.Numbers.{endsOnto};
 ghost use Rattle.exports.specs.Answer.{Leaves, refused, told, values};

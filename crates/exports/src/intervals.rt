@@ -10,7 +10,7 @@ use interval::Quotient;
 use interval::Sign;
 ghost use mathlib.Core.Path.{_≡_};
 ghost use mathlib.Core.List.{_∷_, []};
-ghost use Rattle.interval.specs.Ops.{entire, newOf, pointOf, widthOf, hullOf, sqrOf, addOf, subOf, mulOf, negOf, divideOf, signOf};
+ghost use Rattle.interval.specs.Ops.{entire, newOf, pointOf, widthOf, hullOf, sqrOf, addOf, subOf, mulOf, negOf, divideOf};
 ghost use Rattle.exports.specs.Answer.{Leaves, values};
 ghost use Rattle.exports.specs.Intervals.{operationOf, ends, newAnswer, quotientAnswer, onNew, onBoth, bothOf, signNumber, insideNumber};
 

@@ -1,5 +1,6 @@
 -- A method of the curve, and the function above it: the function takes the curve's fields as parameters, and both take k doubles beside.
--- They promise the same of the fields, so nothing here looks at a promise: what the method is given at entry is what the function asks, and what the function gives at its return is what the method gives.
+-- They promise the same of the fields, so nothing here looks at a promise: what the method is given at entry is what the function asks, and what the function gives at its return
+-- is what the method gives.
 --     floats k, Floats k       k parameters that are doubles, and their values
 --     held k R, apart k R      the method's signature and the function's, R the result's type
 --     Promise k R              what is said of the curve, the doubles and the result.        Held, Apart      it, as the contract of either

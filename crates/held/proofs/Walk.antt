@@ -50,14 +50,16 @@ away : {M : Type 1} {𝓤 : URA M} {H : Heap 𝓤} {A : Atoms 𝓤} {K : Type 0}
     → Step K W Γ (frees E g) (‵ (fat fullShare τ b zero v) ∷ ‵ (fdies τ b) ∷ Γ) (frees ((τ, b) ∷ E) g)
 away t = step (λ s. forget t 0 refl $ free1 t $ s)
 
-module _ (R : RattleType) (τ : Ty) (f : Name) {M : Type 1} (𝓤 : URA M) (H : Heap 𝓤) (A : Atoms 𝓤) (W : Given 𝓤 H A) (typed : (r : R .Denot) (u : Val) → Is R r (u ∷ []) → Holds (hasTy τ u) × WT u) (C : Calls 𝓤 H) (Λ : Loops 𝓤 H) (fm : FmC 𝓤 H (W .laws) C) where
+module _ (R : RattleType) (τ : Ty) (f : Name) {M : Type 1} (𝓤 : URA M) (H : Heap 𝓤) (A : Atoms 𝓤) (W : Given 𝓤 H A)
+    (typed : (r : R .Denot) (u : Val) → Is R r (u ∷ []) → Holds (hasTy τ u) × WT u) (C : Calls 𝓤 H) (Λ : Loops 𝓤 H) (fm : FmC 𝓤 H (W .laws) C) where
   module _ (k : ℕ) (P : Promise k R 𝓤 H A) where
     abbrev Known : Type 1
     Known = Triple 𝓤 (C f) (Apart k R 𝓤 H A P)
 
     -- the code runs through, at a curve and k doubles
     abbrev Through : Type 1
-    Through = (κs : Lfts 1) (qs : Shares 1) (d : Curve) (xs : Floats k κs) → Holds (hasTy (T′.mir (named 0)) (T′.lowered d)) × WT (T′.lowered d) → Are (typesAt (floats k) κs) (Ises (typesAt (floats k) κs)) xs (low k κs xs)
+    Through = (κs : Lfts 1) (qs : Shares 1) (d : Curve) (xs : Floats k κs) → Holds (hasTy (T′.mir (named 0)) (T′.lowered d)) × WT (T′.lowered d) → Are (typesAt (floats k) κs)
+        (Ises (typesAt (floats k) κs)) xs (low k κs xs)
         → ent 𝓤 (Entry k R 𝓤 H A P W κs qs d xs) (WpFn 𝓤 H C Λ (code k τ f) (T′.lowered d ∷ flat (typesAt (floats k) κs) (low k κs xs)) (Held k R 𝓤 H A P .post (here k R 𝓤 H A P W κs qs d xs)))
 
     meets : Through → Triple 𝓤 (WpFn 𝓤 H C Λ (code k τ f)) (Held k R 𝓤 H A P)
@@ -91,10 +93,15 @@ module _ (R : RattleType) (τ : Ty) (f : Name) {M : Type 1} (𝓤 : URA M) (H : 
       assigns ! (of-opd ! (load ! (from ! (fld ! refl (stop !))) (look-in ! 10 (sub ! 2 refl (whole !))))) (from ! (stop !)) (init ! 4 refl (tt, wt .1 .1 .1 .0)) $
       assigns ! (of-opd ! (load ! (from ! (fld ! refl (stop !))) (look-in ! 10 (sub ! 3 refl (whole !))))) (from ! (stop !)) (init ! 2 refl (tt, wt .1 .1 .1 .1 .0)) $
       assigns ! (of-opd ! (load ! (from ! (fld ! refl (stop !))) (look-in ! 10 (sub ! 4 refl (whole !))))) (from ! (stop !)) (init ! 0 refl (tt, wt .1 .1 .1 .1 .1 .0)) $
-      move ! (14 ∷ []) $ called 0 P known κs qs d xs ! (and-then ! (load ! (from ! (stop !)) (look ! 9 refl)) (and-then ! (load ! (from ! (stop !)) (look ! 7 refl)) (and-then ! (load ! (from ! (stop !)) (look ! 5 refl)) (and-then ! (load ! (from ! (stop !)) (look ! 3 refl)) (and-then ! (load ! (from ! (stop !)) (look ! 1 refl)) (no-more !)))))) (λ u r wu.
+      move ! (14 ∷ []) $ called 0 P known κs qs d xs !
+      (and-then ! (load ! (from ! (stop !)) (look ! 9 refl))
+      (and-then ! (load ! (from ! (stop !)) (look ! 7 refl))
+      (and-then ! (load ! (from ! (stop !)) (look ! 5 refl))
+      (and-then ! (load ! (from ! (stop !)) (look ! 3 refl)) (and-then ! (load ! (from ! (stop !)) (look ! 1 refl)) (no-more !)))))) (λ u r wu.
       -- [the result; the token; what the function says; _6; …; _1; …; room for _0; …]
       land ! (from ! (stop !)) (init ! 15 refl wu) $ returns ! (look ! 15 refl) $
-      move ! (15 ∷ 16 ∷ []) $ away ! $ move ! (13 ∷ 14 ∷ []) $ away ! $ move ! (11 ∷ 12 ∷ []) $ away ! $ move ! (9 ∷ 10 ∷ []) $ away ! $ move ! (7 ∷ 8 ∷ []) $ away ! $ move ! (5 ∷ 6 ∷ []) $ away ! $ move ! (3 ∷ 4 ∷ []) $ away ! $ free0 ! $ by ! (ends 0 R 𝓤 H A P W κs qs d xs r u)))))))))
+      move ! (15 ∷ 16 ∷ []) $ away ! $ move ! (13 ∷ 14 ∷ []) $ away ! $ move ! (11 ∷ 12 ∷ []) $ away ! $ move ! (9 ∷ 10 ∷ []) $ away ! $ move ! (7 ∷ 8 ∷ []) $ away ! $ move !
+      (5 ∷ 6 ∷ []) $ away ! $ move ! (3 ∷ 4 ∷ []) $ away ! $ free0 ! $ by ! (ends 0 R 𝓤 H A P W κs qs d xs r u)))))))))
 
   one : (P : Promise 1 R 𝓤 H A) → Known 1 P → Through 1 P
   one P known κs qs d xs wt are =
@@ -106,10 +113,16 @@ module _ (R : RattleType) (τ : Ty) (f : Name) {M : Type 1} (𝓤 : URA M) (H : 
       assigns ! (of-opd ! (load ! (from ! (fld ! refl (stop !))) (look-in ! 12 (sub ! 2 refl (whole !))))) (from ! (stop !)) (init ! 4 refl (tt, wt .1 .1 .1 .0)) $
       assigns ! (of-opd ! (load ! (from ! (fld ! refl (stop !))) (look-in ! 12 (sub ! 3 refl (whole !))))) (from ! (stop !)) (init ! 2 refl (tt, wt .1 .1 .1 .1 .0)) $
       assigns ! (of-opd ! (load ! (from ! (fld ! refl (stop !))) (look-in ! 12 (sub ! 4 refl (whole !))))) (from ! (stop !)) (init ! 0 refl (tt, wt .1 .1 .1 .1 .1 .0)) $
-      move ! (16 ∷ []) $ called 1 P known κs qs d xs ! (and-then ! (load ! (from ! (stop !)) (look ! 9 refl)) (and-then ! (load ! (from ! (stop !)) (look ! 7 refl)) (and-then ! (load ! (from ! (stop !)) (look ! 5 refl)) (and-then ! (load ! (from ! (stop !)) (look ! 3 refl)) (and-then ! (load ! (from ! (stop !)) (look ! 1 refl)) (and-then ! (load ! (from ! (stop !)) (look ! 11 refl)) (no-more !))))))) (λ u r wu.
+      move ! (16 ∷ []) $ called 1 P known κs qs d xs !
+      (and-then ! (load ! (from ! (stop !)) (look ! 9 refl))
+      (and-then ! (load ! (from ! (stop !)) (look ! 7 refl))
+      (and-then ! (load ! (from ! (stop !)) (look ! 5 refl))
+      (and-then ! (load ! (from ! (stop !)) (look ! 3 refl))
+      (and-then ! (load ! (from ! (stop !)) (look ! 1 refl)) (and-then ! (load ! (from ! (stop !)) (look ! 11 refl)) (no-more !))))))) (λ u r wu.
       -- [the result; the token; what the function says; _7; …; _1; …; room for _0; …]
       land ! (from ! (stop !)) (init ! 17 refl wu) $ returns ! (look ! 17 refl) $
-      move ! (17 ∷ 18 ∷ []) $ away ! $ move ! (15 ∷ 16 ∷ []) $ away ! $ move ! (13 ∷ 14 ∷ []) $ away ! $ move ! (11 ∷ 12 ∷ []) $ away ! $ move ! (9 ∷ 10 ∷ []) $ away ! $ move ! (7 ∷ 8 ∷ []) $ away ! $ move ! (5 ∷ 6 ∷ []) $ away ! $ move ! (3 ∷ 4 ∷ []) $ away ! $ free0 ! $ by ! (ends 1 R 𝓤 H A P W κs qs d xs r u))))))))))
+      move ! (17 ∷ 18 ∷ []) $ away ! $ move ! (15 ∷ 16 ∷ []) $ away ! $ move ! (13 ∷ 14 ∷ []) $ away ! $ move ! (11 ∷ 12 ∷ []) $ away ! $ move ! (9 ∷ 10 ∷ []) $ away ! $ move !
+      (7 ∷ 8 ∷ []) $ away ! $ move ! (5 ∷ 6 ∷ []) $ away ! $ move ! (3 ∷ 4 ∷ []) $ away ! $ free0 ! $ by ! (ends 1 R 𝓤 H A P W κs qs d xs r u))))))))))
 
   two : (P : Promise 2 R 𝓤 H A) → Known 2 P → Through 2 P
   two P known κs qs d xs wt are =
@@ -121,10 +134,17 @@ module _ (R : RattleType) (τ : Ty) (f : Name) {M : Type 1} (𝓤 : URA M) (H : 
       assigns ! (of-opd ! (load ! (from ! (fld ! refl (stop !))) (look-in ! 14 (sub ! 2 refl (whole !))))) (from ! (stop !)) (init ! 4 refl (tt, wt .1 .1 .1 .0)) $
       assigns ! (of-opd ! (load ! (from ! (fld ! refl (stop !))) (look-in ! 14 (sub ! 3 refl (whole !))))) (from ! (stop !)) (init ! 2 refl (tt, wt .1 .1 .1 .1 .0)) $
       assigns ! (of-opd ! (load ! (from ! (fld ! refl (stop !))) (look-in ! 14 (sub ! 4 refl (whole !))))) (from ! (stop !)) (init ! 0 refl (tt, wt .1 .1 .1 .1 .1 .0)) $
-      move ! (18 ∷ []) $ called 2 P known κs qs d xs ! (and-then ! (load ! (from ! (stop !)) (look ! 9 refl)) (and-then ! (load ! (from ! (stop !)) (look ! 7 refl)) (and-then ! (load ! (from ! (stop !)) (look ! 5 refl)) (and-then ! (load ! (from ! (stop !)) (look ! 3 refl)) (and-then ! (load ! (from ! (stop !)) (look ! 1 refl)) (and-then ! (load ! (from ! (stop !)) (look ! 13 refl)) (and-then ! (load ! (from ! (stop !)) (look ! 11 refl)) (no-more !)))))))) (λ u r wu.
+      move ! (18 ∷ []) $ called 2 P known κs qs d xs !
+      (and-then ! (load ! (from ! (stop !)) (look ! 9 refl))
+      (and-then ! (load ! (from ! (stop !)) (look ! 7 refl))
+      (and-then ! (load ! (from ! (stop !)) (look ! 5 refl))
+      (and-then ! (load ! (from ! (stop !)) (look ! 3 refl))
+      (and-then ! (load ! (from ! (stop !)) (look ! 1 refl))
+      (and-then ! (load ! (from ! (stop !)) (look ! 13 refl)) (and-then ! (load ! (from ! (stop !)) (look ! 11 refl)) (no-more !)))))))) (λ u r wu.
       -- [the result; the token; what the function says; _8; …; _1; …; room for _0; …]
       land ! (from ! (stop !)) (init ! 19 refl wu) $ returns ! (look ! 19 refl) $
-      move ! (19 ∷ 20 ∷ []) $ away ! $ move ! (17 ∷ 18 ∷ []) $ away ! $ move ! (15 ∷ 16 ∷ []) $ away ! $ move ! (13 ∷ 14 ∷ []) $ away ! $ move ! (11 ∷ 12 ∷ []) $ away ! $ move ! (9 ∷ 10 ∷ []) $ away ! $ move ! (7 ∷ 8 ∷ []) $ away ! $ move ! (5 ∷ 6 ∷ []) $ away ! $ move ! (3 ∷ 4 ∷ []) $ away ! $ free0 ! $ by ! (ends 2 R 𝓤 H A P W κs qs d xs r u)))))))))))
+      move ! (19 ∷ 20 ∷ []) $ away ! $ move ! (17 ∷ 18 ∷ []) $ away ! $ move ! (15 ∷ 16 ∷ []) $ away ! $ move ! (13 ∷ 14 ∷ []) $ away ! $ move ! (11 ∷ 12 ∷ []) $ away ! $ move !
+      (9 ∷ 10 ∷ []) $ away ! $ move ! (7 ∷ 8 ∷ []) $ away ! $ move ! (5 ∷ 6 ∷ []) $ away ! $ move ! (3 ∷ 4 ∷ []) $ away ! $ free0 ! $ by ! (ends 2 R 𝓤 H A P W κs qs d xs r u)))))))))))
 
   walk : (k : ℕ) → Few k → (P : Promise k R 𝓤 H A) → Known k P → Through k P
   walk zero few = none

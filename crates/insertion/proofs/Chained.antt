@@ -1,6 +1,6 @@
 -- Insertions one after the other into a curve that stands in a run: what the calls answer and leave is what the fold says.
 -- Assumes nothing.
-use Prim.Native.Nat.{ℕ, _+_, _-_, _*_, _≤_}
+use Prim.Native.Nat.{ℕ, _+_, _*_, _≤_}
 use mathlib.Core.Bool.{Bool, true, false, cond}
 use mathlib.Core.Path.{_≡_, refl, sym, _∙_, ap, subst}
 use mathlib.Core.List.{List, [], _∷_}
@@ -28,7 +28,7 @@ use Rattle.edits.proofs.IntoRun.{knots-back, points-back, weights-back}
 use Rattle.insertion.proofs.Outputs.{goal-is}
 use Rattle.edits.proofs.RunWithCurve.{laid-long, laid-in, laid-laid}
 use Rattle.edits.proofs.WorkCalls.{work-fits}
-use Rattle.insertion.proofs.Made.{made}
+use Rattle.insertion.proofs.ListResult.{made}
 
 abbrev refusalNumber : Outcome → ℕ
 refusalNumber (gives ks ps ws) = 0

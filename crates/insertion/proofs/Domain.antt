@@ -1,4 +1,5 @@
--- Where a knot goes that is not refused; and its insertion keeps the ends of the domain. So 13 of a later knot of a list says the same of the first curve's domain, by which the source tests every knot.
+-- Where a knot goes that is not refused; and its insertion keeps the ends of the domain. So 13 of a later knot of a list says the same of the first curve's domain, by which the
+-- source tests every knot.
 -- Assumes nothing.
 use Prim.Native.Nat.{ℕ, _+_}
 use mathlib.Core.Bool.{Bool, true}
@@ -17,7 +18,7 @@ use Rattle.runs.proofs.Tabulated.{at-tabulate}
 use Rattle.edits.specs.Counts.{multiplicityOf}
 use Rattle.insertion.specs.Insert.{knotAt, moreKnots, spotRefusal, formRefusal, insertedKnots, insertRefusal}
 use Rattle.insertion.proofs.Storing.{knot-low, knot-high}
-use Rattle.insertion.proofs.Formed.{spot-open}
+use Rattle.insertion.proofs.OneInsertion.{spot-open}
 
 -- where a knot that is not refused goes
 pub record Spot (p n : ℕ) (ks : List Float) (t : Float) : Type 0 where

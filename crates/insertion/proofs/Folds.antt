@@ -27,7 +27,7 @@ use Rattle.edits.specs.Outcome.{Outcome, gives, refuses}
 use Rattle.edits.specs.Work.{knotsFrom, pointsFrom, weightsFrom}
 use Rattle.edits.specs.Passes.{Untouched, Outside}
 use Rattle.insertion.specs.Passes.{Inserted, ListMeets}
-use Rattle.insertion.proofs.Formed.{untouched-less, outside-less}
+use Rattle.insertion.proofs.OneInsertion.{untouched-less, outside-less}
 
 -- ---- what an insertion that is not refused forms
 module _ (p n : ℕ) (ks ps : List Float) (g : Bool) (ws : List Float) (t : Float) where

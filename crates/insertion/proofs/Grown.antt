@@ -10,7 +10,7 @@ use lib.ListN.{length}
 use lib.Ieee.{Float, binary64, sub, lt, le, eq}
 use lib.Ieee.Scale.{finite}
 use Rattle.doubles.specs.Run.{at}
-use Rattle.doubles.proofs.Tested.{lt-asym, ge-trans, lt-ge-trans, ge-lt-trans, le-gives, ge-le}
+use Rattle.doubles.proofs.TestedOrder.{lt-asym, ge-trans, lt-ge-trans, ge-lt-trans, le-gives, ge-le}
 use Rattle.knots.specs.Knots.{ValidKnots}
 use Rattle.knots.specs.Curve.{controlRefusal, formedRefusal}
 use Rattle.knots.specs.Span.{SpanAt}

@@ -14,7 +14,7 @@ use lib.Dec.{eqb}
 use lib.Ieee.{Float, nan, inf, fin, below, level, lt, le, eq}
 use lib.Ieee.Scale.{finite}
 use Rattle.doubles.specs.Run.{at}
-use Rattle.doubles.proofs.Tested.{lt-irrefl, lt-trans, ge-trans, lt-ge-trans, ge-lt-trans, le-is}
+use Rattle.doubles.proofs.TestedOrder.{lt-irrefl, lt-trans, ge-trans, lt-ge-trans, ge-lt-trans, le-is}
 use Rattle.knots.specs.Knots.{ValidKnots}
 use Rattle.knots.proofs.Below.{and-left, and-right, and-false-l, and-false-r, all-at}
 use Rattle.knots.proofs.Valid.{sorted}

@@ -23,11 +23,11 @@ use Rattle.insertion.specs.Insert.{moreKnots, inside, spotRefusal, lifte
 use Rattle.insertion.specs.Fold.{insertAll}
 use Rattle.edits.specs.Outcome.{refuses}
 use Rattle.insertion.proofs.Grown.{grown-valid, controls-left}
-use Rattle.insertion.proofs.Forming.{points-left}
-use Rattle.insertion.proofs.Formed.{spot-open}
+use Rattle.insertion.proofs.InsertionParts.{points-left}
+use Rattle.insertion.proofs.OneInsertion.{spot-open}
 use Rattle.insertion.proofs.Folds.{inserted-valid}
 use Rattle.insertion.proofs.KnotCounts.{eq-self}
-use Rattle.insertion.proofs.Made.{AllInside, countIn, each-map, by-number, others, one-front, one-back, one-counts}
+use Rattle.insertion.proofs.ListResult.{AllInside, countIn, each-map, by-number, others, one-front, one-back, one-counts}
 
 -- ---- what is refused once a knot's place is found: 8, 19, 20
 pub record Late (r : Refusal) : Type 0 where

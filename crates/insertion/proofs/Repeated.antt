@@ -9,7 +9,7 @@ use lib.ListN.{length, replicate, length-replicate, length-append, replicate-app
 use lib.Ieee.{Float, lt, le, eq}
 use lib.Ieee.Scale.{finite}
 use Rattle.doubles.specs.Run.{at}
-use Rattle.doubles.proofs.Tested.{lt-irrefl, lt-asym, lt-trans, le-is}
+use Rattle.doubles.proofs.TestedOrder.{lt-irrefl, lt-asym, lt-trans, le-is}
 use Rattle.knots.specs.Knots.{ValidKnots}
 use Rattle.knots.specs.declared.refusal.Refusal.{Refusal}
 use Rattle.knots.proofs.Below.{and-true}
@@ -19,8 +19,10 @@ use Rattle.insertion.specs.Insert.{inside}
 use Rattle.insertion.specs.Fold.{insertAll}
 use Rattle.edits.specs.Outcome.{gives, refuses}
 use Rattle.edits.specs.Start.{clampedEnds}
-use Rattle.insertion.proofs.KnotCounts.{gt-not-eq, lt-not-eq, eq-finite, eq-self, eq-lt-left, level-eq, not-both, refuted, multiplicity-same, multiplicity-most, multiplicity-low, multiplicity-high}
-use Rattle.insertion.proofs.Made.{AllInside, countIn, each-append, each-replicate, count-append, count-replicate, andThen, insert-append, made, made-multiplicity, made-below, made-low, made-high, made-clamped}
+use Rattle.insertion.proofs.KnotCounts.{gt-not-eq, lt-not-eq, eq-finite, eq-self, eq-lt-left, level-eq, not-both, refuted, multiplicity-same, multiplicity-most}
+use Rattle.insertion.proofs.KnotCounts.{multiplicity-low, multiplicity-high}
+use Rattle.insertion.proofs.ListResult.{AllInside, countIn, each-append, each-replicate, count-append, count-replicate, andThen, insert-append, made, made-multiplicity}
+use Rattle.insertion.proofs.ListResult.{made-below, made-low, made-high, made-clamped}
 use Rattle.insertion.proofs.Never.{Late, inside-finite, late}
 
 -- ---- room

@@ -46,7 +46,7 @@ fn blend_at(spot: Spot, a: usize, rows: &[f64], i: usize, before: Control, here:
     before
 }
 
-// The rows of n controls become those of the n + 1 points with a knot more: 20 at the first control that it is for, else 8 where a coordinate is not finite.
+// The rows of n controls become those of the n + 1 points with a knot more: 20 at the first control that it is for, else 8 where a coordinate is not finite. A row is lent alone, so that the compiler sees that it is whole.
 pub fn lower_rows(
     spot: Spot,
     n: usize,
@@ -64,14 +64,16 @@ pub fn lower_rows(
     let mut before = row_at(rational, rows, 0);
     let mut i = 0usize;
     while i <= n {
-        let here = row_at(rational, rows, i);
+        let at = i * 4;
+        let end = at + 4;
+        let here = row_at(rational, &rows[at..end], 0);
         let q = blend_at(spot, a, rows, i, before, here);
         if !is_blended(q) {
             return refuse(20);
         }
         let v = lower_of(o, q);
         fine = fine & finite_vector(v);
-        put_row(rational, rows, i, kept_row(v, q.w));
+        put_row(rational, &mut rows[at..end], 0, kept_row(v, q.w));
         before = here;
         i += 1;
     }

@@ -9,7 +9,7 @@ use lib.Ieee.{Float, nan, inf, fin, up, down, neg, lt, le, eq, isNan}
 use lib.Ieee.Fits.{and-i}
 use Rattle.doubles.specs.Neighbour.{fabs}
 use Rattle.doubles.specs.Value.{Number, zero+, _⊑_}
-use Rattle.doubles.proofs.Tests.{Tn-of, neg-neg}
+use Rattle.doubles.proofs.TestFacts.{Tn-of, neg-neg}
 use Rattle.doubles.proofs.Order.{le-is, ⊑-trans}
 use Rattle.doubles.proofs.Products.{number-neg}
 use Rattle.doubles.proofs.Symmetric.{turn-over}

@@ -1,16 +1,16 @@
 -- For any fractions inside the operands the exact result is inside the computed interval. Assumes nothing.
-use mathlib.Core.Path.{_≡_, refl, sym, ap, _∙_, subst}
+use mathlib.Core.Path.{_≡_, sym, _∙_, subst}
 use mathlib.Core.Bool.{Bool, true, false, not, _&&_, _||_, cond}
-use mathlib.Core.Logic.{_⊎_, inl, inr, _≢_}
+use mathlib.Core.Logic.{_⊎_, inl, inr}
 use lib.Dec.{T}
-use lib.Ieee.{Float, nan, inf, fin, binary64, isNan, fits, lt, le, eq, add, sub, mul, div, neg}
+use lib.Ieee.{Float, nan, inf, fin, binary64, isNan, fits, lt, le, eq, mul, div}
 use lib.Ieee.Fits.{mul-fits, div-fits, and-l, and-r}
 use lib.Ieee.Scale.{finite}
 use Rattle.exact.specs.Rational.{ℚ, _+q_, _-q_, _*q_, _/q_, negq, inv, q0, _≤q_, _<q_}
 use Rattle.exact.proofs.Field.{div-is, not-both, ≤-antisym, ≤-trans}
-use Rattle.doubles.specs.Value.{zero+, one+, val, Lower, Upper, Number, _⊑_}
+use Rattle.doubles.specs.Value.{zero+, one+, val, Lower, Upper, Number}
 use Rattle.doubles.specs.Neighbour.{nextUp, nextDown, fmin, fmax, least4, greatest4}
-use Rattle.doubles.proofs.Tests.{yes-or-no}
+use Rattle.doubles.proofs.TestFacts.{yes-or-no}
 use Rattle.doubles.proofs.Value.{val-zero, val-lt}
 use Rattle.doubles.proofs.Order.{le-is, le-left, le-right, le-not, val-eq}
 use Rattle.doubles.proofs.Enclose.{lower-neg, upper-neg}

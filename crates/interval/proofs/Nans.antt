@@ -4,7 +4,7 @@ use mathlib.Core.Path.{_≡_, refl, sym, _∙_}
 use mathlib.Core.Bool.{true, false, not}
 use lib.Dec.{T}
 use lib.Ieee.{Float, nan, inf, fin, binary64, div, ne, isNan, ofBits, toBits}
-use Rattle.doubles.proofs.Tests.{Tn-of, ne-self}
+use Rattle.doubles.proofs.TestFacts.{Tn-of, ne-self}
 
 pub only-nan : (x : Float) → isNan x ≡ true → nan ≡ x
 unfolding isNan

@@ -6,7 +6,7 @@ use lib.Ieee.{Float, binary64, neg, lt, isNan, fits, add, mul}
 use lib.Ieee.Fits.{neg-fits, add-fits, mul-fits}
 use Rattle.doubles.specs.Neighbour.{nextUp, nextDown, least4, greatest4, downFrom}
 use Rattle.doubles.specs.Value.{Number}
-use Rattle.doubles.proofs.Tests.{T-of, Tn-of, neg-neg}
+use Rattle.doubles.proofs.TestFacts.{T-of, Tn-of, neg-neg}
 use Rattle.doubles.proofs.Neighbour.{neg-nan, neg-lt}
 use Rattle.doubles.proofs.Extremes.{Four}
 use Rattle.doubles.proofs.Products.{mul-neg, number-neg}

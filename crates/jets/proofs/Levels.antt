@@ -10,7 +10,7 @@ use lib.ListN.{length, getD, set, length-set}
 use lib.Seq.{getD-set-same, getD-set-other}
 use lib.Ieee.{Float}
 use borrow.Author.Tests.{le-leb, lt-leb}
-use Rattle.doubles.proofs.Tests.{yes-or-no}
+use Rattle.doubles.proofs.TestFacts.{yes-or-no}
 use Rattle.doubles.specs.Value.{one+}
 use Rattle.interval.specs.Ops.{divideOf, pointOf, subOf}
 use Rattle.interval.specs.declared.Quotient.{Quotient}
@@ -21,7 +21,8 @@ use Rattle.jets.specs.declared.jet.JetAnswer.the-variants as F
 use Rattle.jets.specs.declared.net.Control.{Control}
 use Rattle.jets.specs.declared.net.NetAnswer.{NetAnswer}
 use Rattle.jets.specs.declared.net.NetAnswer.the-variants as N
-use Rattle.jets.specs.Net.{shareBy, shareOf, shareAt, mixBy, neighbours, refusedBy, orElse, levelOf, refusalFrom, netOf, refusalLevels, lastBy, deboorOf, netRefused, zeroControl, netControl, filledOf}
+use Rattle.jets.specs.Net.{shareBy, shareOf, shareAt, mixBy, neighbours, refusedBy, orElse, levelOf, refusalFrom, netOf, refusalLevels, lastBy, deboorOf, netRefused}
+use Rattle.jets.specs.Net.{zeroControl, netControl, filledOf}
 use Rattle.jets.proofs.Fill.{InFill, fill-filled}
 
 -- inside a list the default is never read

@@ -17,7 +17,7 @@ use Rattle.knots.specs.Curve.{overLong}
 use Rattle.knots.specs.Span.{SpanAt, SpanFound, SpanMeets, clamped, nonempty, halved, lastNonempty, searched, spanRefusal, spanAnswer}
 use Rattle.knots.specs.declared.span.SpanAnswer.{SpanAnswer}
 use Rattle.knots.specs.declared.span.SpanAnswer.the-variants.{Span, Refused}
-use Rattle.doubles.proofs.Tested.{lt-irrefl, lt-asym}
+use Rattle.doubles.proofs.TestedOrder.{lt-irrefl, lt-asym}
 use Rattle.knots.proofs.Last.{last-none}
 use Rattle.knots.proofs.Refusals.{passed, orElse-none, stop}
 use Rattle.knots.proofs.Valid.{valid}

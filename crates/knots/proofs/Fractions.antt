@@ -15,7 +15,7 @@ use Rattle.exact.specs.Boehm.{SpanOf, InSpan, InEnd}
 use Rattle.exact.proofs.DeBoor.{mono-of-steps}
 use Rattle.exact.proofs.Spans.{span-there, end-there}
 use Rattle.doubles.specs.Run.{at, valAt}
-use Rattle.doubles.proofs.Tests.{T-of, Tn-of}
+use Rattle.doubles.proofs.TestFacts.{T-of, Tn-of}
 use Rattle.doubles.proofs.Value.{val-lt, val-le}
 use Rattle.knots.specs.Knots.{ValidKnots}
 use Rattle.knots.specs.Span.{nonempty}

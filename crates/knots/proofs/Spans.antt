@@ -14,7 +14,7 @@ use borrow.Author.Tests.{lt-leb}
 use Rattle.doubles.specs.Run.{at}
 use Rattle.knots.specs.Knots.{ValidKnots}
 use Rattle.knots.specs.Span.{SpanAt, nonempty, lastNonempty, halved, spanOf, searched}
-use Rattle.doubles.proofs.Tested.{lt-irrefl, lt-ge-trans, ge-lt-trans, ge-trans, le-gives, ge-le, le-is}
+use Rattle.doubles.proofs.TestedOrder.{lt-irrefl, lt-ge-trans, ge-lt-trans, ge-trans, le-gives, ge-le, le-is}
 use Rattle.knots.proofs.Valid.{sorted}
 use Rattle.knots.proofs.Last.{last-is, last-unique}
 use Rattle.knots.proofs.Halving.{between}

@@ -16,7 +16,7 @@ use Rattle.doubles.specs.Run.{at}
 use Rattle.knots.specs.Refusal.{refuse, accepted, degree-zero, few-points, knot-count, knots-unordered, domain-empty, domain-wide, knot-repeated}
 use Rattle.knots.specs.Knots.{allFinite, inOrder, ordered, apart, orderRefusal, knotRefusal, ValidKnots}
 use Rattle.knots.proofs.Below.{all-at, all-in, and-true, and-left, and-right}
-use Rattle.doubles.proofs.Tested.{le-is, ge-trans, lt-irrefl}
+use Rattle.doubles.proofs.TestedOrder.{le-is, ge-trans, lt-irrefl}
 use Rattle.knots.proofs.Refusals.{passed}
 
 module _ (p n : ℕ) (ks : List Float) where

@@ -2,7 +2,7 @@
 -- Assumes nothing.
 use Prim.Native.Nat.{ℕ}
 use mathlib.Core.Path.{_≡_, refl}
-use mathlib.Core.List.{List, [], _∷_, _++_, map}
+use mathlib.Core.List.{List, [], _∷_, _++_}
 use lib.Ieee.{Float, binary64, ofBits, toBits, lt}
 use Rattle.knots.specs.Refusal.{refuse, record-malformed}
 use Rattle.decimals.specs.Text.{digit, digits, width, decimal, spacedBits}

@@ -9,7 +9,7 @@ use runs::weights::weight_at;
 ghost use mathlib.Core.Path.{_≡_};
 ghost use mathlib.Core.Bool.{true};
 ghost use Prim.Native.Nat.{ℕ, _+_, _*_, _/_, _<_, _≤_};
-ghost use lib.ListN.{length, set};
+ghost use lib.ListN.{length};
 ghost use Rattle.basis.specs.Basis.{cell};
 ghost use Rattle.made.specs.Iso.{placeOf, isoTerm, isoSums, lowered, IsoReach, IsoDone};
 

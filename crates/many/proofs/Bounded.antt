@@ -16,7 +16,7 @@ use Rattle.exact.specs.Rational.{_<q_}
 use Rattle.exact.proofs.Field.{≤-refl, ≤-trans, not-both}
 use Rattle.doubles.specs.Run.{at, valAt}
 use Rattle.doubles.specs.Value.{zero+, val}
-use Rattle.doubles.proofs.Tests.{T-of, Tn-of}
+use Rattle.doubles.proofs.TestFacts.{T-of, Tn-of}
 use Rattle.doubles.proofs.Value.{val-lt}
 use Rattle.doubles.proofs.Order.{finite-number, val-leq, not-le}
 use Rattle.knots.specs.Knots.{ValidKnots}
@@ -35,7 +35,7 @@ use Rattle.bounds.specs.declared.answer.Triple.{Triple}
 use Rattle.bounds.specs.declared.answer.NurbsBounds.{NurbsBounds}
 use Rattle.bounds.specs.declared.answer.Bounded.{Bounded}
 use Rattle.bounds.specs.Holds.{HoldsOn}
-use Rattle.bounds.proofs.CurveIn.{both-hold, step-is-bound}
+use Rattle.bounds.proofs.CurveHolds.{both-hold, step-is-bound}
 use Rattle.many.proofs.Said.{box-says}
 use Rattle.many.specs.Rows.{tableRefusal, roomsRefusal}
 use Rattle.many.specs.Spans.{spansFrom, spansOf, boundIn, boxRow, marksOf, boxOf, markAt, boxAt, spansStart}

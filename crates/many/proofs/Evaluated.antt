@@ -97,7 +97,8 @@ module _ (p : ℕ) (ks ps : List Float) (g : Bool) (ws : List Float) where
         given s = let d = curve2Of p ks ps g ws s (looked p ks ps t) in cond (finite2 d) (two.At d) (two.Refused (refuse second-not-finite))
 
         go : (b : Bool) → eqb (parameterRefusal p t .number) 0 ≡ b
-            → cond b (given (searched p (countOf ps) ks (looked p ks ps t))) (two.Refused (parameterRefusal p t)) ≡ cond b (given (spanOf p (countOf ps) ks (looked p ks ps t))) (two.Refused (parameterRefusal p t))
+            → cond b (given (searched p (countOf ps) ks (looked p ks ps t))) (two.Refused (parameterRefusal p t)) ≡ cond b (given (spanOf p (countOf ps) ks (looked p ks ps t)))
+            (two.Refused (parameterRefusal p t))
         go true e = ap given (searched-is p (countOf ps) ks t (v .knots) (parameter-open p t (eqb-true (parameterRefusal p t .number) 0 e) .1))
         go false e = refl
 

@@ -16,7 +16,7 @@ use Rattle.exact.specs.Spline.{Knots}
 use Rattle.exact.proofs.Field.{≤-trans}
 use Rattle.doubles.specs.Value.{zero+, one+, val}
 use Rattle.doubles.specs.Run.{at, valAt}
-use Rattle.doubles.proofs.Tests.{T-of, Tn-of}
+use Rattle.doubles.proofs.TestFacts.{T-of, Tn-of}
 use Rattle.doubles.proofs.Value.{val-lt, val-le, val-zero}
 use Rattle.doubles.proofs.Order.{val-leq}
 use Rattle.knots.specs.Refusal.{refuse, accepted, degree-high, range-bad, range-in-no-span}

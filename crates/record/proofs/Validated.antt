@@ -96,7 +96,15 @@ module _ (s : List ℕ) (k p w k′ p′ w′ : List Float) where
   pub refused-first : (x : Refusal) → ReadsNumbers s k p w k′ p′ w′ (R.Refused x) → ReadsTable s k p w k′ p′ w′ (Refused x)
   refused-first x r =
       let a = numbers-none (length k) (length p) (length w) (tableOf s) x (r .answer) in
-      record { means = r .means; answer = a; number = said (tableOf s) (length k) (length p) (length w) (Refused x) a; values = listed (tableOf s) (length k) (length p) (length w) (Refused x) a; runs = r .runs; front = tt }
+      record {
+        means = r .means;
+        answer = a;
+        number = said (tableOf s) (length k) (length p) (length w) (Refused x) a;
+        values = listed (tableOf s) (length k) (length p) (length w)
+            (Refused x) a;
+        runs = r .runs;
+        front = tt;
+      }
 
   module _ (l : Layout) (r : ReadsNumbers s k p w k′ p′ w′ (R.Fields l)) where
     found : (t : Table) × (tableOf s ≡ some t) × (layout t ≡ l) × (roomFor (layout t) (length k) (length p) (length w) ≡ true)
@@ -136,7 +144,8 @@ module _ (s : List ℕ) (k p w k′ p′ w′ : List Float) where
       curve-read lk lp lw h =
           let fits = fits-runs l (length k) (length p) (length w) room in
           let g : rational l ≡ rationalBy (found .0 .weights) = ap rational (sym (found .2)) ∙ rational-layout (found .0) in
-          let a : Curve l (rational l) ≡ answerOf (tableOf s) (length k) (length p) (length w) = rw (found .1, found .3, skip (tested ∙ refusal-is) h, g) (ap (λ (y : Layout). Curve y (rationalBy (found .0 .weights))) (sym (found .2))) in
+          let a : Curve l (rational l) ≡ answerOf (tableOf s) (length k) (length p) (length w) = rw (found .1, found .3, skip (tested ∙ refusal-is) h, g)
+          (ap (λ (y : Layout). Curve y (rationalBy (found .0 .weights))) (sym (found .2))) in
           record {
             means = r .means;
             answer = a;

@@ -60,7 +60,8 @@ abbrev pub FrontOf : TableAnswer → List Float → List Float → List Float �
 FrontOf (Curve l g) k p w = Front l g k p w
 FrontOf (Refused x) k p w = Unit {0}
 
--- the promise of `read_table`: k, p, w are the lent runs before, k′, p′, w′ after. `number`, `values` and `front` follow from the others: the first two are the paper's, the third is what a caller goes on with
+-- the promise of `read_table`: k, p, w are the lent runs before, k′, p′, w′ after. `number`, `values` and `front` follow from the others: the first two are the paper's, the third
+-- is what a caller goes on with
 pub record ReadsTable (s : List ℕ) (k p w k′ p′ w′ : List Float) (r : TableAnswer) : Type 0 where
   pub means : Means s (tableOf s)
   pub answer : r ≡ answerOf (tableOf s) (length k) (length p) (length w)

@@ -1,8 +1,7 @@
 -- Words, and what is the same as what, computed.
 -- Assumes nothing.
-use Prim.Native.Nat.{ℕ}
 use mathlib.Core.Path.{_≡_, refl}
-use mathlib.Core.List.{List, [], _∷_}
+use mathlib.Core.List.{[], _∷_}
 use lib.Ieee.{binary64, ofBits}
 use Rattle.replaying.specs.Digits.{digitOf, hex}
 

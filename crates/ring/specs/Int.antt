@@ -1,8 +1,8 @@
 -- The integers as an ordered commutative ring, with operations that stay shut, and `zring`, the solver's list for them. Assumes nothing.
-use mathlib.Core.Path.{_≡_, refl, sym, _∙_, ap, ap₂, subst}
+use mathlib.Core.Path.{_≡_, refl, sym, _∙_, ap, ap₂}
 use mathlib.Core.Bool.{Bool, true, false, not}
 use mathlib.Core.List.{List, [], _∷_}
-use Prim.Native.Nat.{ℕ, zero, suc, _+_, _*_, _≤_, _<_}
+use Prim.Native.Nat.{ℕ, zero, suc, _+_, _*_}
 use native.Mathlib.Omega.{arith}
 use lib.Dec.{T}
 use lib.IntN as Z
@@ -62,7 +62,8 @@ neg-mul : (b c : ℤ) → Z.negℤ b *ℤ c ≡ Z.negℤ (b *ℤ c)
 neg-mul b c = ind (λ x. Z.negℤ x *ℤ c ≡ Z.negℤ (x *ℤ c))
     (Z.zero-*ℤ c ∙ sym (ap Z.negℤ (Z.zero-*ℤ c)))
     (λ x h. ap (λ y. y *ℤ c) (Z.negℤ-sucℤ x) ∙ Z.predℤ-*ℤ (Z.negℤ x) c ∙ ap (λ y. y -ℤ c) h ∙ sym (ap Z.negℤ (Z.sucℤ-*ℤ x c) ∙ Z.negℤ-+ℤ (x *ℤ c) c))
-    (λ x h. ap (λ y. y *ℤ c) (Z.negℤ-predℤ x) ∙ Z.sucℤ-*ℤ (Z.negℤ x) c ∙ ap (λ y. y +ℤ c) h ∙ sym (ap Z.negℤ (Z.predℤ-*ℤ x c) ∙ Z.negℤ-+ℤ (x *ℤ c) (Z.negℤ c) ∙ ap (λ y. Z.negℤ (x *ℤ c) +ℤ y) (Z.negℤ-negℤ c)))
+    (λ x h. ap (λ y. y *ℤ c) (Z.negℤ-predℤ x) ∙ Z.sucℤ-*ℤ (Z.negℤ x) c ∙ ap (λ y. y +ℤ c) h ∙ sym
+    (ap Z.negℤ (Z.predℤ-*ℤ x c) ∙ Z.negℤ-+ℤ (x *ℤ c) (Z.negℤ c) ∙ ap (λ y. Z.negℤ (x *ℤ c) +ℤ y) (Z.negℤ-negℤ c)))
     b
 
 mul-assoc : (a b c : ℤ) → a *ℤ b *ℤ c ≡ a *ℤ (b *ℤ c)

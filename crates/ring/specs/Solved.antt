@@ -5,7 +5,8 @@ use mathlib.Core.Bool.{Bool, true, false, _&&_}
 use mathlib.Core.List.{List, [], _∷_}
 use Prim.Native.Nat.{ℕ, zero, suc}
 use lib.Dec.{T, eqb, leb, eqb→eq}
-use Rattle.ring.specs.Ring.{CommRing, plus, minus, Sg, insert, times, same, opposite, flip, mulT, addT, addP, negP, scaleP, mulP, isNil, zero-add, neg-add-self, one-mul, add-mul, add-left-comm, mul-left-comm, mul-zero, zero-mul, mul-neg, neg-mul, neg-neg, neg-zero, neg-add, eq-of-sub}
+use Rattle.ring.specs.Ring.{CommRing, plus, minus, Sg, insert, times, same, opposite, flip, mulT, addT, addP, negP, scaleP, mulP, isNil, zero-add, neg-add-self, one-mul}
+use Rattle.ring.specs.Ring.{add-mul, add-left-comm, mul-left-comm, mul-zero, zero-mul, mul-neg, neg-mul, neg-neg, neg-zero, neg-add, eq-of-sub}
 
 -- ---- what the polynomials stand for, over a list of values
 

@@ -1,16 +1,15 @@
 -- The cut of a curve that stands in scratch, and the answers of `trim`.
 -- Assumes nothing.
-use Prim.Native.Nat.{ℕ, zero, suc, _+_, _-_, _*_, _/_, _%_, _≤_, _<_}
+use Prim.Native.Nat.{ℕ, zero, suc, _+_, _*_, _/_, _%_, _≤_, _<_}
 use mathlib.Core.Bool.{Bool, true, false}
 use mathlib.Core.Path.{_≡_, refl, sym, _∙_, ap, subst}
 use mathlib.Core.List.{List, []}
 use native.Mathlib.Omega.{arith}
 use borrow.Author.Tests.{eq-eqb}
-use lib.ListN.{length, take, drop, length-take, length-drop, length-replicate}
+use lib.ListN.{length, take, drop, length-take, length-drop}
 use lib.Seq.{getD-take, getD-drop, ext-getD}
 use lib.Ieee.{Float, nan}
 use Rattle.doubles.specs.Run.{at}
-use Rattle.doubles.specs.Value.{zero+}
 use Rattle.knots.specs.Clear.{zeros}
 use Rattle.knots.specs.Knots.{ValidKnots}
 use Rattle.knots.specs.Curve.{countOf, formedRefusal, ValidCurve}
@@ -32,7 +31,7 @@ use Rattle.edits.proofs.RowReads.{knot-from}
 use Rattle.edits.proofs.Starting.{out-fits, thirds}
 use Rattle.edits.proofs.RunWithCurve.{laid-long}
 use Rattle.edits.proofs.WorkCalls.{take-fits}
-use Rattle.insertion.proofs.Made.{made}
+use Rattle.insertion.proofs.ListResult.{made}
 use Rattle.insertion.proofs.Repeated.{ends-long}
 use Rattle.insertion.proofs.Chained.{knots-are, points-are, weights-are, refused-is, given-is}
 use Rattle.edits.proofs.Outcomes.{edit-refused, edit-late, edit-formed, edit-unique}
@@ -105,35 +104,32 @@ pub taken-open : (p m f : ℕ) (g : Bool) (a l b c d : ℕ) (r : Refusal) → r 
 taken-open p m f g a l b c d r e x y u v w = ap (λ (q : Refusal). q .number) (e ∙ sym (take-fits p m f g a l b c d x y _ (out-fits p m g b c d u v w)))
 
 -- ---- the cut of an outcome
-module _ (a p n f m : ℕ) (g : Bool) (l : ℕ) (b : f + m ≤ n) (x : n * 4 ≤ a) (y : a + (n + p + 1) ≤ l) (A B C : ℕ) (k₁ p₁ w₁ : List Float) (r : Refusal) where
-  pub cut-formed : (ks ps ws xs : List Float) → ValidKnots p n ks → length ps ≡ n * 3 → length ws ≡ given g n → xs ≡ laid a (zeros l) ks ps g ws
+module _ (a p n f m : ℕ) (g : Bool) (w₀ : List Float) (b : f + m ≤ n) (x : n * 4 ≤ a) (y : a + (n + p + 1) ≤ length w₀) (A B C : ℕ) (k₁ p₁ w₁ : List Float) (r : Refusal) where
+  pub cut-formed : (ks ps ws xs : List Float) → ValidKnots p n ks → length ps ≡ n * 3 → length ws ≡ given g n → xs ≡ laid a w₀ ks ps g ws
       → CutDone p m g (knotsFrom (a + f) p m xs) (pointsFrom m (drop (f * 4) xs)) (weightsFrom g m (drop (f * 4) xs)) A B C k₁ p₁ w₁ r → OutMeets A B C (cutCurve p g f m ks ps ws) k₁ p₁ w₁ r
   unfolding cutCurve cutRefusal OutMeets
   cut-formed ks ps ws xs v P W E D = go (r .number) refl
     where
-      z : length (zeros l) ≡ l
-      z = length-replicate l zero+
-
       n0 : n + 0 ≡ n
       n0 = omega arith
 
       K : knotsFrom (a + f) p m xs ≡ take (m + p + 1) (drop f ks)
       K =
           ap (knotsFrom (a + f) p m) E
-          ∙ cut-knots a p n f m g (laid a (zeros l) ks ps g ws) ks ps ws b (knots-are a p n g (zeros l) ks ps ws v P W 0 nan (omega arith) (omega (arith, z))) (long-enough)
+          ∙ cut-knots a p n f m g (laid a w₀ ks ps g ws) ks ps ws b (knots-are a p n g w₀ ks ps ws v P W 0 nan (omega arith) (omega arith)) (long-enough)
         where
-          long-enough : a + (n + p + 1) ≤ length (laid a (zeros l) ks ps g ws)
-          long-enough = omega (arith, laid-long a (zeros l) ks ps g ws, z)
+          long-enough : a + (n + p + 1) ≤ length (laid a w₀ ks ps g ws)
+          long-enough = omega (arith, laid-long a w₀ ks ps g ws)
 
       Q : pointsFrom m (drop (f * 4) xs) ≡ take (m * 3) (drop (f * 3) ps)
       Q =
           ap (λ (u : List Float). pointsFrom m (drop (f * 4) u)) E
-          ∙ cut-points a p n f m g (laid a (zeros l) ks ps g ws) ks ps ws b (points-are a p n g (zeros l) ks ps ws v P W 0 nan (omega arith) (omega (arith, z)))
+          ∙ cut-points a p n f m g (laid a w₀ ks ps g ws) ks ps ws b (points-are a p n g w₀ ks ps ws v P W 0 nan (omega arith) (omega arith))
 
       V′ : weightsFrom g m (drop (f * 4) xs) ≡ take (given g m) (drop f ws)
       V′ =
           ap (λ (u : List Float). weightsFrom g m (drop (f * 4) u)) E
-          ∙ cut-weights n f m g (laid a (zeros l) ks ps g ws) ws b (weights-are a p n g (zeros l) ks ps ws v P W 0 nan (omega arith) (omega (arith, z)))
+          ∙ cut-weights n f m g (laid a w₀ ks ps g ws) ws b (weights-are a p n g w₀ ks ps ws v P W 0 nan (omega arith) (omega arith))
 
       R : r ≡ cutRefusal p g f m ks ps ws
       R = D .refusal ∙ moved K Q V′
@@ -190,19 +186,20 @@ module _ (p : ℕ) (ks ps : List Float) (g : Bool) (ws : List Float) (v : ValidC
     unfolding OutMeets
     into-refused r e h = rw (refused-is p g (countOf ps) ks ps (givenOf g ws) (endsOf p ks lo hi) r e h) ((refl, h))
 
-    pub into-cut : (a l f m : ℕ) → f ≡ F → m ≡ M → F + M ≤ N → N * 4 ≤ a → a + (N + p + 1) ≤ l → (q : Refusal) → q ≡ refusalOf aim → q .number ≡ 0 → (xs : List Float) → xs ≡ workIn a g (zeros l) aim
+    pub into-cut : (a : ℕ) (w₀ : List Float) (f m : ℕ) → f ≡ F → m ≡ M → F + M ≤ N → N * 4 ≤ a → a + (N + p + 1) ≤ length w₀ → (q : Refusal) → q ≡ refusalOf aim → q .number ≡ 0 →
+        (xs : List Float) → xs ≡ workIn a g w₀ aim
         → (r : Refusal)
         → CutDone p m g (knotsFrom (a + f) p m xs) (pointsFrom m (drop (f * 4) xs)) (weightsFrom g m (drop (f * 4) xs)) A B C k₁ p₁ w₁ r → OutMeets A B C (cutOf p g F M aim) k₁ p₁ w₁ r
     unfolding endsOf
-    into-cut a l f m f≡ m≡ b x y q Q z xs E r D =
+    into-cut a w₀ f m f≡ m≡ b x y q Q z xs E r D =
         let G = given-is p g (countOf ps) ks ps (givenOf g ws) (endsOf p ks lo hi) q Q z in
         let e = G .is in
         let d = made p g (countOf ps) ks ps (givenOf g ws) (endsOf p ks lo hi) (G .knots) (G .points) (G .weights) (v .knots) e in
         let s : countOf ps + length (endsOf p ks lo hi) ≡ N = ap (λ (i : ℕ). countOf ps + i) (ends-long p ks lo hi) in
         let D₁ = subst (λ (i : ℕ). CutDone p i g (knotsFrom (a + f) p i xs) (pointsFrom i (drop (f * 4) xs)) (weightsFrom g i (drop (f * 4) xs)) A B C k₁ p₁ w₁ r) m≡ D in
         let D₂ = subst (λ (i : ℕ). CutDone p M g (knotsFrom (a + i) p M xs) (pointsFrom M (drop (i * 4) xs)) (weightsFrom g M (drop (i * 4) xs)) A B C k₁ p₁ w₁ r) f≡ D₁ in
-        rw e (cut-formed a p N F M g l b x y A B C k₁ p₁ w₁ r (G .knots) (G .points) (G .weights) xs (subst (λ (i : ℕ). ValidKnots p i (G .knots)) s (d .valid))
-        (d .points (thirds (v .triples)) ∙ ap (λ (i : ℕ). i * 3) s) (d .weights (given-long g (countOf ps) ws (v .controls .weights)) ∙ ap (given g) s) (E ∙ ap (workIn a g (zeros l)) e) D₂)
+        rw e (cut-formed a p N F M g w₀ b x y A B C k₁ p₁ w₁ r (G .knots) (G .points) (G .weights) xs (subst (λ (i : ℕ). ValidKnots p i (G .knots)) s (d .valid))
+        (d .points (thirds (v .triples)) ∙ ap (λ (i : ℕ). i * 3) s) (d .weights (given-long g (countOf ps) ws (v .controls .weights)) ∙ ap (given g) s) (E ∙ ap (workIn a g w₀) e) D₂)
 
 -- ---- `trim`
 module _ (p : ℕ) (ks ps : List Float) (g : Bool) (ws : List Float) (lo hi : Float) (a b c d : ℕ) (s₁ : List Float) (S : s₁ ≡ zeros d) where

@@ -1,15 +1,13 @@
 -- Both ends are inserted in scratch: what the calls leave is what the fold says.
 -- Assumes nothing.
-use Prim.Native.Nat.{ℕ, _+_, _-_, _*_, _≤_}
+use Prim.Native.Nat.{ℕ, _+_, _*_, _≤_}
 use mathlib.Core.Bool.{Bool, true, false}
 use mathlib.Core.Path.{_≡_, refl, sym, _∙_, ap, ap₂, subst}
 use mathlib.Core.List.{List}
 use native.Mathlib.Omega.{arith}
 use lib.ListN.{length, replicate, length-replicate}
 use lib.Ieee.{Float}
-use Rattle.doubles.specs.Value.{zero+}
 use Rattle.knots.specs.Refusal.{accepted}
-use Rattle.knots.specs.Clear.{zeros}
 use Rattle.knots.specs.Knots.{ValidKnots}
 use Rattle.knots.specs.Curve.{countOf, ValidCurve}
 use Rattle.knots.specs.declared.refusal.Refusal.{Refusal}
@@ -20,9 +18,10 @@ use Rattle.edits.specs.Outcome.{Outcome, gives, refuses}
 use Rattle.edits.specs.Whole.{givenOf}
 use Rattle.edits.specs.Work.{laid, layOutcome, refusalOf, workIn}
 use Rattle.insertion.specs.Times.{timesOutcome}
+use Rattle.edits.proofs.RowReads.{given-fits}
 use Rattle.edits.proofs.Starting.{room-none, thirds}
 use Rattle.edits.proofs.WorkCalls.{lay-fits, work-fits}
-use Rattle.insertion.proofs.Made.{made, andThen, insert-append}
+use Rattle.insertion.proofs.ListResult.{made, andThen, insert-append}
 use Rattle.insertion.proofs.Chained.{laid-given, chained, refused-is, given-is}
 use Rattle.trimming.specs.Trim.{endsOf}
 
@@ -30,12 +29,8 @@ pub given-long : (g : Bool) (n : ℕ) (ws : List Float) → (g ≡ true → leng
 given-long true n ws h = h refl
 given-long false n ws h = refl
 
-given-fits : (g : Bool) (n : ℕ) (ws : List Float) → (g ≡ true → length ws ≡ n) → given g n ≤ length ws
-given-fits true n ws h = let e = h refl in omega arith
-given-fits false n ws h = omega arith
-
-module _ (a p : ℕ) (ks ps : List Float) (g : Bool) (ws : List Float) (v : ValidCurve p ks ps g ws) (lo hi : Float) (l : ℕ)
-    (x : (countOf ps + (missingOf p ks lo + missingOf p ks hi)) * 4 ≤ a) (y : a + (countOf ps + (missingOf p ks lo + missingOf p ks hi) + p + 1) ≤ l) where
+module _ (a p : ℕ) (ks ps : List Float) (g : Bool) (ws : List Float) (v : ValidCurve p ks ps g ws) (lo hi : Float) (Z : List Float)
+    (x : (countOf ps + (missingOf p ks lo + missingOf p ks hi)) * 4 ≤ a) (y : a + (countOf ps + (missingOf p ks lo + missingOf p ks hi) + p + 1) ≤ length Z) where
   abbrev n : ℕ
   n = countOf ps
 
@@ -48,8 +43,8 @@ module _ (a p : ℕ) (ks ps : List Float) (g : Bool) (ws : List Float) (v : Vali
   abbrev W : List Float
   W = givenOf g ws
 
-  abbrev Z : List Float
-  Z = zeros l
+  abbrev l : ℕ
+  l = length Z
 
   abbrev goal : Outcome
   goal = insertAll p g n ks ps W (endsOf p ks lo hi)
@@ -57,14 +52,11 @@ module _ (a p : ℕ) (ks ps : List Float) (g : Bool) (ws : List Float) (v : Vali
   abbrev first : Outcome
   first = insertAll p g n ks ps W (replicate X lo)
 
-  zeros-long : length Z ≡ l
-  zeros-long = length-replicate l zero+
-
   -- ---- the curve is laid
   lays : layOutcome ks ps g ws a l ≡ gives ks ps ws
   lays =
       lay-fits
-      ks ps g ws a l accepted accepted (sym (room-none (length ws) (given g n) (given-fits g n ws (v .controls .weights)))) refl
+      ks ps g ws a l accepted accepted (sym (room-none (length ws) (given g n) (given-fits g n (length ws) (v .controls .weights)))) refl
       (work-fits n (length ks) a l (omega arith) (omega (arith, v .knots .long))) refl
 
   pub laid-none : (r : Refusal) → r ≡ refusalOf (layOutcome ks ps g ws a l) → r .number ≡ 0
@@ -78,7 +70,7 @@ module _ (a p : ℕ) (ks ps : List Float) (g : Bool) (ws : List Float) (v : Vali
       (R₁ : r₁ ≡ refusalOf (timesOutcome p n m a w₁ g lo)) (Z₁ : w₂ ≡ workIn a g w₁ (timesOutcome p n m a w₁ g lo)) where
     after : (r₁ ≡ refusalOf first) × (w₂ ≡ workIn a g Z first)
     after =
-        chained a p n g Z ks ps W (v .knots) (thirds (v .triples)) (given-long g n ws (v .controls .weights)) X lo (omega arith) (omega (arith, zeros-long)) w₁ w₂ r₁ (laid-run w₁ E₁)
+        chained a p n g Z ks ps W (v .knots) (thirds (v .triples)) (given-long g n ws (v .controls .weights)) X lo (omega arith) (omega arith) w₁ w₂ r₁ (laid-run w₁ E₁)
         (R₁ ∙ ap (λ (k : ℕ). refusalOf (timesOutcome p n k a w₁ g lo)) M) (Z₁ ∙ ap (λ (k : ℕ). workIn a g w₁ (timesOutcome p n k a w₁ g lo)) M)
 
     joined : goal ≡ andThen first (λ ls qs vs. insertAll p g (n + length (replicate X lo)) ls qs vs (replicate Y hi))
@@ -107,7 +99,7 @@ module _ (a p : ℕ) (ks ps : List Float) (g : Bool) (ws : List Float) (v : Vali
         ∙ ap (λ (i : ℕ). insertAll p g i (G .knots) (G .points) (G .weights) (replicate Y hi)) s)
         in
         let c = chained a p (n + X) g Z (G .knots) (G .points) (G .weights) (subst (λ (i : ℕ). ValidKnots p i (G .knots)) s (D .valid))
-        (D .points (thirds (v .triples)) ∙ ap (λ (i : ℕ). i * 3) s) (D .weights (given-long g n ws (v .controls .weights)) ∙ ap (given g) s) Y hi (omega arith) (omega (arith, zeros-long)) w₂ w₃ r₂
+        (D .points (thirds (v .triples)) ∙ ap (λ (i : ℕ). i * 3) s) (D .weights (given-long g n ws (v .controls .weights)) ∙ ap (given g) s) Y hi (omega arith) (omega arith) w₂ w₃ r₂
         (after .1 ∙ ap (workIn a g Z) f)
         (R₂ ∙ ap₂ (λ (i j : ℕ). refusalOf (timesOutcome p (n + i) j a w₂ g hi)) M M′)
         (Z₂ ∙ ap₂ (λ (i j : ℕ). workIn a g w₂ (timesOutcome p (n + i) j a w₂ g hi)) M M′) in

@@ -17,7 +17,7 @@ use Rattle.exact.proofs.Spans.{span-in, span-end, in-same, end-same, exact-same
 use Rattle.exact.proofs.Cut.{trim-same, trim-same-end}
 use Rattle.doubles.specs.Run.{at, valAt}
 use Rattle.doubles.specs.Value.{val}
-use Rattle.doubles.proofs.Tests.{T-of, Tn-of}
+use Rattle.doubles.proofs.TestFacts.{T-of, Tn-of}
 use Rattle.doubles.proofs.Value.{val-le}
 use Rattle.knots.specs.Knots.{ValidKnots}
 use Rattle.knots.specs.Curve.{countOf}
@@ -28,10 +28,10 @@ use Rattle.insertion.specs.Fold.{insertAll}
 use Rattle.edits.specs.Outcome.{Outcome, gives, refuses}
 use Rattle.edits.specs.Whole.{givenOf}
 use Rattle.insertion.specs.Placed.{placed, weightValue, coordinateValue}
-use Rattle.insertion.proofs.Made.{by-number}
+use Rattle.insertion.proofs.ListResult.{by-number}
 use Rattle.insertion.proofs.Repeated.{Cut}
-use Rattle.insertion.proofs.Places.{equal-value}
-use Rattle.insertion.proofs.Placed.{placed-long, Placed, placed-all, weight-above}
+use Rattle.insertion.proofs.EqualKnots.{equal-value}
+use Rattle.insertion.proofs.ExactList.{placed-long, Placed, placed-all, weight-above}
 use Rattle.trimming.specs.Trim.{endsOf, keptOf, cutRefusal, cutCurve, cutOf, trimStart, trimOutcome}
 use Rattle.trimming.proofs.Ranges.{Range, Open, start-open}
 use Rattle.trimming.proofs.Source.{range, ends-full, ends-valid, kept-most, cut-at, cut-valid}

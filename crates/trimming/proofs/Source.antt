@@ -10,7 +10,7 @@ use lib.Seq.{getD-take, getD-drop}
 use lib.Ieee.{Float, binary64, nan, sub, lt}
 use lib.Ieee.Scale.{finite}
 use Rattle.doubles.specs.Run.{at}
-use Rattle.doubles.proofs.Tested.{lt-ge-trans}
+use Rattle.doubles.proofs.TestedOrder.{lt-ge-trans}
 use Rattle.knots.specs.Refusal.{accepted}
 use Rattle.knots.specs.Knots.{ValidKnots}
 use Rattle.knots.specs.Curve.{countOf, isWeight, ValidControls}
@@ -23,7 +23,7 @@ use Rattle.insertion.specs.Fold.{insertAll}
 use Rattle.edits.specs.Outcome.{gives, refuses}
 use Rattle.edits.specs.Whole.{givenOf}
 use Rattle.insertion.proofs.KnotCounts.{not-both, eq-self, lt-not-eq, below-past, below-first, below-rest, below-room}
-use Rattle.insertion.proofs.Made.{made, made-controls}
+use Rattle.insertion.proofs.ListResult.{made, made-controls}
 use Rattle.insertion.proofs.Never.{Late, late-not}
 use Rattle.insertion.proofs.Repeated.{repeated, Cut, cut-late, cut-made}
 use Rattle.trimming.specs.Trim.{endsOf, keptOf, cutRefusal}

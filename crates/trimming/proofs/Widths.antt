@@ -12,7 +12,7 @@ use lib.Ieee.Order.{round-mono}
 use Rattle.exact.specs.Rational.{ℚ, _+q_, _-q_, q0, _≤q_, _<q_}
 use Rattle.exact.proofs.Field.{sub-is, ≤-trans, ≤-eq, +-mono, neg-le, not-both, <-≤-trans, lt-sub, lt→le}
 use Rattle.doubles.specs.Value.{ratio, val, zero+, _⊑_}
-use Rattle.doubles.proofs.Tests.{T-of, Tn-of}
+use Rattle.doubles.proofs.TestFacts.{T-of, Tn-of}
 use Rattle.doubles.proofs.Value.{ratio-le, le-ratio, val-is, val-lt, val-le, val-neg, val-zero}
 use Rattle.doubles.proofs.Enclose.{above-rounds}
 use Rattle.doubles.proofs.Sums.{Rounded, add-rounded}

@@ -8,7 +8,6 @@ use knots::refusal::Refusal;
 ghost use mathlib.Core.Path.{_≡_};
 ghost use Prim.Native.Nat.{_+_, _*_, _/_, _≤_};
 ghost use lib.ListN.{length, drop};
-ghost use Rattle.knots.specs.Clear.{zeros};
 ghost use Rattle.knots.specs.Curve.{ValidCurve};
 ghost use Rattle.edits.specs.Counts.{missingOf};
 ghost use Rattle.edits.specs.Rows.{given};
@@ -33,7 +32,7 @@ pub fn insert_ends(
     requires { ⌜ ValidCurve degree (now knots) (now points) rational (now weights) ⌝ }
     requires { ⌜ ((length (now points) / 3 + (missingOf degree (now knots) lo + missingOf degree (now knots) hi)) * 4 ≤ a) × (a + (length (now points) / 3 + (missingOf degree (now knots) lo + missingOf degree (now knots) hi) + degree + 1) ≤ length (now work)) ⌝ }
     ensures { λ r. ⌜ r ≡ refusalOf (insertAll degree rational (length (now (points .entry)) / 3) (now (knots .entry)) (now (points .entry)) (givenOf rational (now (weights .entry))) (endsOf degree (now (knots .entry)) lo hi)) ⌝ }
-    ensures { λ _. ⌜ now (work .exit) ≡ workIn a rational (zeros (length (now (work .entry)))) (insertAll degree rational (length (now (points .entry)) / 3) (now (knots .entry)) (now (points .entry)) (givenOf rational (now (weights .entry))) (endsOf degree (now (knots .entry)) lo hi)) ⌝ }
+    ensures { λ _. ⌜ now (work .exit) ≡ workIn a rational (now (work .entry)) (insertAll degree rational (length (now (points .entry)) / 3) (now (knots .entry)) (now (points .entry)) (givenOf rational (now (weights .entry))) (endsOf degree (now (knots .entry)) lo hi)) ⌝ }
 {
     let n = points.len() / 3;
     let x = missing(degree + 1, knots, lo);

@@ -1,7 +1,6 @@
 -- One computed test of every row, and what it says of each. Assumes nothing.
 use Prim.Native.Nat.{ℕ, zero, suc, _<_}
 use native.Mathlib.Nat.{le-of-suc-le-suc, not-suc-le-zero}
-use mathlib.Core.Bool.{_&&_}
 use mathlib.Core.Path.{_≡_, refl, ap₂}
 use mathlib.Core.List.{List, [], _∷_}
 use lib.Dec.{T, eqb, eqb→eq}
@@ -44,7 +43,16 @@ use Rattle.bounds.specs.Curve.{spanBound, boundOf}
 use Rattle.worked.specs.Table.{Row, rows, same, all}
 
 pub all-hold : T (all rows)
-unfolding rows nextOf basisOf tableOf derivativeOf factorOf dersOf upFrom downFrom newOf pointOf containsOf checkedOf addOf subOf mulOf sqrOf someNan reciprocalOf divideOf allBelow allFinite inOrder ordered apart orderRefusal knotRefusal overLong anyLong isWeight allWeights controlRefusal formedRefusal curveRefusal roomRefusal clamped lastAfter spanOf spanRefusal spanAnswer leftOf rightOf inReach dersAt dersTable basisTable largestFrom weightOf padded C.liftOf C.isLifted C.isBlended C.shareOf C.blendOf C.lowerOf countBelow multiplicityOf belowOf largestOf allEqual scaleOf liftAt blendAt lowerAt knotAt moreKnots inside spotRefusal morePoints moreWeights formRefusal insertedKnots insertedPoints insertedWeights insertRefusal insertAll clampedEnds editStart outRoom scratchRoom insertStart insertOutcome Trim.inRange Trim.endsOf Trim.keptOf Trim.rangeRefusal Trim.cutRefusal Trim.cutCurve Trim.trimStart Trim.trimOutcome breaksFrom breaksOf isFull fullCount missingAll raiseShare raiseOnce raiseTimes E.extractedCount E.raisedCount E.breakKnots E.raisedKnots E.controlsOf E.segmentOf E.addedBy E.keptFrom E.keptAll E.allBlended E.pointsOf E.weightsOf E.raisedControls E.raisedPoints E.raisedWeights E.raisedRefusal E.raisedOutcome E.raiseAll elevatedCount raiseStart elevated elevateStart elevateOutcome constantOf jetSub jetAdd jetMul jetScale shareOf mixJet mixOf shareAt levelOf refusalFrom netOf refusalLevels lastBy deboorOf R.inSpan R.firstFrom R.spanOver R.rangeRefusal weightAt S.maxFrom S.minFrom S.rangeOf S.weightsOf S.movedOf S.controlOf S.startAt S.rowOf coordinateOf cartesianOf boundsOf parameterOf spanBound boundOf ofBits toBits ofInt isNan lt le eq add sub mul div neg
+unfolding rows nextOf basisOf tableOf derivativeOf factorOf dersOf upFrom downFrom newOf pointOf containsOf checkedOf addOf subOf mulOf sqrOf someNan reciprocalOf divideOf allBelow
+    allFinite inOrder ordered apart orderRefusal knotRefusal overLong anyLong isWeight allWeights controlRefusal formedRefusal curveRefusal roomRefusal clamped lastAfter spanOf
+    spanRefusal spanAnswer leftOf rightOf inReach dersAt dersTable basisTable largestFrom weightOf padded C.liftOf C.isLifted C.isBlended C.shareOf C.blendOf C.lowerOf countBelow
+    multiplicityOf belowOf largestOf allEqual scaleOf liftAt blendAt lowerAt knotAt moreKnots inside spotRefusal morePoints moreWeights formRefusal insertedKnots insertedPoints
+    insertedWeights insertRefusal insertAll clampedEnds editStart outRoom scratchRoom insertStart insertOutcome Trim.inRange Trim.endsOf Trim.keptOf Trim.rangeRefusal Trim.cutRefusal
+    Trim.cutCurve Trim.trimStart Trim.trimOutcome breaksFrom breaksOf isFull fullCount missingAll raiseShare raiseOnce raiseTimes E.extractedCount E.raisedCount E.breakKnots
+    E.raisedKnots E.controlsOf E.segmentOf E.addedBy E.keptFrom E.keptAll E.allBlended E.pointsOf E.weightsOf E.raisedControls E.raisedPoints E.raisedWeights E.raisedRefusal
+    E.raisedOutcome E.raiseAll elevatedCount raiseStart elevated elevateStart elevateOutcome constantOf jetSub jetAdd jetMul jetScale shareOf mixJet mixOf shareAt levelOf refusalFrom
+    netOf refusalLevels lastBy deboorOf R.inSpan R.firstFrom R.spanOver R.rangeRefusal weightAt S.maxFrom S.minFrom S.rangeOf S.weightsOf S.movedOf S.controlOf S.startAt S.rowOf
+    coordinateOf cartesianOf boundsOf parameterOf spanBound boundOf ofBits toBits ofInt isNan lt le eq add sub mul div neg
 all-hold = tt
 
 same-is : (xs ys : List ℕ) → T (same xs ys) → xs ≡ ys

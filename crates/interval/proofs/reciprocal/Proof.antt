@@ -1,10 +1,8 @@
 use Rattle.doubles.specs.Neighbour.{nextUp, nextDown, fmin, fmax}
-use Rattle.interval.specs.declared.Quotient.the-variants.{Is, HoldsZero, Unbounded}
-use Rattle.interval.specs.declared.New.{New}
 use Rattle.interval.specs.Ops.{containsOf, reciprocalOf, newOf, madeBy}
 use Rattle.doubles.specs.Value.{one+}
-use lib.Ieee.{Float, binary64, inf, ofBits, div}
-use mathlib.Core.Path.{_≡_, refl, sym, ap, _∙_, subst}
+use lib.Ieee.{Float, binary64, ofBits, div}
+use mathlib.Core.Path.{_≡_, sym, ap, _∙_}
 use borrow.Author.Needs.{needs}
 use Rattle.interval.proofs.reciprocal.Statement.{statement}
 use Rattle.interval.proofs.reciprocal.Tie as tie
@@ -19,13 +17,17 @@ use Rattle.interval.proofs.float.next_up.Reads as next-up-reads
 
 -- the interval of both reciprocals
 made : (c : tie.After-new)
-    → c .new .result ≡ newOf (nextDown (fmin (div binary64 one+ (c .before .before .before .before .before .before .before .before .before .args .b .lo)) (div binary64 one+ (c .before .before .before .before .before .before .before .before .before .args .b .hi)))) (nextUp (fmax (div binary64 one+ (c .before .before .before .before .before .before .before .before .before .args .b .lo)) (div binary64 one+ (c .before .before .before .before .before .before .before .before .before .args .b .hi))))
+    → c .new .result ≡ newOf (nextDown (fmin (div binary64 one+ (c .before .before .before .before .before .before .before .before .before .args .b .lo))
+    (div binary64 one+ (c .before .before .before .before .before .before .before .before .before .args .b .hi))))
+    (nextUp (fmax (div binary64 one+ (c .before .before .before .before .before .before .before .before .before .args .b .lo))
+    (div binary64 one+ (c .before .before .before .before .before .before .before .before .before .args .b .hi))))
 unfolding ofBits
 made c =
     c .new .ensures
     ∙ ap (λ (z : Float). newOf z (c .before .next-up .result)) (c .before .before .before .next-down .ensures ∙ ap nextDown (c .before .before .before .before .min .ensures))
     ∙ ap
-    (λ (z : Float). newOf (nextDown (fmin (div binary64 one+ (c .before .before .before .before .before .before .before .before .before .args .b .lo)) (div binary64 one+ (c .before .before .before .before .before .before .before .before .before .args .b .hi)))) z)
+    (λ (z : Float). newOf (nextDown (fmin (div binary64 one+ (c .before .before .before .before .before .before .before .before .before .args .b .lo))
+    (div binary64 one+ (c .before .before .before .before .before .before .before .before .before .args .b .hi)))) z)
     (c .before .next-up .ensures ∙ ap nextUp (c .before .before .max .ensures))
 
 contains-requires : tie.Need-contains-requires

@@ -1,4 +1,4 @@
-use mathlib.Core.Path.{_≡_, sym, ap, _∙_}
+use mathlib.Core.Path.{sym, ap, _∙_}
 use Rattle.bounds.specs.Answer.{boundedOf}
 use Rattle.bounds.specs.declared.answer.Bounded.the-variants.{Are, Refused}
 use borrow.Author.Needs.{needs}

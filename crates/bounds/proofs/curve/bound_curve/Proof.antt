@@ -11,7 +11,7 @@ use Rattle.bounds.specs.declared.answer.Bounded.the-variants.{Refused}
 use Rattle.bounds.specs.Answer.{boundedOf}
 use Rattle.ranges.specs.Range.{rangeRefusal}
 use Rattle.bounds.specs.Curve.{boundOf}
-use Rattle.bounds.proofs.CurveIn.{both-hold}
+use Rattle.bounds.proofs.CurveHolds.{both-hold}
 use borrow.Author.Needs.{needs}
 use Rattle.bounds.proofs.curve.bound_curve.Statement.{statement}
 use Rattle.bounds.proofs.curve.bound_curve.Tie as tie

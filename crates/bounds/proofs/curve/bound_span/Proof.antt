@@ -7,7 +7,7 @@ use Rattle.bounds.specs.declared.answer.Bounded.the-variants.{Refused}
 use Rattle.bounds.specs.Answer.{boundedOf}
 use Rattle.bounds.specs.Curve.{boundAt}
 use Rattle.bounds.proofs.Active.{started}
-use Rattle.bounds.proofs.CurveIn.{step-both}
+use Rattle.bounds.proofs.CurveHolds.{step-both}
 use borrow.Author.Needs.{needs}
 use Rattle.bounds.proofs.curve.bound_span.Statement.{statement}
 use Rattle.bounds.proofs.curve.bound_span.Tie as tie

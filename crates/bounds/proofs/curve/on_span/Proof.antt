@@ -1,6 +1,5 @@
 use native.Mathlib.Omega.{arith}
 use borrow.Author.Needs.{needs}
-use Prim.Native.Nat.{_-_}
 use Rattle.bounds.specs.Curve.{spanBound}
 use Rattle.bounds.proofs.curve.on_span.Statement.{statement}
 use Rattle.bounds.proofs.curve.on_span.Tie as tie

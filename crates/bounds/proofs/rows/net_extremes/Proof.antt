@@ -55,7 +55,8 @@ loop-again c =
       omega (arith, c .before .loop-test .taken),
       c .extreme-weights .ensures ∙ ap
           (λ (x : Extremes). extremesOf x (λ (j : ℕ). weightAt (a .rational) (now (a .weights))
-          ((a .row + c .before .before .loop .m) * a .nv + a .col + j)) (a .cols)) (c .before .before .loop .inv .1) ∙ net-more (λ (i : ℕ) (j : ℕ). weightAt (a .rational) (now (a .weights)) ((a .row + i) * a .nv + a .col + j)) (a .cols) (c .before .before .loop .m),
+          ((a .row + c .before .before .loop .m) * a .nv + a .col + j)) (a .cols)) (c .before .before .loop .inv .1) ∙ net-more
+          (λ (i : ℕ) (j : ℕ). weightAt (a .rational) (now (a .weights)) ((a .row + i) * a .nv + a .col + j)) (a .cols) (c .before .before .loop .m),
     )
 
 returns : tie.Need-returns Inv-loop μ-loop

@@ -62,7 +62,8 @@ parameter-requires c κs = search needs
 
 rows-of-requires : tie.Need-rows-of-requires
 rows-of-requires c κs =
-    let q = c .before .before .before .before .before .before .before .before .before .before .before .before .before .before .before .before .before .before .before .before .before .before .before .pre in
+    let q = c .before .before .before .before .before .before .before .before .before .before .before .before .before .before .before .before .before .before .before .before .before
+    .before .before .pre in
     (q .p-small, (q .u-low, (q .u-room, (q .q-small, (q .v-low, (q .v-room, q .fit))))))
 
 cartesian-of-requires : tie.Need-cartesian-of-requires

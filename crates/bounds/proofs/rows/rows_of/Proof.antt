@@ -36,8 +36,9 @@ zero-control-requires c κs = search needs
 
 loop-holds : tie.Need-loop-holds Inv-loop μ-loop Inv-loop2 μ-loop2
 loop-holds c =
-    fill-start (λ (i : ℕ). rowOf (now (c .before .before .before .before .before .args .points)) (now (c .before .before .before .before .before .args .weights))
-    (c .before .before .before .before .before .args .rational) ((c .before .before .before .before .before .args .row + i) * c .before .before .before .before .before .args .nv + c .before .before .before .before .before .args .col) (c .before .before .before .before .before .args .o) (c .before .before .before .before .before .args .scale) (now (c .before .before .before .before .before .args .vk)) (c .before .before .before .before .before .args .v .degree) (c .before .before .before .before .before .args .v .span) (c .before .before .before .before .before .args .v .t)) (c .before .before .before .before .before .args .u .degree) _ refl
+    let a = c .before .before .before .before .before .args in
+    fill-start (λ (i : ℕ). rowOf (now (a .points)) (now (a .weights))
+    (a .rational) ((a .row + i) * a .nv + a .col) (a .o) (a .scale) (now (a .vk)) (a .v .degree) (a .v .span) (a .v .t)) (a .u .degree) _ refl
 
 add-i : tie.Need-add-i Inv-loop μ-loop Inv-loop2 μ-loop2
 add-i c = omega (arith, c .before .before .before .before .before .before .before .pre .1 .1 .1 .1 .1 .1 .few, c .loop-test .taken)
@@ -87,11 +88,14 @@ enum-known-n c = search needs
 
 returns : tie.Need-returns Inv-loop μ-loop Inv-loop2 μ-loop2
 returns c =
+    let a = c .before .before .before .before .before .before .before .before .before .before .before .args in
     let e = sym (c .before .before .before .row-of .ensures) ∙ c .before .n .given .1 in
-    fill-refused (λ (i : ℕ). rowOf (now (c .before .before .before .before .before .before .before .before .before .before .before .args .points))
-    (now (c .before .before .before .before .before .before .before .before .before .before .before .args .weights))
-    (c .before .before .before .before .before .before .before .before .before .before .before .args .rational)
-    ((c .before .before .before .before .before .before .before .before .before .before .before .args .row + i) * c .before .before .before .before .before .before .before .before .before .before .before .args .nv + c .before .before .before .before .before .before .before .before .before .before .before .args .col) (c .before .before .before .before .before .before .before .before .before .before .before .args .o) (c .before .before .before .before .before .before .before .before .before .before .before .args .scale) (now (c .before .before .before .before .before .before .before .before .before .before .before .args .vk)) (c .before .before .before .before .before .before .before .before .before .before .before .args .v .degree) (c .before .before .before .before .before .before .before .before .before .before .before .args .v .span) (c .before .before .before .before .before .before .before .before .before .before .before .args .v .t)) (c .before .before .before .before .before .before .before .before .before .before .before .args .u .degree) (now (c .before .before .before .before .before .before .before .before .before .before .before .args .uk)) (c .before .before .before .before .before .before .before .before .before .before .before .args .u .span) (c .before .before .before .before .before .before .before .before .before .before .before .args .u .t) (c .before .before .before .before .before .loop .net) (c .before .before .before .before .before .loop .m) (c .before .before .before .before .before .loop .inv) (c .before .before .before .before .loop-test .taken) _ e (row-not-0 _ _ _ _ _ _ _ _ _ _ _ e)
+    fill-refused (λ (i : ℕ). rowOf (now (a .points))
+    (now (a .weights))
+    (a .rational)
+    ((a .row + i) * a .nv + a .col) (a .o) (a .scale) (now (a .vk)) (a .v .degree) (a .v .span) (a .v .t)) (a .u .degree) (now (a .uk)) (a .u .span) (a .u .t)
+    (c .before .before .before .before .before .loop .net) (c .before .before .before .before .before .loop .m) (c .before .before .before .before .before .loop .inv)
+    (c .before .before .before .before .loop-test .taken) _ e (row-not-0 _ _ _ _ _ _ _ _ _ _ _ e)
 
 add-m : tie.Need-add-m Inv-loop μ-loop Inv-loop2 μ-loop2
 add-m c =
@@ -113,10 +117,13 @@ loop-less c =
 
 loop-again : tie.Need-loop-again Inv-loop μ-loop Inv-loop2 μ-loop2
 loop-again c =
-    fill-step (λ (i : ℕ). rowOf (now (c .before .before .before .before .before .before .before .before .before .before .before .args .points))
-    (now (c .before .before .before .before .before .before .before .before .before .before .before .args .weights))
-    (c .before .before .before .before .before .before .before .before .before .before .before .args .rational)
-    ((c .before .before .before .before .before .before .before .before .before .before .before .args .row + i) * c .before .before .before .before .before .before .before .before .before .before .before .args .nv + c .before .before .before .before .before .before .before .before .before .before .before .args .col) (c .before .before .before .before .before .before .before .before .before .before .before .args .o) (c .before .before .before .before .before .before .before .before .before .before .before .args .scale) (now (c .before .before .before .before .before .before .before .before .before .before .before .args .vk)) (c .before .before .before .before .before .before .before .before .before .before .before .args .v .degree) (c .before .before .before .before .before .before .before .before .before .before .before .args .v .span) (c .before .before .before .before .before .before .before .before .before .before .before .args .v .t)) (c .before .before .before .before .before .before .before .before .before .before .before .args .u .degree) (c .before .before .before .before .before .loop .net) (c .before .before .before .before .before .loop .m) (c .before .before .before .before .before .loop .inv) (c .before .before .before .before .loop-test .taken) (c .before .before .before .before .before .before .before .before .before .before .before .pre .0) _ (sym (c .before .before .before .row-of .ensures) ∙ c .before .c .given .1)
+    let a = c .before .before .before .before .before .before .before .before .before .before .before .args in
+    fill-step (λ (i : ℕ). rowOf (now (a .points))
+    (now (a .weights))
+    (a .rational)
+    ((a .row + i) * a .nv + a .col) (a .o) (a .scale) (now (a .vk)) (a .v .degree) (a .v .span) (a .v .t)) (a .u .degree) (c .before .before .before .before .before .loop .net)
+    (c .before .before .before .before .before .loop .m) (c .before .before .before .before .before .loop .inv) (c .before .before .before .before .loop-test .taken)
+    (c .before .before .before .before .before .before .before .before .before .before .before .pre .0) _ (sym (c .before .before .before .row-of .ensures) ∙ c .before .c .given .1)
 
 loop2-holds : tie.Need-loop2-holds Inv-loop μ-loop Inv-loop2 μ-loop2
 loop2-holds c =
@@ -192,18 +199,22 @@ enum-known-n-2 c = search needs
 
 returns-2 : tie.Need-returns-2 Inv-loop μ-loop Inv-loop2 μ-loop2
 returns-2 c =
-    steps-refused (now (c .before .before .before .before .before .before .before .before .before .before .before .before .before .before .before .before .args .uk))
-    (c .before .before .before .before .before .before .before .before .before .before .before .before .before .before .before .before .args .u .degree)
-    (c .before .before .before .before .before .before .before .before .before .before .before .before .before .before .before .before .args .u .span)
-    (c .before .before .before .before .before .before .before .before .before .before .before .before .before .before .before .before .args .u .t)
-    (held (c .before .before .before .before .before .before .before .before .before .before .loop .net)) (c .before .before .before .before .before .before .before .before .loop2 .net)
-    (c .before .before .before .before .before .before .before .before .loop2 .at .level) (c .before .before .before .before .before .before .before .before .loop2 .at .j)
-    (c .before .before .before .before .before .before .before .before .loop2 .inv) (c .before .before .before .before .before .before .if1 .taken) _ _ _
+    let a = c .before .before .before .before .before .before .before .before .before .before .before .before .before .before .before .before .args in
+    let b = c .before .before .before .before .before .before .before .before .before .before .loop in
+    let d = c .before .before .before .before .before .before .before .before .loop2 in
+    steps-refused (now (a .uk))
+    (a .u .degree)
+    (a .u .span)
+    (a .u .t)
+    (held (b .net)) (d .net)
+    (d .at .level) (d .at .j)
+    (d .inv) (c .before .before .before .before .before .before .if1 .taken) _ _ _
     (sym (c .before .before .before .step-at .ensures) ∙ c .before .n2 .given .1) ∙ held-filled
-    (λ (i : ℕ). rowOf (now (c .before .before .before .before .before .before .before .before .before .before .before .before .before .before .before .before .args .points))
-    (now (c .before .before .before .before .before .before .before .before .before .before .before .before .before .before .before .before .args .weights))
-    (c .before .before .before .before .before .before .before .before .before .before .before .before .before .before .before .before .args .rational)
-    ((c .before .before .before .before .before .before .before .before .before .before .before .before .before .before .before .before .args .row + i) * c .before .before .before .before .before .before .before .before .before .before .before .before .before .before .before .before .args .nv + c .before .before .before .before .before .before .before .before .before .before .before .before .before .before .before .before .args .col) (c .before .before .before .before .before .before .before .before .before .before .before .before .before .before .before .before .args .o) (c .before .before .before .before .before .before .before .before .before .before .before .before .before .before .before .before .args .scale) (now (c .before .before .before .before .before .before .before .before .before .before .before .before .before .before .before .before .args .vk)) (c .before .before .before .before .before .before .before .before .before .before .before .before .before .before .before .before .args .v .degree) (c .before .before .before .before .before .before .before .before .before .before .before .before .before .before .before .before .args .v .span) (c .before .before .before .before .before .before .before .before .before .before .before .before .before .before .before .before .args .v .t)) (now (c .before .before .before .before .before .before .before .before .before .before .before .before .before .before .before .before .args .uk)) (c .before .before .before .before .before .before .before .before .before .before .before .before .before .before .before .before .args .u .degree) (c .before .before .before .before .before .before .before .before .before .before .before .before .before .before .before .before .args .u .span) (c .before .before .before .before .before .before .before .before .before .before .before .before .before .before .before .before .args .u .t) (c .before .before .before .before .before .before .before .before .before .before .loop .net) (c .before .before .before .before .before .before .before .before .before .before .loop .m) (c .before .before .before .before .before .before .before .before .before .before .loop .inv) (c .before .before .before .before .before .before .before .before .before .loop-test .left)
+    (λ (i : ℕ). rowOf (now (a .points))
+    (now (a .weights))
+    (a .rational)
+    ((a .row + i) * a .nv + a .col) (a .o) (a .scale) (now (a .vk)) (a .v .degree) (a .v .span) (a .v .t)) (now (a .uk)) (a .u .degree) (a .u .span) (a .u .t) (b .net) (b .m) (b .inv)
+    (c .before .before .before .before .before .before .before .before .before .loop-test .left)
 
 next-place-requires : tie.Need-next-place-requires Inv-loop μ-loop Inv-loop2 μ-loop2
 next-place-requires c κs = (
@@ -235,18 +246,22 @@ array-copy-out-t24 c = omega (arith, c .before .before .loop2 .inv .long, c .bef
 
 returns-3 : tie.Need-returns-3 Inv-loop μ-loop Inv-loop2 μ-loop2
 returns-3 c =
-    steps-end (now (c .before .before .before .before .before .before .before .before .before .before .before .args .uk))
-    (c .before .before .before .before .before .before .before .before .before .before .before .args .u .degree)
-    (c .before .before .before .before .before .before .before .before .before .before .before .args .u .span)
-    (c .before .before .before .before .before .before .before .before .before .before .before .args .u .t) (held (c .before .before .before .before .before .loop .net))
-    (c .before .before .before .loop2 .net) (c .before .before .before .loop2 .at .level) (c .before .before .before .loop2 .at .j) (c .before .before .before .loop2 .inv)
-    (c .before .if1 .left) zeroControl _ (getD-any (c .before .before .before .loop2 .net)
-    (c .before .before .before .before .before .before .before .before .before .before .before .args .u .degree) _ zeroControl
-    (omega (arith, c .before .before .before .loop2 .inv .long, c .before .before .before .before .before .before .before .before .before .before .before .pre .0))) ∙ held-filled
-    (λ (i : ℕ). rowOf (now (c .before .before .before .before .before .before .before .before .before .before .before .args .points))
-    (now (c .before .before .before .before .before .before .before .before .before .before .before .args .weights))
-    (c .before .before .before .before .before .before .before .before .before .before .before .args .rational)
-    ((c .before .before .before .before .before .before .before .before .before .before .before .args .row + i) * c .before .before .before .before .before .before .before .before .before .before .before .args .nv + c .before .before .before .before .before .before .before .before .before .before .before .args .col) (c .before .before .before .before .before .before .before .before .before .before .before .args .o) (c .before .before .before .before .before .before .before .before .before .before .before .args .scale) (now (c .before .before .before .before .before .before .before .before .before .before .before .args .vk)) (c .before .before .before .before .before .before .before .before .before .before .before .args .v .degree) (c .before .before .before .before .before .before .before .before .before .before .before .args .v .span) (c .before .before .before .before .before .before .before .before .before .before .before .args .v .t)) (now (c .before .before .before .before .before .before .before .before .before .before .before .args .uk)) (c .before .before .before .before .before .before .before .before .before .before .before .args .u .degree) (c .before .before .before .before .before .before .before .before .before .before .before .args .u .span) (c .before .before .before .before .before .before .before .before .before .before .before .args .u .t) (c .before .before .before .before .before .loop .net) (c .before .before .before .before .before .loop .m) (c .before .before .before .before .before .loop .inv) (c .before .before .before .before .loop-test .left)
+    let a = c .before .before .before .before .before .before .before .before .before .before .before .args in
+    let b = c .before .before .before .loop2 in
+    steps-end (now (a .uk))
+    (a .u .degree)
+    (a .u .span)
+    (a .u .t) (held (c .before .before .before .before .before .loop .net))
+    (b .net) (b .at .level) (b .at .j) (b .inv)
+    (c .before .if1 .left) zeroControl _ (getD-any (b .net)
+    (a .u .degree) _ zeroControl
+    (omega (arith, b .inv .long, c .before .before .before .before .before .before .before .before .before .before .before .pre .0))) ∙ held-filled
+    (λ (i : ℕ). rowOf (now (a .points))
+    (now (a .weights))
+    (a .rational)
+    ((a .row + i) * a .nv + a .col) (a .o) (a .scale) (now (a .vk)) (a .v .degree) (a .v .span) (a .v .t)) (now (a .uk)) (a .u .degree) (a .u .span) (a .u .t)
+    (c .before .before .before .before .before .loop .net) (c .before .before .before .before .before .loop .m) (c .before .before .before .before .before .loop .inv)
+    (c .before .before .before .before .loop-test .left)
 
 pub rows-of-spec : {M : Type 1} → statement M
 rows-of-spec =

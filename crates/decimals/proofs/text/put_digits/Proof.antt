@@ -1,6 +1,6 @@
 -- The digits, the last one first. The invariant says what is left: the digits of the rest, stored into the run as it is, give the run that is asked for.
 -- Assumes nothing.
-use Prim.Native.Nat.{_-_, _≤_}
+use Prim.Native.Nat.{_≤_}
 use mathlib.Core.Path.{_≡_, sym, _∙_}
 use native.Mathlib.Omega.{arith}
 use lib.ListN.{length, length-set}

@@ -1,6 +1,6 @@
 -- `drawing::extremes::extreme` meets its contract.
 -- Assumes nothing.
-use Prim.Native.Nat.{_+_, _-_, _*_, _/_, _≤_}
+use Prim.Native.Nat.{_-_, _/_, _≤_}
 use mathlib.Core.Path.{_≡_, _∙_, ap}
 use mathlib.Core.Bool.{cond}
 use native.Mathlib.Omega.{arith}
@@ -9,7 +9,6 @@ use lib.ListN.{length}
 use lib.Ieee.{Float}
 use borrow.Author.Needs.{needs}
 use Rattle.doubles.specs.Neighbour.{fmin, fmax}
-use Rattle.doubles.specs.Run.{at}
 use Rattle.drawing.specs.Drawing.{leastOf, greatestOf}
 use Rattle.drawing.proofs.Outermost.{extremeFrom, extreme-none, extreme-more}
 use mathlib.Core.Path.{ap₂}

@@ -31,8 +31,8 @@ weight-at-requires c κs = search needs
 kept-row-requires : tie.Need-kept-row-requires Inv-loop μ-loop
 kept-row-requires c κs = search needs
 
-put-row-requires : tie.Need-put-row-requires Inv-loop μ-loop
-put-row-requires c κs = search needs
+put-whole-requires : tie.Need-put-whole-requires Inv-loop μ-loop
+put-whole-requires c κs = let l = c .before .before .before .before .before .loop .inv .done .long in omega arith
 
 add-i : tie.Need-add-i Inv-loop μ-loop
 add-i c = search needs
@@ -53,7 +53,7 @@ loop-again c =
     (lp .i) _ _
     (let t = c .before .before .before .before .before .before .before .loop-test .taken in
     let p = c .before .before .before .before .before .before .before .before .before .before .before .before .pre .1 .1 in let l = lp .inv .done .long in omega arith)
-    (a .rational) _ (c .before .before .put-row .ensures))
+    (a .rational) _ (c .before .before .put-whole .ensures))
 
 same-length : tie.Need-same-length Inv-loop μ-loop
 same-length c = c .before .loop .inv .done .long
@@ -73,7 +73,7 @@ lay-rows-spec =
     point-at-requires
     weight-at-requires
     kept-row-requires
-    put-row-requires
+    put-whole-requires
     add-i
     loop-less
     loop-again

@@ -18,8 +18,8 @@ loop-holds c =
     let a = c .before .before .before .args in
     take-start (a .rational) (a .n) (now (a .rows)) (now (a .points)) (now (a .weights))
 
-row-at-requires : tie.Need-row-at-requires Inv-loop μ-loop
-row-at-requires c κs = search needs
+whole-row-requires : tie.Need-whole-row-requires Inv-loop μ-loop
+whole-row-requires c κs = search needs
 
 vector-of-requires : tie.Need-vector-of-requires Inv-loop μ-loop
 vector-of-requires c κs = search needs
@@ -43,7 +43,8 @@ loop-again c =
     let q = c .before .before .before .before .before .before .before .before .before .before .before .before .before .before .before .pre in
     take-more
     (a .rational) (a .n) (now (a .rows)) (now (a .points)) (now (a .weights)) _ _ (l .i) (l .inv) (c .before .before .before .before .before .before .before .before .before .before .loop-test .taken)
-    (q .1 .0) (q .1 .1) _ (c .before .before .before .before .before .before .before .before .before .row-at .ensures) _ (c .before .before .before .before .before .before .before .vector-of .ensures)
+    (q .1 .0) (q .1 .1) _ (c .before .before .before .before .before .before .before .before .before .whole-row .ensures) _
+    (c .before .before .before .before .before .before .before .vector-of .ensures)
     _ _ (c .before .before .before .before .before .before .put-point .ensures) (c .before .before .put-weight .ensures)
 
 same-length : tie.Need-same-length Inv-loop μ-loop
@@ -64,7 +65,7 @@ take-rows-spec =
     Inv-loop
     μ-loop
     loop-holds
-    row-at-requires
+    whole-row-requires
     vector-of-requires
     put-point-requires
     put-weight-requires

@@ -23,8 +23,8 @@ abbrev μ-loop : tie.MeasureT-loop
 loop-holds : tie.Need-loop-holds Inv-loop μ-loop
 loop-holds c = lift-start (c .before .args .rational) (c .before .args .o) (c .before .args .scale) (c .before .args .n) (now (c .before .args .rows))
 
-row-at-requires : tie.Need-row-at-requires Inv-loop μ-loop
-row-at-requires c κs = search needs
+whole-row-requires : tie.Need-whole-row-requires Inv-loop μ-loop
+whole-row-requires c κs = let l = c .before .before .loop .inv .done .long in omega arith
 
 lift-row-requires : tie.Need-lift-row-requires Inv-loop μ-loop
 lift-row-requires c κs = search needs
@@ -41,10 +41,10 @@ returns c =
     let l = c .before .before .before .before .before .before .loop in
     lift-stop
     (a .rational) (a .o) (a .scale) (a .n) (now (a .rows)) _ (l .i) (l .inv) (c .before .before .before .before .before .loop-test .taken) _
-    (c .before .before .lift-row .ensures ∙ ap (liftRow _ (a .o) (a .rational)) (c .before .before .before .row-at .ensures)) (sym (c .before .is-lifted .ensures) ∙ not-true _ (c .if1 .taken))
+    (c .before .before .lift-row .ensures ∙ ap (liftRow _ (a .o) (a .rational)) (c .before .before .before .whole-row .ensures)) (sym (c .before .is-lifted .ensures) ∙ not-true _ (c .if1 .taken))
 
-put-row-requires : tie.Need-put-row-requires Inv-loop μ-loop
-put-row-requires c κs = search needs
+put-whole-requires : tie.Need-put-whole-requires Inv-loop μ-loop
+put-whole-requires c κs = let l = c .before .before .before .before .before .before .before .loop .inv .done .long in omega arith
 
 add-i : tie.Need-add-i Inv-loop μ-loop
 add-i c = search needs
@@ -58,13 +58,13 @@ loop-again c =
     let lp = c .before .before .before .before .before .before .before .before .before .before .loop in
     lift-more
     (a .rational) (a .o) (a .scale) (a .n) (now (a .rows)) _ (lp .i) (lp .inv) (c .before .before .before .before .before .before .before .before .before .loop-test .taken) _
-    (c .before .before .before .before .before .before .lift-row .ensures ∙ ap (liftRow _ (a .o) (a .rational)) (c .before .before .before .before .before .before .before .row-at .ensures))
+    (c .before .before .before .before .before .before .lift-row .ensures ∙ ap (liftRow _ (a .o) (a .rational)) (c .before .before .before .before .before .before .before .whole-row .ensures))
     (sym (c .before .before .before .before .before .is-lifted .ensures) ∙ not-false _ (c .before .before .before .before .if1 .left)) _ (c .before .rows .given)
     (row-put
     (lp .i) _ _
     (let t = c .before .before .before .before .before .before .before .before .before .loop-test .taken in
     let p = c .before .before .before .before .before .before .before .before .before .before .before .before .pre in let l = lp .inv .done .long in omega arith)
-    (a .rational) _ (c .before .before .put-row .ensures))
+    (a .rational) _ (c .before .before .put-whole .ensures))
 
 same-length-2 : tie.Need-same-length-2 Inv-loop μ-loop
 same-length-2 c = c .before .loop .inv .done .long
@@ -81,12 +81,12 @@ lift-rows-spec =
     Inv-loop
     μ-loop
     loop-holds
-    row-at-requires
+    whole-row-requires
     lift-row-requires
     is-lifted-requires
     same-length
     returns
-    put-row-requires
+    put-whole-requires
     add-i
     loop-less
     loop-again

@@ -21,7 +21,8 @@ returns c =
 clamped-ends-requires : tie.Need-clamped-ends-requires
 clamped-ends-requires c κs =
     let a = c .before .before .before .before .before .before .args in
-    let v = valid-curve (a .degree) (now (a .knots)) (now (a .points)) (a .rational) (now (a .weights)) (sym (ap (λ (r : Refusal). r .number) (c .before .before .curve-refusal .ensures)) ∙ c .if1 .left) in
+    let v = valid-curve (a .degree) (now (a .knots)) (now (a .points)) (a .rational) (now (a .weights))
+    (sym (ap (λ (r : Refusal). r .number) (c .before .before .curve-refusal .ensures)) ∙ c .if1 .left) in
     let l = v .knots .long in let k = v .knots .count in (k, omega arith)
 
 refuse-requires : tie.Need-refuse-requires

@@ -47,7 +47,8 @@ clear-requires-3 c κs = search needs
 
 raise-into-requires : tie.Need-raise-into-requires
 raise-into-requires c κs =
-    let a = c .before .before .before .before .before .before .before .before .before .before .before .before .before .before .before .before .before .before .before .before .before .before .before .before .args in
+    let a = c .before .before .before .before .before .before .before .before .before .before .before .before .before .before .before .before .before .before .before .before .before
+    .before .before .before .args in
     let s =
     start-ready
     (a .degree) (now (a .knots)) (now (a .points)) (a .rational) (now (a .weights)) (a .raised) (length (now (a .out-knots))) (length (now (a .out-points))) (length (now (a .out-weights)))
@@ -71,7 +72,8 @@ same-length-7 c = search needs
 
 returns-2 : tie.Need-returns-2
 returns-2 c =
-    let a = c .before .before .before .before .before .before .before .before .before .before .before .before .before .before .before .before .before .before .before .before .before .before .before .before .before .before .before .before .before .before .before .before .before .args in
+    let a = c .before .before .before .before .before .before .before .before .before .before .before .before .before .before .before .before .before .before .before .before .before
+    .before .before .before .before .before .before .before .before .before .before .before .before .args in
     raised-up
     (a .degree) (now (a .knots)) (now (a .points)) (a .rational) (now (a .weights)) (a .raised) (length (now (a .out-knots))) (length (now (a .out-points))) (length (now (a .out-weights))) _ _ _ _
     (c .before .before .before .before .before .before .before .before .before .before .before .before .before .before .before .before .before .before .before .before .before .before .before .before

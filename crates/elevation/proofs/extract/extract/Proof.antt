@@ -17,7 +17,9 @@ use Rattle.elevation.proofs.extract.extract.Statement.{statement}
 use Rattle.elevation.proofs.extract.extract.Tie as tie
 
 abbrev Inv-loop : tie.InvT-loop
-Inv-loop p n knots rational a work₀ count₀ k₀ work count k = AtBreak knots n k × Extracting p rational (insertAll p rational n (knotsFrom a p n work₀) (pointsFrom n work₀) (weightsFrom rational n work₀) (missingAll p knots (breaksOf p n knots))) (n + length (missingAll p knots (breaksOf p n knots))) a knots work₀ work count (left knots n k)
+Inv-loop p n knots rational a work₀ count₀ k₀ work count k = AtBreak knots n k × Extracting p rational
+    (insertAll p rational n (knotsFrom a p n work₀) (pointsFrom n work₀) (weightsFrom rational n work₀) (missingAll p knots (breaksOf p n knots)))
+    (n + length (missingAll p knots (breaksOf p n knots))) a knots work₀ work count (left knots n k)
 
 abbrev μ-loop : tie.MeasureT-loop
 μ-loop p n knots rational a work₀ count₀ k₀ work count k = n - k
@@ -110,7 +112,8 @@ loop-again c =
           (insertAll
           (a .p) (a .rational) (a .n) (knotsFrom (a .a) (a .p) (a .n) (now (a .work))) (pointsFrom (a .n) (now (a .work))) (weightsFrom (a .rational) (a .n) (now (a .work)))
           (missingAll (a .p) (now (a .knots)) (breaksOf (a .p) (a .n) (now (a .knots)))))
-          (a .n + length (missingAll (a .p) (now (a .knots)) (breaksOf (a .p) (a .n) (now (a .knots))))) (a .a) (now (a .knots)) (now (a .work)) (q .1 .1 .0) (q .1 .1 .1) (a .n) (l .k) (l .count) (l .work)
+          (a .n + length (missingAll (a .p) (now (a .knots)) (breaksOf (a .p) (a .n) (now (a .knots))))) (a .a) (now (a .knots)) (now (a .work)) (q .1 .1 .0) (q .1 .1 .1) (a .n) (l .k)
+          (l .count) (l .work)
           (l .inv .1) (l .inv .0) (c .before .before .before .before .before .before .before .before .before .loop-test .taken) _
           (c .before .before .before .before .before .before .before .missing .ensures) _ _ (c .before .before .before .before .before .insert-times .ensures .0)
           (c .before .before .before .before .before .insert-times .ensures .1) (c .before .if1 .left) (c .next-break2 .result) (c .next-break2 .ensures),

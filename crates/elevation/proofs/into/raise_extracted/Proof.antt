@@ -77,8 +77,10 @@ same-length-5 c = search needs
 
 returns-2 : tie.Need-returns-2
 returns-2 c =
-    let a = c .before .before .before .before .before .before .before .before .before .before .before .before .before .before .before .before .before .before .before .before .before .before .before .before .before .before .before .before .args in
-    let q = c .before .before .before .before .before .before .before .before .before .before .before .before .before .before .before .before .before .before .before .before .before .before .before .before .before .before .before .before .pre in
+    let a = c .before .before .before .before .before .before .before .before .before .before .before .before .before .before .before .before .before .before .before .before .before
+    .before .before .before .before .before .before .before .args in
+    let q = c .before .before .before .before .before .before .before .before .before .before .before .before .before .before .before .before .before .before .before .before .before
+    .before .before .before .before .before .before .before .pre in
     lift-joined
     (a .p) (a .e) (a .n) (omega (arith, q .0 .3)) (now (a .knots)) (breaksOf (a .p) (a .n) (now (a .knots))) (a .rational) (a .m) (q .1 .0 .0) (now (a .work)) (q .1 .0 .1) _
     (c .before .before .before .before .before .before .before .before .before .before .before .before .before .before .before .before .before .before .scale-in .ensures) _

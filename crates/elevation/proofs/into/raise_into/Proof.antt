@@ -73,7 +73,8 @@ returns c =
     (length (now (a .work))) (c .before .before .before .before .before .before .before .before .before .before .before .before .before .before .before .pre .0)
     (c .before .before .before .before .before .before .before .count-breaks .result .breaks) (c .before .before .before .before .before .before .before .count-breaks .result .full)
     (c .before .before .before .before .before .before .before .count-breaks .ensures)
-    ((a .degree + 1) * (c .before .before .before .before .before .before .before .count-breaks .result .breaks + 1)) refl _ (c .before .before .before .before .lay-curve .ensures .0)))
+    ((a .degree + 1) * (c .before .before .before .before .before .before .before .count-breaks .result .breaks + 1)) refl (now (a .work)) refl _
+    (c .before .before .before .before .lay-curve .ensures .0)))
 
 extract-requires : tie.Need-extract-requires
 extract-requires c κs =
@@ -83,7 +84,8 @@ extract-requires c κs =
     (length (now (a .work))) (c .before .before .before .before .before .before .before .before .before .before .before .before .before .before .before .before .pre .0)
     (c .before .before .before .before .before .before .before .before .count-breaks .result .breaks) (c .before .before .before .before .before .before .before .before .count-breaks .result .full)
     (c .before .before .before .before .before .before .before .before .count-breaks .ensures)
-    ((a .degree + 1) * (c .before .before .before .before .before .before .before .before .count-breaks .result .breaks + 1)) refl _ (c .before .before .before .before .before .lay-curve .ensures .1)
+    ((a .degree + 1) * (c .before .before .before .before .before .before .before .before .count-breaks .result .breaks + 1)) refl (now (a .work)) refl _
+    (c .before .before .before .before .before .lay-curve .ensures .1)
     _ (omega arith)
 
 same-length-2 : tie.Need-same-length-2
@@ -99,21 +101,24 @@ returns-2 c =
     (c .before .before .before .before .before .before .before .before .before .before .before .before .before .count-breaks .result .breaks)
     (c .before .before .before .before .before .before .before .before .before .before .before .before .before .count-breaks .result .full)
     (c .before .before .before .before .before .before .before .before .before .before .before .before .before .count-breaks .ensures)
-    ((a .degree + 1) * (c .before .before .before .before .before .before .before .before .before .before .before .before .before .count-breaks .result .breaks + 1)) refl _
+    ((a .degree + 1) * (c .before .before .before .before .before .before .before .before .before .before .before .before .before .count-breaks .result .breaks + 1)) refl (now (a .work)) refl _
     (c .before .before .before .before .before .before .before .before .before .before .lay-curve .ensures .1) _ _ (c .before .before .before .before .extract .ensures) (c .if2 .taken) _ _ _
 
 raise-extracted-requires : tie.Need-raise-extracted-requires
 raise-extracted-requires c κs =
-    let a = c .before .before .before .before .before .before .before .before .before .before .before .before .before .before .before .before .before .before .before .before .before .before .before .before .before .args in
-    let q = c .before .before .before .before .before .before .before .before .before .before .before .before .before .before .before .before .before .before .before .before .before .before .before .before .before .pre in
+    let b = c .before .before .before .before .before .before .before .before .before .before .before .before .before .before .before .before .before .count-breaks in
+    let a = c .before .before .before .before .before .before .before .before .before .before .before .before .before .before .before .before .before .before .before .before .before
+    .before .before .before .before .args in
+    let q = c .before .before .before .before .before .before .before .before .before .before .before .before .before .before .before .before .before .before .before .before .before
+    .before .before .before .before .pre in
     raise-ready
     (a .degree) (now (a .knots)) (now (a .points)) (a .rational) (now (a .weights)) (a .raised) (length (now (a .out-knots))) (length (now (a .out-points))) (length (now (a .out-weights)))
     (length (now (a .work))) (q .0)
-    (c .before .before .before .before .before .before .before .before .before .before .before .before .before .before .before .before .before .count-breaks .result .breaks)
-    (c .before .before .before .before .before .before .before .before .before .before .before .before .before .before .before .before .before .count-breaks .result .full)
-    (c .before .before .before .before .before .before .before .before .before .before .before .before .before .before .before .before .before .count-breaks .ensures)
-    ((a .degree + 1) * (c .before .before .before .before .before .before .before .before .before .before .before .before .before .before .before .before .before .count-breaks .result .breaks + 1))
-    refl _ (c .before .before .before .before .before .before .before .before .before .before .before .before .before .before .lay-curve .ensures .1) (q .1 .0) _ (omega arith)
+    (b .result .breaks)
+    (b .result .full)
+    (b .ensures)
+    ((a .degree + 1) * (b .result .breaks + 1))
+    refl (now (a .work)) refl _ (c .before .before .before .before .before .before .before .before .before .before .before .before .before .before .lay-curve .ensures .1) (q .1 .0) _ (omega arith)
 
 same-length-3 : tie.Need-same-length-3
 same-length-3 c = search needs
@@ -129,8 +134,10 @@ same-length-6 c = search needs
 
 returns-3 : tie.Need-returns-3
 returns-3 c =
-    let a = c .before .before .before .before .before .before .before .before .before .before .before .before .before .before .before .before .before .before .before .before .before .before .before .before .before .before .before .before .before .before .before .before .before .before .args in
-    let q = c .before .before .before .before .before .before .before .before .before .before .before .before .before .before .before .before .before .before .before .before .before .before .before .before .before .before .before .before .before .before .before .before .before .before .pre in
+    let a = c .before .before .before .before .before .before .before .before .before .before .before .before .before .before .before .before .before .before .before .before .before
+    .before .before .before .before .before .before .before .before .before .before .before .before .before .args in
+    let q = c .before .before .before .before .before .before .before .before .before .before .before .before .before .before .before .before .before .before .before .before .before
+    .before .before .before .before .before .before .before .before .before .before .before .before .before .pre in
     into-end
     (a .degree) (now (a .knots)) (now (a .points)) (a .rational) (now (a .weights)) (a .raised) (length (now (a .out-knots))) (length (now (a .out-points))) (length (now (a .out-weights)))
     (length (now (a .work))) (q .0)
@@ -140,9 +147,11 @@ returns-3 c =
     .before .before .count-breaks .result .full)
     (c .before .before .before .before .before .before .before .before .before .before .before .before .before .before .before .before .before .before .before .before .before .before .before .before
     .before .before .count-breaks .ensures)
-    ((a .degree + 1) * (c .before .before .before .before .before .before .before .before .before .before .before .before .before .before .before .before .before .before .before .before .before .before .before .before .before .before .count-breaks .result .breaks + 1))
-    refl _
-    (c .before .before .before .before .before .before .before .before .before .before .before .before .before .before .before .before .before .before .before .before .before .before .before .lay-curve
+    ((a .degree + 1) * (c .before .before .before .before .before .before .before .before .before .before .before .before .before .before .before .before .before .before .before .before
+    .before .before .before .before .before .before .count-breaks .result .breaks + 1))
+    refl (now (a .work)) refl _
+    (c .before .before .before .before .before .before .before .before .before .before .before .before .before .before .before .before .before .before .before .before .before .before
+    .before .lay-curve
     .ensures .1)
     _ _ (c .before .before .before .before .before .before .before .before .before .before .before .before .before .before .before .before .before .extract .ensures)
     (c .before .before .before .before .before .before .before .before .before .before .before .before .before .if2 .left) (now (a .out-knots)) (now (a .out-points)) (now (a .out-weights)) _ _ _ _

@@ -71,7 +71,9 @@ returns-2 c =
     (a .p) (a .e) (a .n) (now (a .knots)) (breaksOf (a .p) (a .n) (now (a .knots))) (a .rational) (rowOf (a .rational) (now (a .work))) (a .o) (now (a .out-knots)) (now (a .out-points))
     (now (a .out-weights)) _ _ _ _ (c .before .before .before .before .before .before .before .before .before .put-segments .ensures) (not-false _ (c .before .before .before .before .if1 .left))
     (c .before .before .before .before .before .before .before .before .before .before .before .before .before .before .put-knots .ensures) (a .count) (q .1 .0) _ (let x =
-    c .before .before .before .before .before .before .before .before .before .before .before .before .before .out-knots .given in let y = c .before .before .before .before .before .before .before .before .out-points .given in let z = c .before .before .before .before .before .before .out-weights .given in let i = q .1 .1 .1 .0 in let j = q .1 .1 .1 .1 .0 in let k = q .1 .1 .1 .1 .1 in c .front-refusal .ensures
+    c .before .before .before .before .before .before .before .before .before .before .before .before .before .out-knots .given in
+    let y = c .before .before .before .before .before .before .before .before .out-points .given in let z = c .before .before .before .before .before .before .out-weights .given in
+    let i = q .1 .1 .1 .0 in let j = q .1 .1 .1 .1 .0 in let k = q .1 .1 .1 .1 .1 in c .front-refusal .ensures
     ∙ front-is (a .e) (a .count) (a .rational) _ _ _ (omega arith) (omega arith) (omega arith))
 
 pub join-spec : {M : Type 1} → statement M

@@ -70,7 +70,8 @@ returns-3 c =
       le-ltb (a .e) (a .p) (c .before .before .before .before .before .before .before .before .if1 .left),
       sym (c .before .before .before .before .before .before .before .is-high .ensures) ∙ c .before .before .before .before .before .before .if2 .left,
       stop
-          (c .before .before .out-room .ensures ∙ ap (λ (k : ℕ). outRoom (a .e) k (a .rational) (a .a) (a .b) (a .c)) (c .before .before .before .before .before .elevated-count .ensures)) (c .if3 .taken),
+          (c .before .before .out-room .ensures ∙ ap (λ (k : ℕ). outRoom (a .e) k (a .rational) (a .a) (a .b) (a .c))
+          (c .before .before .before .before .before .elevated-count .ensures)) (c .if3 .taken),
     )
     (c .before .before .out-room .ensures ∙ ap (λ (k : ℕ). outRoom (a .e) k (a .rational) (a .a) (a .b) (a .c)) (c .before .before .before .before .before .elevated-count .ensures))
 
@@ -86,7 +87,8 @@ returns-4 c =
       le-ltb (a .e) (a .p) (c .before .before .before .before .before .before .before .before .before .if1 .left),
       sym (c .before .before .before .before .before .before .before .before .is-high .ensures) ∙ c .before .before .before .before .before .before .before .if2 .left,
       skip
-          (c .before .before .before .out-room .ensures ∙ ap (λ (k : ℕ). outRoom (a .e) k (a .rational) (a .a) (a .b) (a .c)) (c .before .before .before .before .before .before .elevated-count .ensures))
+          (c .before .before .before .out-room .ensures ∙ ap (λ (k : ℕ). outRoom (a .e) k (a .rational) (a .a) (a .b) (a .c))
+          (c .before .before .before .before .before .before .elevated-count .ensures))
           (c .before .if3 .left),
     )
     (c .scratch-room .ensures

@@ -83,7 +83,8 @@ returns c =
     let l = c .before .loop in
     let e : l .j ≡ a .p + 1 = omega arith in
     subst
-    (λ (i : ℕ). l .s ≡ sumsFrom noSums (rowTerm (a .two) (now (a .points)) (a .rational) (now (a .weights)) (a .scale) (pointOf (now (a .points)) (a .first)) (a .first) (cell (now (a .ders)) (a .k))) i)
+    (λ (i : ℕ). l .s ≡ sumsFrom noSums (rowTerm (a .two) (now (a .points)) (a .rational) (now (a .weights)) (a .scale) (pointOf (now (a .points)) (a .first)) (a .first)
+    (cell (now (a .ders)) (a .k))) i)
     e (l .inv .1)
 
 pub row-sums-spec : {M : Type 1} → statement M

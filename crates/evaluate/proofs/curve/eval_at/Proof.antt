@@ -28,7 +28,8 @@ clamp-requires c κs = search needs
 curve-at-requires : tie.Need-curve-at-requires
 curve-at-requires c κs =
     let a = c .before .before .before .before .before .before .before .before .args in
-    let none : stepRefusal (a .degree) (now (a .knots)) (now (a .points)) (a .rational) (now (a .weights)) (a .t) .number ≡ 0 = sym (ap (λ (r : Refusal). r .number) (c .before .before .before .before .step-refusal .ensures))
+    let none : stepRefusal (a .degree) (now (a .knots)) (now (a .points)) (a .rational) (now (a .weights)) (a .t) .number ≡ 0 = sym
+    (ap (λ (r : Refusal). r .number) (c .before .before .before .before .step-refusal .ensures))
     ∙ c .before .before .if1 .left in
     let o = step-open (a .degree) (now (a .knots)) (now (a .points)) (a .rational) (now (a .weights)) (a .t) none in
     let n = countOf (now (a .points)) in

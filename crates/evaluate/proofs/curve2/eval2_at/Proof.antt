@@ -29,7 +29,8 @@ clamp-requires c κs = search needs
 curve2-at-requires : tie.Need-curve2-at-requires
 curve2-at-requires c κs =
     let given = c .before .before .before .before .before .before .before .before .args in
-    let none : stepRefusal (given .degree) (now (given .knots)) (now (given .points)) (given .rational) (now (given .weights)) (given .t) .number ≡ 0 = sym (ap (λ (r : Refusal). r .number) (c .before .before .before .before .step-refusal .ensures))
+    let none : stepRefusal (given .degree) (now (given .knots)) (now (given .points)) (given .rational) (now (given .weights)) (given .t) .number ≡ 0 = sym
+    (ap (λ (r : Refusal). r .number) (c .before .before .before .before .step-refusal .ensures))
     ∙ c .before .before .if1 .left in
     let o = step-open (given .degree) (now (given .knots)) (now (given .points)) (given .rational) (now (given .weights)) (given .t) none in
     let n = countOf (now (given .points)) in
@@ -73,7 +74,8 @@ returns-3 c =
     let given = c .before .before .before .before .before .before .before .before .before .before .before .before .args in
     ap Refused (c .refuse .ensures)
     ∙ at2-degenerate
-    (given .degree) (now (given .knots)) (now (given .points)) (given .rational) (now (given .weights)) (given .t) (c .before .before .before .before .before .before .before .before .step-refusal .result)
+    (given .degree) (now (given .knots)) (now (given .points)) (given .rational) (now (given .weights)) (given .t)
+    (c .before .before .before .before .before .before .before .before .step-refusal .result)
     (c .before .before .before .before .before .before .before .before .step-refusal .ensures) (c .before .before .before .before .before .before .if1 .left) _ _
     (c .before .before .before .before .before .span-of .ensures .found) (c .before .before .before .before .clamp .ensures) _ (c .before .before .before .curve2-at .ensures)
     (sym (c .before .before .finite2-of .ensures) ∙ c .before .if2 .left)

@@ -30,7 +30,8 @@ loop-holds c =
 
 add-i : tie.Need-add-i Inv-loop μ-loop
 add-i c =
-    let h = c .before .before .before .before .before .before .pre .1 .1 .0 (not-false (c .before .before .before .before .before .before .args .rational) (c .before .before .before .before .if1 .left))
+    let h = c .before .before .before .before .before .before .pre .1 .1 .0
+    (not-false (c .before .before .before .before .before .before .args .rational) (c .before .before .before .before .if1 .left))
     (c .before .before .before .loop .k) (omega arith) in
     omega arith
 

@@ -26,7 +26,8 @@ loop-holds c =
       omega arith,
       refl,
       net-none
-          (now (a .points)) (a .rational) (now (a .weights)) (a .scale) (a .o) (a .net .columns) (a .net .a) (a .net .b) (a .net .q + 1) (cell (now (a .u-ders)) (a .i)) (cell (now (a .v-ders)) (a .j)),
+          (now (a .points)) (a .rational) (now (a .weights)) (a .scale) (a .o) (a .net .columns) (a .net .a) (a .net .b) (a .net .q + 1) (cell (now (a .u-ders)) (a .i))
+          (cell (now (a .v-ders)) (a .j)),
     )
 
 add-h : tie.Need-add-h Inv-loop μ-loop
@@ -86,7 +87,8 @@ returns c =
     let l = c .before .before .loop in
     let e : l .k ≡ a .net .p + 1 = omega arith in
     subst
-    (λ (i : ℕ). l .s ≡ netSums (now (a .points)) (a .rational) (now (a .weights)) (a .scale) (a .o) (a .net .columns) (a .net .a) (a .net .b) (cell (now (a .u-ders)) (a .i)) (cell (now (a .v-ders)) (a .j)) (a .net .q + 1) i)
+    (λ (i : ℕ). l .s ≡ netSums (now (a .points)) (a .rational) (now (a .weights)) (a .scale) (a .o) (a .net .columns) (a .net .a) (a .net .b) (cell (now (a .u-ders)) (a .i))
+    (cell (now (a .v-ders)) (a .j)) (a .net .q + 1) i)
     e (l .inv .2)
 
 pub net-sums-spec : {M : Type 1} → statement M

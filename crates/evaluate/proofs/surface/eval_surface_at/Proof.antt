@@ -35,7 +35,8 @@ clamp-requires-2 c κs = search needs
 surface-at-requires : tie.Need-surface-at-requires
 surface-at-requires c κs =
     let a = c .before .before .before .before .before .before .before .before .before .before .before .args in
-    let none : surfaceStepRefusal (a .p) (a .q) (now (a .uk)) (now (a .vk)) (a .m) (a .n) (now (a .points)) (a .rational) (now (a .weights)) (a .u) (a .v) .number ≡ 0 = sym (ap (λ (r : Refusal). r .number) (c .before .before .before .before .before .before .surface-step-refusal .ensures))
+    let none : surfaceStepRefusal (a .p) (a .q) (now (a .uk)) (now (a .vk)) (a .m) (a .n) (now (a .points)) (a .rational) (now (a .weights)) (a .u) (a .v) .number ≡ 0 = sym
+    (ap (λ (r : Refusal). r .number) (c .before .before .before .before .before .before .surface-step-refusal .ensures))
     ∙ c .before .before .before .before .if1 .left in
     let o = surface-step-open (a .p) (a .q) (now (a .uk)) (now (a .vk)) (a .m) (a .n) (now (a .points)) (a .rational) (now (a .weights)) (a .u) (a .v) none in
     let s =

@@ -34,7 +34,8 @@ same-length-4 c = search needs
 
 returns : tie.Need-returns
 returns c = let k = c .before .before .before .before .before .before .before .before .clear-all .ensures in
-    let a = c .before .before .before .before .before .before .before .before .before .before .before .before .before .before .before .before .before .before .before .before .before .before .before .before
+    let a = c .before .before .before .before .before .before .before .before .before .before .before .before .before .before .before .before .before .before .before .before .before
+    .before .before .before
     .args in
     insert-early
     (a .degree) (now (a .knots)) (now (a .points)) (a .rational) (now (a .weights)) (now (a .inserted)) (length (now (a .out-knots))) (length (now (a .out-points))) (length (now (a .out-weights)))
@@ -44,7 +45,9 @@ returns c = let k = c .before .before .before .before .before .before .before .b
 insert-into-requires : tie.Need-insert-into-requires
 insert-into-requires c κs =
     let a = c .before .before .before .before .before .before .before .before .before .before .before .before .before .before .before .args in
-    let none : insertStart (a .degree) (now (a .knots)) (now (a .points)) (a .rational) (now (a .weights)) (now (a .inserted)) (length (now (a .out-knots))) (length (now (a .out-points))) (length (now (a .out-weights))) (length (now (a .scratch))) .number ≡ 0 = sym (ap (λ (r : Refusal). r .number) (c .before .before .before .before .before .before .insert-start .ensures))
+    let none : insertStart (a .degree) (now (a .knots)) (now (a .points)) (a .rational) (now (a .weights)) (now (a .inserted)) (length (now (a .out-knots)))
+    (length (now (a .out-points))) (length (now (a .out-weights))) (length (now (a .scratch))) .number ≡ 0 = sym
+    (ap (λ (r : Refusal). r .number) (c .before .before .before .before .before .before .insert-start .ensures))
     ∙ c .before .before .before .before .if1 .left in
     let o =
     start-open
@@ -73,7 +76,8 @@ same-length-8 c = search needs
 
 returns-2 : tie.Need-returns-2
 returns-2 c = let k = c .before .before .before .before .before .before .before .before .clear-all2 .ensures in
-    let a = c .before .before .before .before .before .before .before .before .before .before .before .before .before .before .before .before .before .before .before .before .before .before .before .before
+    let a = c .before .before .before .before .before .before .before .before .before .before .before .before .before .before .before .before .before .before .before .before .before
+    .before .before .before
     .before .before .before .before .before .before .before .before .before .before .before .before .before .before .before .args in
     insert-late
     (a .degree) (now (a .knots)) (now (a .points)) (a .rational) (now (a .weights)) (now (a .inserted)) (length (now (a .out-knots))) (length (now (a .out-points))) (length (now (a .out-weights)))
@@ -101,9 +105,13 @@ clear-from-requires c κs = search needs
 
 add-count : tie.Need-add-count
 add-count c =
-    let a = c .before .before .before .before .before .before .before .before .before .before .before .before .before .before .before .before .before .before .before .before .before .before .before .before
+    let a = c .before .before .before .before .before .before .before .before .before .before .before .before .before .before .before .before .before .before .before .before .before
+    .before .before .before
     .before .before .before .before .before .before .args in
-    let none : insertStart (a .degree) (now (a .knots)) (now (a .points)) (a .rational) (now (a .weights)) (now (a .inserted)) (length (now (a .out-knots))) (length (now (a .out-points))) (length (now (a .out-weights))) (length (now (a .scratch))) .number ≡ 0 = sym (ap (λ (r : Refusal). r .number) (c .before .before .before .before .before .before .before .before .before .before .before .before .before .before .before .before .before .before .before .before .before .insert-start .ensures))
+    let none : insertStart (a .degree) (now (a .knots)) (now (a .points)) (a .rational) (now (a .weights)) (now (a .inserted)) (length (now (a .out-knots)))
+    (length (now (a .out-points))) (length (now (a .out-weights))) (length (now (a .scratch))) .number ≡ 0 = sym
+    (ap (λ (r : Refusal). r .number) (c .before .before .before .before .before .before .before .before .before .before .before .before .before .before .before .before .before .before
+    .before .before .before .insert-start .ensures))
     ∙ c .before .before .before .before .before .before .before .before .before .before .before .before .before .before .before .before .before .before .before .if1 .left in
     let o =
     start-open
@@ -127,7 +135,8 @@ same-length-12 c = search needs
 
 returns-3 : tie.Need-returns-3
 returns-3 c =
-    let a = c .before .before .before .before .before .before .before .before .before .before .before .before .before .before .before .before .before .before .before .before .before .before .before .before
+    let a = c .before .before .before .before .before .before .before .before .before .before .before .before .before .before .before .before .before .before .before .before .before
+    .before .before .before
     .before .before .before .before .before .before .args in
     insert-formed
     (a .degree) (now (a .knots)) (now (a .points)) (a .rational) (now (a .weights)) (now (a .inserted)) (length (now (a .out-knots))) (length (now (a .out-points))) (length (now (a .out-weights)))

@@ -5,8 +5,8 @@ use native.Mathlib.Omega.{arith}
 use denote.Ref.{now}
 use Rattle.edits.specs.Control.{vectorOf, isLifted}
 use Rattle.edits.specs.Passes.{LiftDone}
-use Rattle.insertion.proofs.Formed.{form-late, form-end}
-use Rattle.insertion.proofs.Formed.{form-19}
+use Rattle.insertion.proofs.OneInsertion.{form-late, form-end}
+use Rattle.insertion.proofs.OneInsertion.{form-19}
 use mathlib.Core.Bool.{true, false}
 use lib.Ieee.{Float}
 use Rattle.knots.specs.Below.{allBelow}
@@ -47,6 +47,7 @@ same-length-2 c = search needs
 
 returns-2 : tie.Need-returns-2
 returns-2 c =
+    let b = c .before .before .before .before .before .before .before .before .before .before .lift-in in
     let a = c .before .before .before .before .before .before .before .before .before .before .before .before .before .before .before .before .args in
     let pr = c .before .before .before .before .before .before .before .before .before .before .before .before .before .before .before .before .pre in
     form-late
@@ -55,12 +56,12 @@ returns-2 c =
     ∙ ap vectorOf (c .before .before .before .before .before .before .before .before .before .before .before .before .before .row-at .ensures))
     _
     (subst
-    (λ (m : Float). LiftDone (a .rational) (controls m (a .n) (a .rational) (now (a .work))) (a .n) (now (a .work)) (c .before .before .before .before .before .before .before .before .before .before .lift-in .last .1 .1 .1 .0) true)
+    (λ (m : Float). LiftDone (a .rational) (controls m (a .n) (a .rational) (now (a .work))) (a .n) (now (a .work)) (b .last .1 .1 .1 .0) true)
     (pr .1 .1 .1)
     (lifted-done
     (a .scale) (a .n) (a .rational) (now (a .work)) (let q = pr .1 .0 in let x = q .0 in let y = q .1 in omega arith) _
-    (c .before .before .before .before .before .before .before .before .before .before .lift-in .ensures .0) (c .before .before .before .before .before .before .if1 .left) _
-    (c .before .before .before .before .before .before .before .before .before .before .lift-in .ensures .1)))
+    (b .ensures .0) (c .before .before .before .before .before .before .if1 .left) _
+    (b .ensures .1)))
     (pr .0 .0) (pr .0 .1) (pr .1 .0 .0) (pr .1 .0 .1) (c .before .before .before .before .before .before .before .before .before .work .given) (pr .1 .1 .0) _ _
     (c .before .before .before .before .lower-rows .ensures) (c .if2 .taken)
 
@@ -108,6 +109,7 @@ same-length-3 c = search needs
 
 returns-3 : tie.Need-returns-3
 returns-3 c =
+    let b = c .before .before .before .before .before .before .before .before .before .before .before .before .before .before .before .before .lift-in in
     let a = c .before .before .before .before .before .before .before .before .before .before .before .before .before .before .before .before .before .before .before .before .before .before .args in
     let pr = c .before .before .before .before .before .before .before .before .before .before .before .before .before .before .before .before .before .before .before .before .before .before .pre in
     form-end
@@ -116,13 +118,13 @@ returns-3 c =
     ∙ ap vectorOf (c .before .before .before .before .before .before .before .before .before .before .before .before .before .before .before .before .before .before .before .row-at .ensures))
     _
     (subst
-    (λ (m : Float). LiftDone (a .rational) (controls m (a .n) (a .rational) (now (a .work))) (a .n) (now (a .work)) (c .before .before .before .before .before .before .before .before .before .before .before .before .before .before .before .before .lift-in .last .1 .1 .1 .0) true)
+    (λ (m : Float). LiftDone (a .rational) (controls m (a .n) (a .rational) (now (a .work))) (a .n) (now (a .work)) (b .last .1 .1 .1 .0) true)
     (pr .1 .1 .1)
     (lifted-done
     (a .scale) (a .n) (a .rational) (now (a .work)) (let q = pr .1 .0 in let x = q .0 in let y = q .1 in omega arith) _
-    (c .before .before .before .before .before .before .before .before .before .before .before .before .before .before .before .before .lift-in .ensures .0)
+    (b .ensures .0)
     (c .before .before .before .before .before .before .before .before .before .before .before .before .if1 .left) _
-    (c .before .before .before .before .before .before .before .before .before .before .before .before .before .before .before .before .lift-in .ensures .1)))
+    (b .ensures .1)))
     (pr .0 .0) (pr .0 .1) (pr .1 .0 .0) (pr .1 .0 .1) (c .before .before .before .before .before .before .before .before .before .before .before .before .before .before .before .work .given)
     (pr .1 .1 .0) _ _ (c .before .before .before .before .before .before .before .before .before .before .lower-rows .ensures)
     (c .before .before .before .before .before .before .before .before .before .work2 .given) _ (c .before .work3 .given) (c .before .before .put-knot .ensures)

@@ -9,8 +9,8 @@ use Rattle.edits.specs.Counts.{multiplicityOf}
 use Rattle.insertion.specs.Insert.{spotRefusal}
 use Rattle.edits.specs.Work.{knotsFrom, pointsFrom, weightsFrom}
 use Rattle.edits.proofs.IntoRun.{slice-is}
-use Rattle.insertion.proofs.Formed.{insert-early, insert-done}
-use Rattle.insertion.proofs.Formed.{spot-open, spot-found, moved-span}
+use Rattle.insertion.proofs.OneInsertion.{insert-early, insert-done}
+use Rattle.insertion.proofs.OneInsertion.{spot-open, spot-found, moved-span}
 use borrow.Author.Needs.{needs}
 use Rattle.insertion.proofs.one.insert_one.Statement.{statement}
 use Rattle.insertion.proofs.one.insert_one.Tie as tie

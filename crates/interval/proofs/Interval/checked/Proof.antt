@@ -1,5 +1,4 @@
 use Rattle.interval.specs.Ops.{checkedOf}
-use mathlib.Core.Path.{_≡_, refl, sym, ap, _∙_, subst}
 use borrow.Author.Needs.{needs}
 use Rattle.interval.proofs.Interval.checked.Statement.{statement}
 use Rattle.interval.proofs.Interval.checked.Tie as tie

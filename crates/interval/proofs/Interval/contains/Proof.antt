@@ -1,5 +1,4 @@
 use Rattle.interval.specs.Ops.{containsOf}
-use mathlib.Core.Path.{_≡_, refl, sym, ap, _∙_, subst}
 use Rattle.interval.proofs.Interval.contains.Statement.{statement}
 use Rattle.interval.proofs.Interval.contains.Tie as tie
 use Rattle.interval.proofs.Interval.contains.Reads as reads

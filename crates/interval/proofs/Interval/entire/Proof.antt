@@ -1,6 +1,5 @@
-use Rattle.interval.specs.declared.Interval.{Interval}
-use lib.Ieee.{Float, binary64, inf, isNan, nanBits, ofBits, toBits, neg, lt, le, eq, fits}
-use mathlib.Core.Path.{_≡_, refl, sym, ap, _∙_, subst}
+use lib.Ieee.{Float, neg}
+use mathlib.Core.Path.{ap}
 use borrow.Author.Needs.{needs}
 use Rattle.interval.proofs.Interval.entire.Statement.{statement}
 use Rattle.interval.proofs.Interval.entire.Tie as tie

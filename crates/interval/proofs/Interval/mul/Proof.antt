@@ -18,7 +18,8 @@ use Rattle.interval.proofs.step.most.Reads as most-reads
 
 -- past the test no product is a NaN
 none : (c : tie.Else1)
-    → (let a = c .before .before .before .before .before .before .before .before .before .before .args .self in let o = c .before .before .before .before .before .before .before .before .before .before .args .o in Products (λ x. isNan x ≡ false) binary64 (a .lo) (a .hi) (o .lo) (o .hi))
+    → (let a = c .before .before .before .before .before .before .before .before .before .before .args .self in
+    let o = c .before .before .before .before .before .before .before .before .before .before .args .o in Products (λ x. isNan x ≡ false) binary64 (a .lo) (a .hi) (o .lo) (o .hi))
 none c = none-nan _ _ _ _ (sym (c .before .some-nan .ensures) ∙ c .if1 .left)
 
 some-nan-requires : tie.Need-some-nan-requires

@@ -1,5 +1,4 @@
 use Rattle.interval.specs.Ops.{newOf}
-use mathlib.Core.Path.{_≡_, refl, sym, ap, _∙_, subst}
 use Rattle.interval.proofs.Interval.new.Statement.{statement}
 use Rattle.interval.proofs.Interval.new.Tie as tie
 use Rattle.interval.proofs.Interval.new.Reads as reads

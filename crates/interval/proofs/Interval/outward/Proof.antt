@@ -3,7 +3,6 @@ use mathlib.Core.Bool.{_||_, cond}
 use lib.Dec.{T}
 use lib.Ieee.{isNan}
 use Rattle.doubles.specs.Neighbour.{nextUp, nextDown}
-use Rattle.interval.specs.declared.Interval.{Interval}
 use Rattle.interval.specs.Ops.{checkedOf, entire}
 use Rattle.interval.proofs.Facts.{checked-out}
 use borrow.Author.Needs.{needs}

@@ -1,6 +1,5 @@
 use Rattle.interval.specs.Ops.{signOf}
-use lib.Ieee.{Float, binary64, inf, isNan, nanBits, ofBits, toBits, neg, lt, le, eq, fits}
-use mathlib.Core.Path.{_≡_, refl, sym, ap, _∙_, subst}
+use lib.Ieee.{ofBits}
 use Rattle.interval.proofs.Interval.sign.Statement.{statement}
 use Rattle.interval.proofs.Interval.sign.Tie as tie
 use Rattle.interval.proofs.Interval.sign.Reads as reads

@@ -1,6 +1,5 @@
 use Rattle.interval.specs.Ops.{sqrOf, containsOf}
-use lib.Ieee.{Float, binary64, inf, isNan, nanBits, ofBits, toBits, neg, lt, le, eq, fits}
-use mathlib.Core.Path.{_≡_, refl, sym, ap, _∙_, subst}
+use lib.Ieee.{ofBits}
 use borrow.Author.Needs.{needs}
 use Rattle.interval.proofs.Interval.sqr.Statement.{statement}
 use Rattle.interval.proofs.Interval.sqr.Tie as tie

@@ -1,5 +1,4 @@
-use mathlib.Core.Path.{_≡_, sym, ap, _∙_}
-use lib.Ieee.{Float}
+use mathlib.Core.Path.{sym, ap, _∙_}
 use Rattle.interval.specs.Ops.{oppositesOf, symmetricOf}
 use borrow.Author.Needs.{needs}
 use Rattle.interval.proofs.Interval.symmetric.Statement.{statement}

@@ -1,5 +1,5 @@
-use mathlib.Core.Path.{_≡_, refl, sym, ap, _∙_, subst}
-use lib.Ieee.{Float, binary64, inf, isNan, nanBits, ofBits, toBits, neg, lt, le, eq, fits}
+use mathlib.Core.Path.{refl}
+use lib.Ieee.{nanBits, ofBits}
 use Rattle.interval.proofs.float.infinity.Statement.{statement}
 use Rattle.interval.proofs.float.infinity.Tie as tie
 use Rattle.interval.proofs.float.infinity.Reads as reads

@@ -1,5 +1,4 @@
 use Rattle.interval.proofs.Facts.{finite-yes, finite-no}
-use mathlib.Core.Path.{_≡_, refl, sym, ap, _∙_, subst}
 use borrow.Author.Needs.{needs}
 use Rattle.interval.proofs.float.is_finite.Statement.{statement}
 use Rattle.interval.proofs.float.is_finite.Tie as tie

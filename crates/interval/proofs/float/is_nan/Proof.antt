@@ -1,5 +1,4 @@
-use Rattle.doubles.proofs.Tests.{ne-self}
-use mathlib.Core.Path.{_≡_, refl, sym, ap, _∙_, subst}
+use Rattle.doubles.proofs.TestFacts.{ne-self}
 use Rattle.interval.proofs.float.is_nan.Statement.{statement}
 use Rattle.interval.proofs.float.is_nan.Tie as tie
 use Rattle.interval.proofs.float.is_nan.Reads as reads

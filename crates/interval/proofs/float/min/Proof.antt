@@ -1,5 +1,4 @@
-use Rattle.doubles.proofs.Tests.{nan-no, nan-yes, T-of, Tn-of}
-use mathlib.Core.Path.{_≡_, refl, sym, ap, _∙_, subst}
+use Rattle.doubles.proofs.TestFacts.{nan-no, nan-yes}
 use Rattle.interval.proofs.float.min.Statement.{statement}
 use Rattle.interval.proofs.float.min.Tie as tie
 use Rattle.interval.proofs.float.min.Reads as reads

@@ -1,5 +1,5 @@
-use lib.Ieee.{Float, binary64, inf, isNan, nanBits, ofBits, toBits, neg, lt, le, eq, fits}
-use mathlib.Core.Path.{_≡_, refl, sym, ap, _∙_, subst}
+use lib.Ieee.{neg}
+use mathlib.Core.Path.{ap}
 use borrow.Author.Needs.{needs}
 use Rattle.interval.proofs.float.next_down.Statement.{statement}
 use Rattle.interval.proofs.float.next_down.Tie as tie

@@ -3,7 +3,7 @@ use mathlib.Core.Bool.{true}
 use lib.Dec.{T}
 use lib.Ieee.{Float, nan, inf, fin, isNan}
 use Rattle.doubles.specs.Neighbour.{nextUp, upFrom}
-use Rattle.doubles.proofs.Tests.{nan-no, nan-yes}
+use Rattle.doubles.proofs.TestFacts.{nan-no, nan-yes}
 use borrow.Author.Needs.{needs}
 use Rattle.interval.proofs.float.next_up.Statement.{statement}
 use Rattle.interval.proofs.float.next_up.Tie as tie

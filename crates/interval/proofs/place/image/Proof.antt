@@ -1,17 +1,16 @@
 use native.Mathlib.Omega.{arith}
 use mathlib.Core.Bool.{true, false, true≢false}
 use lib.Dec.{T, ltb, ltb→lt}
-use Rattle.doubles.proofs.Tests.{T-of}
-use Prim.Native.Nat.{ℕ, suc, _+_, _-_, _%_, _<_, zero}
+use Rattle.doubles.proofs.TestFacts.{T-of}
+use Prim.Native.Nat.{ℕ, suc, _+_, _-_, _%_, _<_}
 use lib.Signed.{ltZ, nonNeg}
-use lib.IntN.{ℤ, pos, negsuc, negℤ, natAbs, _-ℤ_, +ℤ-idl}
+use lib.IntN.{ℤ, pos, negsuc, natAbs, _-ℤ_}
 use mir.ValLaws.{toZ-ofZ}
 use mir.Val.{SFits, Fits, toZ, ofZ}
 use mir.Syntax.{w64}
 use Rattle.doubles.specs.Place.{wrapped}
-use Rattle.doubles.proofs.Distance.{place-small, distance, order}
 use borrow.Author.Needs.{needs, sfits-of}
-use mathlib.Core.Path.{_≡_, refl, sym, ap, _∙_, subst}
+use mathlib.Core.Path.{_≡_, refl, sym, subst}
 use borrow.Author.Needs.{needs}
 use Rattle.interval.proofs.place.image.Statement.{statement}
 use Rattle.interval.proofs.place.image.Tie as tie

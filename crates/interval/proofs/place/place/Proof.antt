@@ -12,7 +12,7 @@ use mir.Syntax.{w64}
 use borrow.Author.Needs.{needs, sfits-of}
 use Rattle.doubles.specs.Value.{Number}
 use Rattle.doubles.specs.Place.{mag, place as placeOf}
-use Rattle.doubles.proofs.Tests.{nan-no, nan-yes, Tn-of}
+use Rattle.doubles.proofs.TestFacts.{nan-no, nan-yes, Tn-of}
 use Rattle.doubles.proofs.Distance.{mag-small, place-low, place-high}
 use Rattle.interval.proofs.place.place.Statement.{statement}
 use Rattle.interval.proofs.place.place.Tie as tie
@@ -24,7 +24,8 @@ number : (c : tie.Then1) → Number (c .before .args .x)
 number c = Tn-of _ (nan-no (c .before .args .x) (c .if1 .taken))
 
 high : (c : tie.Else2)
-    → (toBits binary64 (c .before .before .args .x) - 9223372036854775808 ≡ mag binary64 (c .before .before .args .x)) × (negℤ (pos (mag binary64 (c .before .before .args .x))) ≡ placeOf binary64 (c .before .before .args .x))
+    → (toBits binary64 (c .before .before .args .x) - 9223372036854775808 ≡ mag binary64 (c .before .before .args .x)) ×
+    (negℤ (pos (mag binary64 (c .before .before .args .x))) ≡ placeOf binary64 (c .before .before .args .x))
 high c = place-high (c .before .before .args .x) (held (c .before .before)) (number (c .before)) (c .if2 .left)
 
 small : (c : tie.Else2) → mag binary64 (c .before .before .args .x) < 9223372036854775808

@@ -1,5 +1,5 @@
 -- The wrapped difference of two places is the true one, since both are small and the first is not above the second. Assumes nothing.
-use mathlib.Core.Path.{_≡_, refl, sym, ap, _∙_, subst}
+use mathlib.Core.Path.{_≡_, sym, ap, _∙_, subst}
 use mathlib.Core.Bool.{Bool, cond}
 use Prim.Native.Nat.{ℕ, _+_, _%_, _<_}
 use native.Mathlib.Omega.{arith}
@@ -11,7 +11,7 @@ use mir.Val.{SFits, toZ, ofZ}
 use mir.Syntax.{w64}
 use borrow.Author.Needs.{needs, sfits-of}
 use Rattle.doubles.specs.Place.{place as placeOf, wrapped, stepsOf}
-use Rattle.doubles.proofs.Tests.{T-of}
+use Rattle.doubles.proofs.TestFacts.{T-of}
 use Rattle.doubles.proofs.Order.{le-left, le-right}
 use Rattle.doubles.proofs.Distance.{place-small, distance, order}
 use Rattle.interval.proofs.place.steps.Statement.{statement}

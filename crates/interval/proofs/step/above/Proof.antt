@@ -3,7 +3,7 @@ use lib.Ieee.{binary64, isNan, ofBits, toBits, fits}
 use lib.Dec.{T}
 use Rattle.doubles.specs.Neighbour.{nextUp}
 use lib.Ieee.Bits.{nanBits-is, ofBits-toBits}
-use Rattle.doubles.proofs.Tests.{Tn-of}
+use Rattle.doubles.proofs.TestFacts.{Tn-of}
 use Rattle.doubles.proofs.Stepping.{up-nan}
 use Rattle.interval.proofs.step.above.Statement.{statement}
 use Rattle.interval.proofs.step.above.Tie as tie

@@ -4,7 +4,7 @@ use lib.Dec.{T}
 use lib.Ieee.{binary64, isNan, ofBits, fits}
 use lib.Ieee.Bits.{nanBits-is, ofBits-fits}
 use Rattle.doubles.specs.Neighbour.{nextUp}
-use Rattle.doubles.proofs.Tests.{Tn-of}
+use Rattle.doubles.proofs.TestFacts.{Tn-of}
 use Rattle.doubles.proofs.Stepping.{up-nan}
 use Rattle.doubles.proofs.Symmetric.{farthest, farthest-up}
 use Rattle.doubles.proofs.Sizes.{up-larger}

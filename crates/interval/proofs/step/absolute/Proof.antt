@@ -1,10 +1,10 @@
 use mathlib.Core.Path.{_≡_, sym, ap, _∙_, subst}
 use mathlib.Core.Bool.{Bool, not}
 use lib.Dec.{T}
-use lib.Ieee.{binary64, isNan, ofBits, fits}
+use lib.Ieee.{binary64, isNan, ofBits}
 use lib.Ieee.Bits.{nanBits-is}
 use Rattle.doubles.specs.Neighbour.{fabs}
-use Rattle.doubles.proofs.Tests.{Tn-of}
+use Rattle.doubles.proofs.TestFacts.{Tn-of}
 use Rattle.doubles.proofs.Sizes.{of-size, abs-number}
 use borrow.Author.Needs.{needs}
 use Rattle.interval.proofs.step.absolute.Statement.{statement}

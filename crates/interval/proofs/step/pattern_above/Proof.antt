@@ -6,7 +6,7 @@ use lib.Dec.{ltb, ltb→lt, nltb→le}
 use lib.Ieee.{binary64, ofBits, toBits}
 use lib.Ieee.Bits.{nanBits-is, ofBits-fits, toBits-ofBits}
 use Rattle.doubles.specs.Value.{Number}
-use Rattle.doubles.proofs.Tests.{Tn-of, yes-or-no}
+use Rattle.doubles.proofs.TestFacts.{Tn-of, yes-or-no}
 use Rattle.doubles.proofs.Stepping.{up-at-sign, up-at-top, up-clear, up-set}
 use borrow.Author.Needs.{needs}
 use Rattle.interval.proofs.step.pattern_above.Statement.{statement}

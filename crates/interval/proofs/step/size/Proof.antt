@@ -1,7 +1,7 @@
 use mathlib.Core.Path.{sym, subst}
 use lib.Dec.{T}
 use lib.Ieee.{binary64}
-use Rattle.doubles.proofs.Tests.{Tn-of}
+use Rattle.doubles.proofs.TestFacts.{Tn-of}
 use Rattle.doubles.proofs.Sizes.{size-bits}
 use Rattle.interval.proofs.step.size.Statement.{statement}
 use Rattle.interval.proofs.step.size.Tie as tie

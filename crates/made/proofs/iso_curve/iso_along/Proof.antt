@@ -52,7 +52,8 @@ iso-fill-requires c κs =
               (now (a .points)) (a .rational) (now (a .weights)) (a .held .«constant_u») (a .held .columns) (length (now (a .points)) / 3) (a .held .degree)
               (c .before .before .before .before .before .before .span-of .result) (a .held .count) (a .held .«other_count») f b (q .1 .1 .1 .0),
           (
-            (λ e. strip-in (now (a .points)) (a .rational) (now (a .weights)) (a .held .«constant_u») (a .held .columns) (length (now (a .weights))) (a .held .degree) (c .before .before .before .before .before .before .span-of .result) (a .held .count) (a .held .«other_count») f b (q .1 .1 .1 .1 .0 e)),
+            (λ e. strip-in (now (a .points)) (a .rational) (now (a .weights)) (a .held .«constant_u») (a .held .columns) (length (now (a .weights))) (a .held .degree)
+                (c .before .before .before .before .before .before .span-of .result) (a .held .count) (a .held .«other_count») f b (q .1 .1 .1 .1 .0 e)),
             (q .1 .1 .1 .1 .1 .0, (q .1 .1 .1 .1 .1 .1 .0, q .1 .1 .1 .1 .1 .1 .1 .0)),
           ),
         ),
@@ -70,23 +71,24 @@ same-length-2 c = search needs
 
 returns : tie.Need-returns
 returns c =
+    let d = c .before .before .before .before .before .before .before .before .before .before .before .before .before .span-of in
     let a = c .before .before .before .before .before .before .before .before .before .before .before .before .before .before .before .before .before .before .before .before .args in
     let q = c .before .before .before .before .before .before .before .before .before .before .before .before .before .before .before .before .before .before .before .before .pre in
     let w = within (a .held .degree) (a .held .count) (now (a .fixed)) (a .held .t) (q .1 .1 .0) in
     let s =
     span-found
     (a .held .degree) (a .held .count) (now (a .fixed)) (a .held .t) (q .1 .0) w _
-    (c .before .before .before .before .before .before .before .before .before .before .before .before .before .span-of .ensures) in
+    (d .ensures) in
     let f = s .0 .from in
     let b = s .0 .below in
     let l = q .1 .0 .long in
-    let reach : Reach 195 (a .held .degree) 0 (now (a .fixed)) (c .before .before .before .before .before .before .before .before .before .before .before .before .before .span-of .result) = record { degree = q .1 .0 .degree; high = q .0; orders = omega arith; low = f; long = omega arith; room = refl } in
+    let reach : Reach 195 (a .held .degree) 0 (now (a .fixed)) (d .result) = record { degree = q .1 .0 .degree; high = q .0; orders = omega arith; low = f; long = omega arith; room = refl } in
     along-stopped
     _ _ (sideFrom (a .held .degree) (a .held .count) (now (a .fixed)) (a .held .«other_degree») (a .held .«other_count») (now (a .other))) (now (a .out-points)) (now (a .out-weights)) _ _ _
     (hull-is
     (now (a .points)) (a .rational) (now (a .weights)) (a .held .«constant_u») (a .held .columns)
     (sideFrom (a .held .degree) (a .held .count) (now (a .fixed)) (a .held .«other_degree») (a .held .«other_count») (now (a .other))) (a .held .t)
-    (c .before .before .before .before .before .before .before .before .before .before .before .before .before .span-of .result) (s .1) reach _
+    (d .result) (s .1) reach _
     (c .before .before .before .before .before .before .before .before .before .before .before .basis-derivatives .ensures))
     (c .before .before .before .before .before .before .iso-fill .ensures) (not-true _ (c .before .if1 .taken)) _ (c .refuse .ensures)
 
@@ -122,23 +124,24 @@ same-length-4 c = search needs
 
 returns-2 : tie.Need-returns-2
 returns-2 c =
+    let d = c .before .before .before .before .before .before .before .before .before .before .before .before .before .before .before .span-of in
     let a = c .before .before .before .before .before .before .before .before .before .before .before .before .before .before .before .before .before .before .before .before .before .before .args in
     let q = c .before .before .before .before .before .before .before .before .before .before .before .before .before .before .before .before .before .before .before .before .before .before .pre in
     let w = within (a .held .degree) (a .held .count) (now (a .fixed)) (a .held .t) (q .1 .1 .0) in
     let s =
     span-found
     (a .held .degree) (a .held .count) (now (a .fixed)) (a .held .t) (q .1 .0) w _
-    (c .before .before .before .before .before .before .before .before .before .before .before .before .before .before .before .span-of .ensures) in
+    (d .ensures) in
     let f = s .0 .from in
     let b = s .0 .below in
     let l = q .1 .0 .long in
-    let reach : Reach 195 (a .held .degree) 0 (now (a .fixed)) (c .before .before .before .before .before .before .before .before .before .before .before .before .before .before .before .span-of .result) = record { degree = q .1 .0 .degree; high = q .0; orders = omega arith; low = f; long = omega arith; room = refl } in
+    let reach : Reach 195 (a .held .degree) 0 (now (a .fixed)) (d .result) = record { degree = q .1 .0 .degree; high = q .0; orders = omega arith; low = f; long = omega arith; room = refl } in
     along-formed
     _ _ (sideFrom (a .held .degree) (a .held .count) (now (a .fixed)) (a .held .«other_degree») (a .held .«other_count») (now (a .other))) (now (a .out-points)) (now (a .out-weights)) _ _ _
     (hull-is
     (now (a .points)) (a .rational) (now (a .weights)) (a .held .«constant_u») (a .held .columns)
     (sideFrom (a .held .degree) (a .held .count) (now (a .fixed)) (a .held .«other_degree») (a .held .«other_count») (now (a .other))) (a .held .t)
-    (c .before .before .before .before .before .before .before .before .before .before .before .before .before .before .before .span-of .result) (s .1) reach _
+    (d .result) (s .1) reach _
     (c .before .before .before .before .before .before .before .before .before .before .before .before .before .basis-derivatives .ensures))
     (c .before .before .before .before .before .before .before .before .iso-fill .ensures) (not-false _ (c .before .before .before .if1 .left)) (q .1 .1 .1 .1 .1 .1 .1 .1 .0)
     (q .1 .1 .1 .1 .1 .1 .1 .1 .1) _ refl _ (c .made-refusal .ensures)

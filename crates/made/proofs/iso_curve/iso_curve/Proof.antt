@@ -35,20 +35,24 @@ returns c =
 
 iso-into-requires : tie.Need-iso-into-requires
 iso-into-requires c κs =
+    let b = c .before .before .before .before .before .before .before .before .before .clear-two in
     let a = c .before .before .before .before .before .before .before .before .before .before .before .before .before .before .before .before .before .before .args in
-    let x = cleared-length _ (length (now (a .out-points))) (c .before .before .before .before .before .before .before .before .before .clear-two .ensures .0) in
-    let y = cleared-length _ (length (now (a .out-weights))) (c .before .before .before .before .before .before .before .before .before .clear-two .ensures .1) in
-    let none : isoStart (a .u-degree) (a .v-degree) (now (a .u-knots)) (now (a .v-knots)) (a .u-count) (a .v-count) (now (a .points)) (a .rational) (now (a .weights)) (a .constant-u) (a .t) (length (now (a .out-points))) (length (now (a .out-weights))) .number ≡ 0 = sym (ap (λ (r : Refusal). r .number) (c .before .before .before .before .iso-start .ensures))
+    let x = cleared-length _ (length (now (a .out-points))) (b .ensures .0) in
+    let y = cleared-length _ (length (now (a .out-weights))) (b .ensures .1) in
+    let none : isoStart (a .u-degree) (a .v-degree) (now (a .u-knots)) (now (a .v-knots)) (a .u-count) (a .v-count) (now (a .points)) (a .rational) (now (a .weights)) (a .constant-u)
+    (a .t) (length (now (a .out-points))) (length (now (a .out-weights))) .number ≡ 0 = sym (ap (λ (r : Refusal). r .number) (c .before .before .before .before .iso-start .ensures))
     ∙ c .before .before .if1 .left in
-    let m : isoStart (a .u-degree) (a .v-degree) (now (a .u-knots)) (now (a .v-knots)) (a .u-count) (a .v-count) (now (a .points)) (a .rational) (now (a .weights)) (a .constant-u) (a .t) (length (c .before .before .before .before .before .before .before .before .before .clear-two .last .0)) (length (c .before .before .before .before .before .before .before .before .before .clear-two .last .1 .0)) .number ≡ 0 =
+    let m : isoStart (a .u-degree) (a .v-degree) (now (a .u-knots)) (now (a .v-knots)) (a .u-count) (a .v-count) (now (a .points)) (a .rational) (now (a .weights)) (a .constant-u)
+    (a .t) (length (b .last .0)) (length (b .last .1 .0)) .number ≡ 0 =
     ap₂
-    (λ (i j : ℕ). isoStart (a .u-degree) (a .v-degree) (now (a .u-knots)) (now (a .v-knots)) (a .u-count) (a .v-count) (now (a .points)) (a .rational) (now (a .weights)) (a .constant-u) (a .t) i j .number)
+    (λ (i j : ℕ). isoStart (a .u-degree) (a .v-degree) (now (a .u-knots)) (now (a .v-knots)) (a .u-count) (a .v-count) (now (a .points)) (a .rational) (now (a .weights)) (a .constant-u)
+    (a .t) i j .number)
     x y
     ∙ none in (
       m,
       (
-        cleared _ (length (now (a .out-points))) (c .before .before .before .before .before .before .before .before .before .clear-two .ensures .0),
-        cleared _ (length (now (a .out-weights))) (c .before .before .before .before .before .before .before .before .before .clear-two .ensures .1),
+        cleared _ (length (now (a .out-points))) (b .ensures .0),
+        cleared _ (length (now (a .out-weights))) (b .ensures .1),
       ),
     )
 
@@ -63,7 +67,8 @@ same-length-4 c = search needs
 
 returns-2 : tie.Need-returns-2
 returns-2 c =
-    let a = c .before .before .before .before .before .before .before .before .before .before .before .before .before .before .before .before .before .before .before .before .before .before .before .before
+    let a = c .before .before .before .before .before .before .before .before .before .before .before .before .before .before .before .before .before .before .before .before .before
+    .before .before .before
     .before .before .before .before .before .before .before .before .args in
     let x =
     cleared-length
@@ -100,7 +105,8 @@ same-length-6 c = search needs
 
 returns-3 : tie.Need-returns-3
 returns-3 c =
-    let a = c .before .before .before .before .before .before .before .before .before .before .before .before .before .before .before .before .before .before .before .before .before .before .before .before
+    let a = c .before .before .before .before .before .before .before .before .before .before .before .before .before .before .before .before .before .before .before .before .before
+    .before .before .before
     .before .args in
     let x =
     cleared-length

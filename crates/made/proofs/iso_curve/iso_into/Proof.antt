@@ -15,7 +15,8 @@ iso-along-requires c κs =
     let q = c .before .before .before .before .before .before .before .before .before .pre in
     let o =
     subst
-    (λ (x : Bool). HeldOpen (a .form .«u_degree») (a .form .«v_degree») (now (a .us)) (now (a .vs)) (a .form .«u_count») (a .form .«v_count») (now (a .points)) (a .form .rational) (now (a .weights)) x (a .t) (length (now (a .out-points))) (length (now (a .out-weights))))
+    (λ (x : Bool). HeldOpen (a .form .«u_degree») (a .form .«v_degree») (now (a .us)) (now (a .vs)) (a .form .«u_count») (a .form .«v_count») (now (a .points)) (a .form .rational)
+    (now (a .weights)) x (a .t) (length (now (a .out-points))) (length (now (a .out-weights))))
     (c .before .before .if1 .taken)
     (held-open
     (a .form .«u_degree») (a .form .«v_degree») (now (a .us)) (now (a .vs)) (a .form .«u_count») (a .form .«v_count») (now (a .points)) (a .form .rational) (now (a .weights)) (a .t)
@@ -43,7 +44,8 @@ iso-along-requires-2 c κs =
     let q = c .before .before .before .before .before .before .before .before .before .pre in
     let o =
     subst
-    (λ (x : Bool). HeldOpen (a .form .«u_degree») (a .form .«v_degree») (now (a .us)) (now (a .vs)) (a .form .«u_count») (a .form .«v_count») (now (a .points)) (a .form .rational) (now (a .weights)) x (a .t) (length (now (a .out-points))) (length (now (a .out-weights))))
+    (λ (x : Bool). HeldOpen (a .form .«u_degree») (a .form .«v_degree») (now (a .us)) (now (a .vs)) (a .form .«u_count») (a .form .«v_count») (now (a .points)) (a .form .rational)
+    (now (a .weights)) x (a .t) (length (now (a .out-points))) (length (now (a .out-weights))))
     (c .before .before .if1 .left)
     (held-open
     (a .form .«u_degree») (a .form .«v_degree») (now (a .us)) (now (a .vs)) (a .form .«u_count») (a .form .«v_count») (now (a .points)) (a .form .rational) (now (a .weights)) (a .t)

@@ -33,7 +33,8 @@ returns-2 c =
 along-start-requires : tie.Need-along-start-requires
 along-start-requires c κs =
     let a = c .before .before .before .before .before .before .before .before .before .before .before .args in
-    let none : surfaceRefusal (a .form .«u_degree») (a .form .«v_degree») (now (a .u-knots)) (now (a .v-knots)) (a .form .«u_count») (a .form .«v_count») (now (a .points)) (a .form .rational) (now (a .weights)) .number ≡ 0 = sym (ap (λ (r : Refusal). r .number) (c .before .before .before .before .before .before .surface-refusal .ensures))
+    let none : surfaceRefusal (a .form .«u_degree») (a .form .«v_degree») (now (a .u-knots)) (now (a .v-knots)) (a .form .«u_count») (a .form .«v_count») (now (a .points))
+    (a .form .rational) (now (a .weights)) .number ≡ 0 = sym (ap (λ (r : Refusal). r .number) (c .before .before .before .before .before .before .surface-refusal .ensures))
     ∙ c .before .before .before .before .if1 .left in
     let s =
     valid-surface
@@ -61,7 +62,8 @@ returns-3 c =
 along-start-requires-2 : tie.Need-along-start-requires-2
 along-start-requires-2 c κs =
     let a = c .before .before .before .before .before .before .before .before .before .before .before .args in
-    let none : surfaceRefusal (a .form .«u_degree») (a .form .«v_degree») (now (a .u-knots)) (now (a .v-knots)) (a .form .«u_count») (a .form .«v_count») (now (a .points)) (a .form .rational) (now (a .weights)) .number ≡ 0 = sym (ap (λ (r : Refusal). r .number) (c .before .before .before .before .before .before .surface-refusal .ensures))
+    let none : surfaceRefusal (a .form .«u_degree») (a .form .«v_degree») (now (a .u-knots)) (now (a .v-knots)) (a .form .«u_count») (a .form .«v_count») (now (a .points))
+    (a .form .rational) (now (a .weights)) .number ≡ 0 = sym (ap (λ (r : Refusal). r .number) (c .before .before .before .before .before .before .surface-refusal .ensures))
     ∙ c .before .before .before .before .if1 .left in
     let s =
     valid-surface

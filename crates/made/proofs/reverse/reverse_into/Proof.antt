@@ -44,9 +44,11 @@ run-back-requires-3 c κs =
 
 made-refusal-requires : tie.Need-made-refusal-requires
 made-refusal-requires c κs =
-    let pr = c .before .before .before .before .before .before .before .before .before .before .before .before .before .before .before .before .before .before .before .before .before .before .before .before
+    let pr = c .before .before .before .before .before .before .before .before .before .before .before .before .before .before .before .before .before .before .before .before .before
+    .before .before .before
     .pre in
-    let a = c .before .before .before .before .before .before .before .before .before .before .before .before .before .before .before .before .before .before .before .before .before .before .before .before
+    let a = c .before .before .before .before .before .before .before .before .before .before .before .before .before .before .before .before .before .before .before .before .before
+    .before .before .before
     .args in
     let n = c .before .before .before .before .before .before .before .before .before .before .before .before .before .before .before .before .before .given-len .ensures in
     let x = pr .1 .0 in let y = pr .1 .1 .0 in let q = pr .1 .1 .1 .0 in (omega arith, (omega arith, omega arith))
@@ -63,9 +65,11 @@ same-length-3 c = search needs
 returns : tie.Need-returns
 unfolding backPlace backNumber
 returns c =
-    let a = c .before .before .before .before .before .before .before .before .before .before .before .before .before .before .before .before .before .before .before .before .before .before .before .before
+    let a = c .before .before .before .before .before .before .before .before .before .before .before .before .before .before .before .before .before .before .before .before .before
+    .before .before .before
     .before .args in
-    let q = c .before .before .before .before .before .before .before .before .before .before .before .before .before .before .before .before .before .before .before .before .before .before .before .before
+    let q = c .before .before .before .before .before .before .before .before .before .before .before .before .before .before .before .before .before .before .before .before .before
+    .before .before .before
     .before .pre .1 .1 .1 .1 in
     formed-is
     (a .degree) (now (a .knots)) (now (a .points)) (a .rational) (now (a .weights)) (now (a .out-knots)) (now (a .out-points)) (now (a .out-weights)) _ _ _ (q .0) (q .1 .0) (q .1 .1)

@@ -39,14 +39,16 @@ returns c =
 
 reverse-into-requires : tie.Need-reverse-into-requires
 reverse-into-requires c κs =
+    let b = c .before .before .before .before .before .before .before .before .before .before .before .before .clear-three in
     let a = c .before .before .before .before .before .before .before .before .before .before .before .before .before .before .before .before .before .before .before .before .before .before .args in
-    let none : reverseStart (a .degree) (now (a .knots)) (now (a .points)) (a .rational) (now (a .weights)) (length (now (a .out-knots))) (length (now (a .out-points))) (length (now (a .out-weights))) .number ≡ 0 = sym (ap (λ (r : Refusal). r .number) (c .before .before .before .before .before .reverse-start .ensures))
+    let none : reverseStart (a .degree) (now (a .knots)) (now (a .points)) (a .rational) (now (a .weights)) (length (now (a .out-knots))) (length (now (a .out-points)))
+    (length (now (a .out-weights))) .number ≡ 0 = sym (ap (λ (r : Refusal). r .number) (c .before .before .before .before .before .reverse-start .ensures))
     ∙ c .before .before .before .if1 .left in
     let o =
     start-open (a .degree) (now (a .knots)) (now (a .points)) (a .rational) (now (a .weights)) (length (now (a .out-knots))) (length (now (a .out-points))) (length (now (a .out-weights))) none in
-    let x = cleared-length _ (length (now (a .out-knots))) (c .before .before .before .before .before .before .before .before .before .before .before .before .clear-three .ensures .0) in
-    let y = cleared-length _ (length (now (a .out-points))) (c .before .before .before .before .before .before .before .before .before .before .before .before .clear-three .ensures .1) in
-    let z = cleared-length _ (length (now (a .out-weights))) (c .before .before .before .before .before .before .before .before .before .before .before .before .clear-three .ensures .2) in
+    let x = cleared-length _ (length (now (a .out-knots))) (b .ensures .0) in
+    let y = cleared-length _ (length (now (a .out-points))) (b .ensures .1) in
+    let z = cleared-length _ (length (now (a .out-weights))) (b .ensures .2) in
     let h = o .knots-room in
     let i = o .points-room in
     let j = o .weights-room in (
@@ -58,10 +60,10 @@ reverse-into-requires c κs =
           (
             omega arith,
             (
-              cleared _ (length (now (a .out-knots))) (c .before .before .before .before .before .before .before .before .before .before .before .before .clear-three .ensures .0),
+              cleared _ (length (now (a .out-knots))) (b .ensures .0),
               (
-                cleared _ (length (now (a .out-points))) (c .before .before .before .before .before .before .before .before .before .before .before .before .clear-three .ensures .1),
-                cleared _ (length (now (a .out-weights))) (c .before .before .before .before .before .before .before .before .before .before .before .before .clear-three .ensures .2),
+                cleared _ (length (now (a .out-points))) (b .ensures .1),
+                cleared _ (length (now (a .out-weights))) (b .ensures .2),
               ),
             ),
           ),
@@ -87,7 +89,8 @@ same-length-6 c = search needs
 
 returns-2 : tie.Need-returns-2
 returns-2 c =
-    let a = c .before .before .before .before .before .before .before .before .before .before .before .before .before .before .before .before .before .before .before .before .before .before .before .before
+    let a = c .before .before .before .before .before .before .before .before .before .before .before .before .before .before .before .before .before .before .before .before .before
+    .before .before .before
     .before .before .before .before .before .before .before .before .before .before .before .before .before .before .before .before .before .args in
     let x =
     cleared-length
@@ -133,24 +136,26 @@ same-length-9 c = search needs
 
 returns-3 : tie.Need-returns-3
 returns-3 c =
-    let a = c .before .before .before .before .before .before .before .before .before .before .before .before .before .before .before .before .before .before .before .before .before .before .before .before
+    let b = c .before .before .before .before .before .before .before .before .before .before .before .before .before .before .before .before .before .before .before .before .before .clear-three in
+    let a = c .before .before .before .before .before .before .before .before .before .before .before .before .before .before .before .before .before .before .before .before .before
+    .before .before .before
     .before .before .before .before .before .before .before .args in
     let x =
     cleared-length
     _ (length (now (a .out-knots)))
-    (c .before .before .before .before .before .before .before .before .before .before .before .before .before .before .before .before .before .before .before .before .before .clear-three .ensures
+    (b .ensures
     .0)
     in
     let y =
     cleared-length
     _ (length (now (a .out-points)))
-    (c .before .before .before .before .before .before .before .before .before .before .before .before .before .before .before .before .before .before .before .before .before .clear-three .ensures
+    (b .ensures
     .1)
     in
     let z =
     cleared-length
     _ (length (now (a .out-weights)))
-    (c .before .before .before .before .before .before .before .before .before .before .before .before .before .before .before .before .before .before .before .before .before .clear-three .ensures
+    (b .ensures
     .2)
     in
     reverse-answered

@@ -44,7 +44,8 @@ returns c =
 span-count-requires : tie.Need-span-count-requires
 span-count-requires c κs =
     let a = c .before .before .before .before .before .before .before .before .before .before .before .before .before .before .before .before .args in
-    let v = table-open (a .degree) (now (a .knots)) (now (a .points)) (a .rational) (now (a .weights)) (sym (ap (λ (r : Refusal). r .number) (c .before .before .table-refusal .ensures)) ∙ c .if1 .left) in
+    let v = table-open (a .degree) (now (a .knots)) (now (a .points)) (a .rational) (now (a .weights))
+    (sym (ap (λ (r : Refusal). r .number) (c .before .before .table-refusal .ensures)) ∙ c .if1 .left) in
     (omega (arith, v .knots .count), omega (arith, v .knots .count, v .knots .long))
 
 mul-rooms-refusal : tie.Need-mul-rooms-refusal
@@ -56,7 +57,8 @@ mul-rooms-refusal c =
       rows-few
           (a .degree) (now (a .knots)) (now (a .points)) (a .rational) (now (a .weights))
           (table-open
-          (a .degree) (now (a .knots)) (now (a .points)) (a .rational) (now (a .weights)) (sym (ap (λ (r : Refusal). r .number) (c .before .before .before .table-refusal .ensures)) ∙ c .before .if1 .left)),
+          (a .degree) (now (a .knots)) (now (a .points)) (a .rational) (now (a .weights))
+          (sym (ap (λ (r : Refusal). r .number) (c .before .before .before .table-refusal .ensures)) ∙ c .before .if1 .left)),
     )
 
 mul-rooms-refusal-2 : tie.Need-mul-rooms-refusal-2
@@ -68,7 +70,8 @@ mul-rooms-refusal-2 c =
       rows-few
           (a .degree) (now (a .knots)) (now (a .points)) (a .rational) (now (a .weights))
           (table-open
-          (a .degree) (now (a .knots)) (now (a .points)) (a .rational) (now (a .weights)) (sym (ap (λ (r : Refusal). r .number) (c .before .before .before .table-refusal .ensures)) ∙ c .before .if1 .left)),
+          (a .degree) (now (a .knots)) (now (a .points)) (a .rational) (now (a .weights))
+          (sym (ap (λ (r : Refusal). r .number) (c .before .before .before .table-refusal .ensures)) ∙ c .before .if1 .left)),
     )
 
 rooms-refusal-requires : tie.Need-rooms-refusal-requires
@@ -108,7 +111,8 @@ bound-each-requires c κs =
     (c .before .before .before .before .rooms-refusal .ensures) (c .before .before .if2 .left) in (
       table-open
           (a .degree) (now (a .knots)) (now (a .points)) (a .rational) (now (a .weights))
-          (sym (ap (λ (r : Refusal). r .number) (c .before .before .before .before .before .before .before .before .table-refusal .ensures)) ∙ c .before .before .before .before .before .before .if1 .left),
+          (sym (ap (λ (r : Refusal). r .number) (c .before .before .before .before .before .before .before .before .table-refusal .ensures)) ∙
+          c .before .before .before .before .before .before .if1 .left),
       (f .0, f .1),
     )
 
@@ -120,21 +124,24 @@ same-length-6 c = search needs
 
 returns-3 : tie.Need-returns-3
 returns-3 c =
-    let a = c .before .before .before .before .before .before .before .before .before .before .before .before .before .before .before .before .before .before .before .before .before .before .before .before .before .before .before .args in
+    let b = c .before .before .before .before .before .before .before .before .before .before .before .before .before .before .before .before .before .before .before .before .clear-numbers in
+    let d = c .before .before .before .before .before .before .before .before .before .before .before .before .before .before .before .before .clear in
+    let a = c .before .before .before .before .before .before .before .before .before .before .before .before .before .before .before .before .before .before .before .before .before
+    .before .before .before .before .before .before .args in
     meets-answered
     (markAt (a .degree) (now (a .knots)) (now (a .points)) (a .rational) (now (a .weights))) 2 (λ s. refl) (boxAt (a .degree) (now (a .knots)) (now (a .points)) (a .rational) (now (a .weights))) 18
     (λ s. box-says (boundIn (a .degree) (now (a .knots)) (now (a .points)) (a .rational) (now (a .weights)) s) .count) (spansOf (a .degree) (now (a .knots)) (now (a .points)))
     (length (now (a .marks))) (length (now (a .boxes)))
-    (c .before .before .before .before .before .before .before .before .before .before .before .before .before .before .before .before .before .before .before .before .clear-numbers .last .0)
-    (c .before .before .before .before .before .before .before .before .before .before .before .before .before .before .before .before .clear .last .0)
-    (c .before .before .before .before .before .before .before .before .before .before .before .before .before .before .before .before .before .before .before .before .clear-numbers .ensures)
-    (c .before .before .before .before .before .before .before .before .before .before .before .before .before .before .before .before .clear .ensures) _ _
+    (b .last .0)
+    (d .last .0)
+    (b .ensures)
+    (d .ensures) _ _
     (rooms-stop
     (a .degree) (now (a .knots)) (now (a .points)) (a .rational) (now (a .weights)) (length (now (a .marks))) (length (now (a .boxes)))
-    (c .before .before .before .before .before .before .before .before .before .before .before .before .before .before .before .before .before .before .before .before .clear-numbers .last .0)
-    (c .before .before .before .before .before .before .before .before .before .before .before .before .before .before .before .before .clear .last .0)
-    (c .before .before .before .before .before .before .before .before .before .before .before .before .before .before .before .before .before .before .before .before .clear-numbers .ensures)
-    (c .before .before .before .before .before .before .before .before .before .before .before .before .before .before .before .before .clear .ensures) _
+    (b .last .0)
+    (d .last .0)
+    (b .ensures)
+    (d .ensures) _
     (c .before .before .before .before .before .before .before .before .before .before .before .before .before .table-refusal .ensures)
     (c .before .before .before .before .before .before .before .before .before .before .before .if1 .left) _
     (c .before .before .before .before .before .before .before .before .before .before .span-count .ensures) _

@@ -68,23 +68,26 @@ same-length-4 c = search needs
 
 returns-2 : tie.Need-returns-2
 returns-2 c =
-    let a = c .before .before .before .before .before .before .before .before .before .before .before .before .before .before .before .before .before .before .before .before .before .before .before .before
+    let b = c .before .before .before .before .before .before .before .before .before .before .before .before .before .before .before .before .before .clear-numbers in
+    let d = c .before .before .before .before .before .before .before .before .before .before .before .before .before .clear in
+    let a = c .before .before .before .before .before .before .before .before .before .before .before .before .before .before .before .before .before .before .before .before .before
+    .before .before .before
     .before .args in
     meets-answered
     (numberAt (a .degree) (now (a .knots)) (now (a .points)) (a .rational) (now (a .weights)) (a .two)) 1 (λ t. refl)
     (numbersAt (a .degree) (now (a .knots)) (now (a .points)) (a .rational) (now (a .weights)) (a .two)) (width (a .two))
     (λ t. row-says (a .degree) (now (a .knots)) (now (a .points)) (a .rational) (now (a .weights)) (a .two) t .count) (now (a .ts)) (length (now (a .numbers))) (length (now (a .rows)))
-    (c .before .before .before .before .before .before .before .before .before .before .before .before .before .before .before .before .before .clear-numbers .last .0)
-    (c .before .before .before .before .before .before .before .before .before .before .before .before .before .clear .last .0)
-    (c .before .before .before .before .before .before .before .before .before .before .before .before .before .before .before .before .before .clear-numbers .ensures)
-    (c .before .before .before .before .before .before .before .before .before .before .before .before .before .clear .ensures) _ _
+    (b .last .0)
+    (d .last .0)
+    (b .ensures)
+    (d .ensures) _ _
     (start-is
     (a .degree) (now (a .knots)) (now (a .points)) (a .rational) (now (a .weights)) (now (a .ts)) (c .before .before .before .before .before .before .before .before .before .before .width .result)
     (length (now (a .numbers))) (length (now (a .rows)))
-    (c .before .before .before .before .before .before .before .before .before .before .before .before .before .before .before .before .before .clear-numbers .last .0)
-    (c .before .before .before .before .before .before .before .before .before .before .before .before .before .clear .last .0)
-    (c .before .before .before .before .before .before .before .before .before .before .before .before .before .before .before .before .before .clear-numbers .ensures)
-    (c .before .before .before .before .before .before .before .before .before .before .before .before .before .clear .ensures) _
+    (b .last .0)
+    (d .last .0)
+    (b .ensures)
+    (d .ensures) _
     (c .before .before .before .before .before .before .before .before .before .points-start .ensures)
     ∙ ap
     (λ (k : ℕ). pointsStart (a .degree) (now (a .knots)) (now (a .points)) (a .rational) (now (a .weights)) (now (a .ts)) k (length (now (a .numbers))) (length (now (a .rows))))

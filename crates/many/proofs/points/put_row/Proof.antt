@@ -38,12 +38,13 @@ store-vector-requires-2 c κs = search needs
 
 add-store-vector-2 : tie.Need-add-store-vector-2
 add-store-vector-2 c =
+    let b = c .before .before .before .before .before .before .before .before .before .before .width in
     let a = c .before .before .before .before .before .before .before .before .before .before .before .before .before .args in
-    let w : c .before .before .before .before .before .before .before .before .before .before .width .result ≤ 18 = rw (c .before .before .before .before .before .before .before .before .before .before .width .ensures) (width-small (a .two)) in
+    let w : b .result ≤ 18 = rw (b .ensures) (width-small (a .two)) in
     omega (
       arith,
       small-product
-          (a .i) (c .before .before .before .before .before .before .before .before .before .before .width .result)
+          (a .i) (b .result)
           (omega (arith, c .before .before .before .before .before .before .before .before .before .before .before .before .before .pre .1)) w,
     )
 

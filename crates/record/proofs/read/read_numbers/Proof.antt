@@ -15,13 +15,17 @@ use Rattle.record.proofs.read.read_numbers.Tie as tie
 
 -- what is known where the record is read and the runs have room: where its runs stand, and that they fit
 room-at : (c : tie.Else1)
-    → Room (now (c .before .before .before .before .before .before .before .before .before .before .before .before .before .before .before .before .before .before .before .before .before .before .args .s)) (c .before .before .before .read .given .0 .0)
+    → Room (now (c .before .before .before .before .before .before .before .before .before .before .before .before .before .before .before .before .before .before .before .before
+    .before .before .args .s)) (c .before .before .before .read .given .0 .0)
 room-at c =
     let read = c .before .before .before .before .before .read-record in
     numbers-room _ _ (read .ensures .means) (sym (c .before .before .before .read .given .1) ∙ read .ensures .answer)
 
 fits-at : (c : tie.Else1)
-    → roomFor (c .before .before .before .read .given .0 .0) (length (c .before .before .before .before .before .before .before .before .before .before .before .before .before .before .before .before .clear .last .0)) (length (c .before .before .before .before .before .before .before .before .before .before .before .before .clear2 .last .0)) (length (c .before .before .before .before .before .before .before .before .clear3 .last .0)) ≡ true
+    → roomFor (c .before .before .before .read .given .0 .0)
+    (length (c .before .before .before .before .before .before .before .before .before .before .before .before .before .before .before .before .clear .last .0))
+    (length (c .before .before .before .before .before .before .before .before .before .before .before .before .clear2 .last .0))
+    (length (c .before .before .before .before .before .before .before .before .clear3 .last .0)) ≡ true
 fits-at c = sym (c .before .has-room .ensures) ∙ not-false _ (c .if1 .left)
 
 clear-requires : tie.Need-clear-requires
@@ -85,7 +89,8 @@ same-length-6 c = search needs
 
 returns-2 : tie.Need-returns-2
 returns-2 c =
-    let a = c .before .before .before .before .before .before .before .before .before .before .before .before .before .before .before .before .before .before .before .before .before .before .before .args in
+    let a = c .before .before .before .before .before .before .before .before .before .before .before .before .before .before .before .before .before .before .before .before .before
+    .before .before .args in
     let s = now (a .s) in
     let k = now (a .knots) in
     let p = now (a .points) in
@@ -160,7 +165,9 @@ same-length-9 c = search needs
 
 returns-3 : tie.Need-returns-3
 returns-3 c =
-    let a = c .before .before .before .before .before .before .before .before .before .before .before .before .before .before .before .before .before .before .before .before .before .before .before .before
+    let b = c .before .before .before .before .before .before .before .before .before .before .before .before .before .before .before .before .before .before .before .before .clear3 in
+    let a = c .before .before .before .before .before .before .before .before .before .before .before .before .before .before .before .before .before .before .before .before .before
+    .before .before .before
     .before .before .before .before .before .before .before .before .before .before .args in
     let s = now (a .s) in
     let k = now (a .knots) in
@@ -184,7 +191,7 @@ returns-3 c =
       c .before
           .before .before .before .before .before .before .before .before .before .before .before .before .before .before .before .before .before .before .before .before .before .before .before
           .clear2 .ensures,
-      c .before .before .before .before .before .before .before .before .before .before .before .before .before .before .before .before .before .before .before .before .clear3 .ensures,
+      b .ensures,
     )
     (numbers-read
     s l k p w m e
@@ -197,7 +204,7 @@ returns-3 c =
           c .before .before .before .before .before .before .before .before .before .before .before .before .before .before .before .before .before .before .before .before .before .before .before
           .before
           .clear2 .kept .0,
-      ← c .before .before .before .before .before .before .before .before .before .before .before .before .before .before .before .before .before .before .before .before .clear3 .kept .0,
+      ← b .kept .0,
     )
     fits))
 

@@ -93,7 +93,8 @@ returns-4 c =
     let a = c .before .before .before .before .before .before .before .before .before .before .before .before .before .before .args in
     let s = now (a .s) in
     let m = means s (λ i. c .before .before .before .before .before .before .before .before .before .before .before .before .before .shared-slice-known .given i .fits) in
-    let d : degreeOf s ≡ Is (c .before .before .before .before .before .before .before .before .before .first .given .0 .0) = sym (c .before .before .before .before .before .before .before .before .before .before .before .degree-at .ensures)
+    let d : degreeOf s ≡ Is (c .before .before .before .before .before .before .before .before .before .first .given .0 .0) = sym
+    (c .before .before .before .before .before .before .before .before .before .before .before .degree-at .ensures)
     ∙ c .before .before .before .before .before .before .before .before .before .first .given .1 in
     let k : runOf (drop 5 s) 2 ≡ Is (c .before .before .before .before .before .second .given .0 .0) = sym (c .before .before .before .before .before .before .before .run-at .ensures .0)
     ∙ c .before .before .before .before .before .second .given .1 in
@@ -116,11 +117,14 @@ returns-5 c =
     let a = c .before .before .before .before .before .before .before .before .before .before .before .before .before .before .before .args in
     let s = now (a .s) in
     let m = means s (λ i. c .before .before .before .before .before .before .before .before .before .before .before .before .before .before .shared-slice-known .given i .fits) in
-    let d : degreeOf s ≡ Is (c .before .before .before .before .before .before .before .before .before .before .first .given .0 .0) = sym (c .before .before .before .before .before .before .before .before .before .before .before .before .degree-at .ensures)
+    let d : degreeOf s ≡ Is (c .before .before .before .before .before .before .before .before .before .before .first .given .0 .0) = sym
+    (c .before .before .before .before .before .before .before .before .before .before .before .before .degree-at .ensures)
     ∙ c .before .before .before .before .before .before .before .before .before .before .first .given .1 in
-    let k : runOf (drop 5 s) 2 ≡ Is (c .before .before .before .before .before .before .second .given .0 .0) = sym (c .before .before .before .before .before .before .before .before .run-at .ensures .0)
+    let k : runOf (drop 5 s) 2 ≡ Is (c .before .before .before .before .before .before .second .given .0 .0) = sym
+    (c .before .before .before .before .before .before .before .before .run-at .ensures .0)
     ∙ c .before .before .before .before .before .before .second .given .1 in
-    let n : runOf (drop (8 + 8 * c .before .before .before .before .before .before .second .given .0 .0) s) 3 ≡ Is (c .before .before .third .given .0 .0) = sym (c .before .before .before .before .run-at2 .ensures .0)
+    let n : runOf (drop (8 + 8 * c .before .before .before .before .before .before .second .given .0 .0) s) 3 ≡ Is (c .before .before .third .given .0 .0) = sym
+    (c .before .before .before .before .run-at2 .ensures .0)
     ∙ c .before .before .third .given .1 in
     record {
       means =

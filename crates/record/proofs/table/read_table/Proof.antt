@@ -51,18 +51,21 @@ same-length-3 c = search needs
 
 returns : tie.Need-returns
 returns c =
-    let a = c .before .before .before .before .before .before .before .before .before .before .before .before .before .before .before .before .before .before .before .before .before .before .before .before
+    let b = c .before .before .before .before .before .before .before .before .before .before .before .before .before .before .before .before .before .before .before .read2 in
+    let a = c .before .before .before .before .before .before .before .before .before .before .before .before .before .before .before .before .before .before .before .before .before
+    .before .before .before
     .before .before .before .before .before .before .before .before .before .before .before .args in
     let s = now (a .s) in
     let k = now (a .knots) in
     let p = now (a .points) in
     let w = now (a .weights) in
-    let read = c .before .before .before .before .before .before .before .before .before .before .before .before .before .before .before .before .before .before .before .before .before .before .before .before
+    let read = c .before .before .before .before .before .before .before .before .before .before .before .before .before .before .before .before .before .before .before .before .before
+    .before .before .before
     .before .before .before .read-numbers in
-    let l = c .before .before .before .before .before .before .before .before .before .before .before .before .before .before .before .before .before .before .before .read2 .given .0 .0 in
+    let l = b .given .0 .0 in
     let r : ReadsNumbers s k p w _ _ _ (Fields l) =
     rw
-    (c .before .before .before .before .before .before .before .before .before .before .before .before .before .before .before .before .before .before .before .read2 .given .1) at (read .ensures)
+    (b .given .1) at (read .ensures)
     in
     rw (
       c .before .before .before .before .before .before .before .before .before .before .clear .ensures,
@@ -111,7 +114,8 @@ same-length-9 c = search needs
 
 returns-3 : tie.Need-returns-3
 returns-3 c =
-    let a = c .before .before .before .before .before .before .before .before .before .before .before .before .before .before .before .before .before .before .before .before .before .before .before .before
+    let a = c .before .before .before .before .before .before .before .before .before .before .before .before .before .before .before .before .before .before .before .before .before
+    .before .before .before
     .args in
     let s = now (a .s) in
     let k = now (a .knots) in

@@ -59,6 +59,7 @@ same-length-2 c = search needs
 
 returns-2 : tie.Need-returns-2
 returns-2 c =
+    let b = c .before .before .before .before .before .before .before .before .clear-bytes in
     let a = c .before .before .before .before .before .before .before .before .before .before .before .before .before .before .args in
     let ks = now (a .knots) in
     let ps = now (a .points) in
@@ -69,9 +70,9 @@ returns-2 c =
     size-some
     (a .degree) ks ps (a .rational) ws (c .before .before .before .size .given .0 .0)
     (sym (c .before .before .before .before .before .record-size .ensures) ∙ c .before .before .before .size .given .1) in
-    let long : length (c .before .before .before .before .before .before .before .before .clear-bytes .last .0) ≡ length out = c .before .before .before .before .before .before .before .before .clear-bytes .kept .0 in
-    let w : Writes t out (c .before .before .before .before .before .before .before .before .clear-bytes .last .0) (Refused (refuse length-bad)) =
-    rw (c .before .before .before .before .before .before .before .before .clear-bytes .ensures) (writes-short t out (size .0) (omega arith)) in
+    let long : length (b .last .0) ≡ length out = b .kept .0 in
+    let w : Writes t out (b .last .0) (Refused (refuse length-bad)) =
+    rw (b .ensures) (writes-short t out (size .0) (omega arith)) in
     rw
     (c .refuse2 .ensures) (
       w,
@@ -92,7 +93,8 @@ put-table-requires c κs =
     size-some
     (a .degree) ks ps (a .rational) ws (c .before .before .before .size .given .0 .0)
     (sym (c .before .before .before .before .before .record-size .ensures) ∙ c .before .before .before .size .given .1) in
-    let long : length (c .before .before .before .before .before .before .before .before .clear-bytes .last .0) ≡ length out = c .before .before .before .before .before .before .before .before .clear-bytes .kept .0 in
+    let long : length (c .before .before .before .before .before .before .before .before .clear-bytes .last .0) ≡ length out =
+    c .before .before .before .before .before .before .before .before .clear-bytes .kept .0 in
     let table = length-table (a .degree) ks ps (a .rational) ws in
     omega arith
 
@@ -101,6 +103,7 @@ same-length-3 c = search needs
 
 returns-3 : tie.Need-returns-3
 returns-3 c =
+    let b = c .before .before .before .before .before .before .before .before .before .before .before .clear-bytes in
     let a = c .before .before .before .before .before .before .before .before .before .before .before .before .before .before .before .before .before .args in
     let ks = now (a .knots) in
     let ps = now (a .points) in
@@ -111,10 +114,10 @@ returns-3 c =
     size-some
     (a .degree) ks ps (a .rational) ws (c .before .before .before .before .before .before .size .given .0 .0)
     (sym (c .before .before .before .before .before .before .before .before .record-size .ensures) ∙ c .before .before .before .before .before .before .size .given .1) in
-    let long : length (c .before .before .before .before .before .before .before .before .before .before .before .clear-bytes .last .0) ≡ length out = c .before .before .before .before .before .before .before .before .before .before .before .clear-bytes .kept .0 in
+    let long : length (b .last .0) ≡ length out = b .kept .0 in
     let w : Writes t out (c .before .before .put-table .last .1 .1 .1 .1 .1 .0) (Written (c .before .before .before .before .before .before .size .given .0 .0)) =
     rw
-    (c .before .before .put-table .ensures, c .before .before .before .before .before .before .before .before .before .before .before .clear-bytes .ensures, ← size .1)
+    (c .before .before .put-table .ensures, b .ensures, ← size .1)
     (writes-all t out (size .0) (omega arith)) in (
       w,
       reads-back

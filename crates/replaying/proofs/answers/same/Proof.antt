@@ -4,7 +4,6 @@ use mathlib.Core.Path.{_≡_, sym, subst, _∙_}
 use mathlib.Core.Bool.{true, true≢false}
 use mathlib.Core.Logic.{⊎-elim}
 use lib.Dec.{T}
-use lib.Ieee.{binary64}
 use Rattle.replaying.specs.Same.{Zero}
 use Rattle.replaying.proofs.Judging.{zero-judged, bits-judged}
 use borrow.Author.Needs.{needs}

@@ -1,7 +1,7 @@
 -- `runs::store::store_vector` meets its contract.
 -- Assumes nothing.
 use denote.Ref.{now}
-use mathlib.Core.Path.{sym, _∙_}
+use mathlib.Core.Path.{sym}
 use native.Mathlib.Omega.{arith}
 use Rattle.runs.specs.Point.{threeOf}
 use Rattle.runs.proofs.Stores.{sets-out, stored-three}

@@ -45,14 +45,17 @@ same-length-6 c = c .before .before .before .before .before .before .before .wei
 
 returns-2 : tie.Need-returns-2
 returns-2 c =
+    let b = c .before .before .before .before .before .before .before .before .before .before .before .before .take-curve in
     let a = c .before .before .before .before .before .before .before .before .before .before .before .before .before .before .before .before .before .before .before .before .args in
     let q = c .before .before .before .before .before .before .before .before .before .before .before .before .before .before .before .before .before .before .before .before .pre in
     cut-done
     (a .p) (a .m) (a .rational) (a .a) (a .f) (now (a .work)) _ _ _ _ _ _ _ _ (c .before .before .before .before .if1 .left) (q .0 .1)
-    (c .before .before .before .before .before .before .before .before .before .before .before .before .take-curve .ensures .1 .0)
-    (c .before .before .before .before .before .before .before .before .before .before .before .before .take-curve .ensures .1 .1 .0)
-    (c .before .before .before .before .before .before .before .before .before .before .before .before .take-curve .ensures .1 .1 .1) (let x =
-    c .before .before .before .before .before .before .before .before .before .before .before .knots .given in let y = c .before .before .before .before .before .before .before .before .before .points .given in let z = c .before .before .before .before .before .before .before .weights .given in let i = q .1 .0 in let j = q .1 .1 .0 in let k = q .1 .1 .1 in c .front-refusal .ensures
+    (b .ensures .1 .0)
+    (b .ensures .1 .1 .0)
+    (b .ensures .1 .1 .1) (let x =
+    c .before .before .before .before .before .before .before .before .before .before .before .knots .given in
+    let y = c .before .before .before .before .before .before .before .before .before .points .given in
+    let z = c .before .before .before .before .before .before .before .weights .given in let i = q .1 .0 in let j = q .1 .1 .0 in let k = q .1 .1 .1 in c .front-refusal .ensures
     ∙ front-is (a .p) (a .m) (a .rational) _ _ _ (omega arith) (omega arith) (omega arith))
 
 pub cut-spec : {M : Type 1} → statement M

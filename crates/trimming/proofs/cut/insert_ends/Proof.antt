@@ -1,7 +1,6 @@
 use mathlib.Core.Path.{_∙_}
 use native.Mathlib.Omega.{arith}
 use denote.Ref.{now}
-use lib.ListN.{length}
 use Rattle.trimming.proofs.Ends.{laid-none, first-refused, second-done}
 use borrow.Author.Needs.{needs}
 use Rattle.trimming.proofs.cut.insert_ends.Statement.{statement}
@@ -38,7 +37,7 @@ returns c =
     (c
     .if1 .taken
     (laid-none
-    (a .a) (a .degree) (now (a .knots)) (now (a .points)) (a .rational) (now (a .weights)) (q .0) (a .lo) (a .hi) (length (now (a .work))) (q .1 .0) (q .1 .1) _
+    (a .a) (a .degree) (now (a .knots)) (now (a .points)) (a .rational) (now (a .weights)) (q .0) (a .lo) (a .hi) (now (a .work)) (q .1 .0) (q .1 .1) _
     (c .before .before .before .before .lay-curve .ensures .0)))
 
 insert-times-requires : tie.Need-insert-times-requires
@@ -52,7 +51,7 @@ returns-2 c =
     let a = c .before .before .before .before .before .before .before .before .before .before .before .before .before .before .before .before .before .before .args in
     let q = c .before .before .before .before .before .before .before .before .before .before .before .before .before .before .before .before .before .before .pre in
     first-refused
-    (a .a) (a .degree) (now (a .knots)) (now (a .points)) (a .rational) (now (a .weights)) (q .0) (a .lo) (a .hi) (length (now (a .work))) (q .1 .0) (q .1 .1) _ _ _
+    (a .a) (a .degree) (now (a .knots)) (now (a .points)) (a .rational) (now (a .weights)) (q .0) (a .lo) (a .hi) (now (a .work)) (q .1 .0) (q .1 .1) _ _ _
     (c .before .before .before .before .before .before .before .before .before .before .lay-curve .ensures .1) _
     (c .before .before .before .before .before .before .before .before .before .before .before .before .before .missing .ensures) (c .before .before .before .before .insert-times .ensures .0)
     (c .before .before .before .before .insert-times .ensures .1) (c .if2 .taken)
@@ -80,7 +79,7 @@ returns-3 c =
     let a = c .before .before .before .before .before .before .before .before .before .before .before .before .before .before .before .before .before .before .before .before .before .before .args in
     let q = c .before .before .before .before .before .before .before .before .before .before .before .before .before .before .before .before .before .before .before .before .before .before .pre in
     second-done
-    (a .a) (a .degree) (now (a .knots)) (now (a .points)) (a .rational) (now (a .weights)) (q .0) (a .lo) (a .hi) (length (now (a .work))) (q .1 .0) (q .1 .1) _ _ _
+    (a .a) (a .degree) (now (a .knots)) (now (a .points)) (a .rational) (now (a .weights)) (q .0) (a .lo) (a .hi) (now (a .work)) (q .1 .0) (q .1 .1) _ _ _
     (c .before .before .before .before .before .before .before .before .before .before .before .before .before .before .lay-curve .ensures .1) _
     (c .before .before .before .before .before .before .before .before .before .before .before .before .before .before .before .before .before .missing .ensures)
     (c .before .before .before .before .before .before .before .before .insert-times .ensures .0) (c .before .before .before .before .before .before .before .before .insert-times .ensures .1)

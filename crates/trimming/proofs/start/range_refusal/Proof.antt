@@ -1,5 +1,5 @@
 use mathlib.Core.Path.{sym, _∙_, ap, ap₂}
-use Prim.Native.Nat.{_+_, _-_}
+use Prim.Native.Nat.{_+_}
 use native.Mathlib.Omega.{arith}
 use denote.Ref.{now}
 use borrow.Author.Tests.{not-true, not-false}

@@ -30,7 +30,8 @@ same-length-4 c = search needs
 
 returns : tie.Need-returns
 returns c =
-    let a = c .before .before .before .before .before .before .before .before .before .before .before .before .before .before .before .before .before .before .before .before .before .before .before .args in
+    let a = c .before .before .before .before .before .before .before .before .before .before .before .before .before .before .before .before .before .before .before .before .before
+    .before .before .args in
     let k = c .before .before .before .before .before .before .before .before .clear-all .ensures in trim-early (a .degree) (now (a .knots)) (now (a .points)) (a .rational) (now (a .weights)) (a .lo)
     (a .hi) (length (now (a .out-knots))) (length (now (a .out-points))) (length (now (a .out-weights))) (length (now (a .scratch))) _ (k .3) _
     (c .before .before .before .before .before .before .before .before .before .before .before .before .before .before .before .trim-start .ensures)
@@ -65,7 +66,8 @@ same-length-8 c = search needs
 
 returns-2 : tie.Need-returns-2
 returns-2 c =
-    let a = c .before .before .before .before .before .before .before .before .before .before .before .before .before .before .before .before .before .before .before .before .before .before .before .before
+    let a = c .before .before .before .before .before .before .before .before .before .before .before .before .before .before .before .before .before .before .before .before .before
+    .before .before .before
     .before .before .before .before .before .before .before .before .before .before .before .before .before .before .args in
     let k = c .before .before .before .before .before .before .before .before .clear-all2 .ensures in trim-late (a .degree) (now (a .knots)) (now (a .points)) (a .rational) (now (a .weights)) (a .lo)
     (a .hi) (length (now (a .out-knots))) (length (now (a .out-points))) (length (now (a .out-weights))) (length (now (a .scratch))) _
@@ -93,7 +95,8 @@ clear-requires c κs = search needs
 
 kept-requires : tie.Need-kept-requires
 kept-requires c κs =
-    let a = c .before .before .before .before .before .before .before .before .before .before .before .before .before .before .before .before .before .before .before .before .before .before .before .before
+    let a = c .before .before .before .before .before .before .before .before .before .before .before .before .before .before .before .before .before .before .before .before .before
+    .before .before .before
     .before .before .before .before .before .args in
     let o =
     start-open
@@ -121,7 +124,8 @@ same-length-12 c = search needs
 
 returns-3 : tie.Need-returns-3
 returns-3 c = let cleared = c .before .before .before .clear .ensures in
-    let a = c .before .before .before .before .before .before .before .before .before .before .before .before .before .before .before .before .before .before .before .before .before .before .before .before
+    let a = c .before .before .before .before .before .before .before .before .before .before .before .before .before .before .before .before .before .before .before .before .before
+    .before .before .before
     .before .before .before .before .before .before .args in
     trim-formed
     (a .degree) (now (a .knots)) (now (a .points)) (a .rational) (now (a .weights)) (a .lo) (a .hi) (length (now (a .out-knots))) (length (now (a .out-points))) (length (now (a .out-weights)))

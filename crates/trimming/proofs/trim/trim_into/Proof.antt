@@ -140,26 +140,32 @@ same-length-5 c = c .before .before .before .before .before .before .before .bef
 
 returns-2 : tie.Need-returns-2
 returns-2 c =
-    let a = c .before .before .before .before .before .before .before .before .before .before .before .before .before .before .before .before .before .before .before .before .before .before .before .before
+    let b = c .before .before .before .before .before .before .before .before .before .before .before .before .before .before .before .before .before .before .before .before .missing in
+    let d = c .before .before .before .before .before .before .before .before .before .before .before .before .before .before .before .before .before .before .before .missing2 in
+    let a = c .before .before .before .before .before .before .before .before .before .before .before .before .before .before .before .before .before .before .before .before .before
+    .before .before .before
     .before .before .before .before .args in
-    let pr = c .before .before .before .before .before .before .before .before .before .before .before .before .before .before .before .before .before .before .before .before .before .before .before .before
+    let pr = c .before .before .before .before .before .before .before .before .before .before .before .before .before .before .before .before .before .before .before .before .before
+    .before .before .before
     .before .before .before .before .pre in
     let v = pr .0 in
     let l = v .knots .long in
     let k = v .knots .count in
     let s = v .short .knots in
     let q = pr .1 .1 .1 .1 .1 in
-    let g = c .before .before .before .before .before .before .before .before .before .before .before .before .before .before .before .before .before .before .before .before .before .before .before .before
+    let g = c .before .before .before .before .before .before .before .before .before .before .before .before .before .before .before .before .before .before .before .before .before
+    .before .before .before
     .before .before .before .before .good in
-    let f = c .before .before .before .before .before .before .before .before .before .before .before .before .before .before .before .before .before .before .before .before .before .before .before .before
+    let f = c .before .before .before .before .before .before .before .before .before .before .before .before .before .before .before .before .before .before .before .before .before
+    .before .before .before
     .before .before .before .before .fits in
-    let x = c .before .before .before .before .before .before .before .before .before .before .before .before .before .before .before .before .before .before .before .before .missing .ensures in
-    let y = c .before .before .before .before .before .before .before .before .before .before .before .before .before .before .before .before .before .before .before .missing2 .ensures in
+    let x = b .ensures in
+    let y = d .ensures in
     into-cut
     (a .degree) (now (a .knots)) (now (a .points)) (a .rational) (now (a .weights)) (pr .0) (a .lo) (a .hi) (length (now (a .out-knots))) (length (now (a .out-points))) (length (now (a .out-weights)))
     _ _ _
-    ((length (now (a .points)) / 3 + (c .before .before .before .before .before .before .before .before .before .before .before .before .before .before .before .before .before .before .before .before .missing .result + c .before .before .before .before .before .before .before .before .before .before .before .before .before .before .before .before .before .before .before .missing2 .result)) * 4)
-    (length (now (a .work))) _ _ (c .before .before .before .before .before .before .before .before .before .before .before .before .below .ensures)
+    ((length (now (a .points)) / 3 + (b .result + d .result)) * 4)
+    (now (a .work)) _ _ (c .before .before .before .before .before .before .before .before .before .before .before .before .below .ensures)
     (c .before .before .before .before .before .before .before .before .before .before .before .kept .ensures)
     (kept-fits
     (a .degree) (length (now (a .points)) / 3) (now (a .knots)) (pr .0 .knots) (a .lo) (a .hi) (pr .1 .0)

@@ -1,4 +1,5 @@
--- THE THEOREM. Where bound_curve answers with bounds, each coordinate's interval holds the exact coordinate of the curve at every fraction of the range, and the derivative's interval the exact derivative. Assumes nothing.
+-- THE THEOREM. Where bound_curve answers with bounds, each coordinate's interval holds the exact coordinate of the curve at every fraction of the range, and the derivative's
+-- interval the exact derivative. Assumes nothing.
 use mathlib.Core.Path.{_≡_, refl, sym, _∙_, subst}
 use mathlib.Core.Bool.{Bool, true, false, _&&_, cond}
 use mathlib.Core.Logic.{_≢_}

@@ -10,8 +10,8 @@ use lib.Ieee.{Float, lt, eq}
 use lib.Ieee.Scale.{finite}
 use Rattle.doubles.specs.Run.{at, valAt}
 use Rattle.doubles.specs.Value.{val}
-use Rattle.doubles.proofs.Tests.{T-of}
-use Rattle.doubles.proofs.Tested.{lt-asym, lt-ge-trans}
+use Rattle.doubles.proofs.TestFacts.{T-of}
+use Rattle.doubles.proofs.TestedOrder.{lt-asym, lt-ge-trans}
 use Rattle.doubles.proofs.Order.{val-eq}
 use Rattle.knots.specs.Knots.{ValidKnots}
 use Rattle.knots.proofs.Valid.{sorted}

@@ -1,6 +1,6 @@
 -- One insertion, put together from its passes: 19, 20, and the curve that is formed.
 -- Assumes nothing.
-use Prim.Native.Nat.{ℕ, _+_, _-_, _*_, _/_, _%_, _≤_, _<_}
+use Prim.Native.Nat.{ℕ, _+_, _*_, _/_, _%_, _≤_, _<_}
 use mathlib.Core.Bool.{Bool, true, false, not, cond}
 use mathlib.Core.Path.{_≡_, refl, sym, _∙_, ap, subst}
 use mathlib.Core.Logic.{inl, inr}
@@ -14,7 +14,7 @@ use lib.Ieee.{Float, nan, lt, le}
 use lib.Ieee.Scale.{finite}
 use Rattle.doubles.specs.Run.{at}
 use Rattle.doubles.specs.Value.{one+}
-use Rattle.doubles.proofs.Tested.{le-fails, lt-asym}
+use Rattle.doubles.proofs.TestedOrder.{le-fails, lt-asym}
 use Rattle.knots.specs.Below.{allBelow}
 use Rattle.knots.specs.Refusal.{refuse, accepted, knot-outside, knot-full, control-bad, edit-bad, point-not-finite}
 use Rattle.knots.specs.Knots.{ValidKnots}
@@ -31,7 +31,8 @@ use Rattle.knots.proofs.Searches.{Within, span-found}
 use Rattle.edits.specs.Control.{vectorOf, isLifted, isBlended, lowerOf}
 use Rattle.edits.specs.Counts.{multiplicityOf}
 use Rattle.edits.specs.Rows.{axis, lowerAt, weightIn, given}
-use Rattle.insertion.specs.Insert.{blendAt, knotAt, moreKnots, inside, spotRefusal, lifted, blended, morePoints, moreWeights, formRefusal, insertedKnots, insertedPoints, insertedWeights, insertRefusal}
+use Rattle.insertion.specs.Insert.{blendAt, knotAt, moreKnots, inside, spotRefusal, lifted, blended, morePoints, moreWeights, formRefusal, insertedKnots, insertedPoints}
+use Rattle.insertion.specs.Insert.{insertedWeights, insertRefusal}
 use Rattle.edits.specs.Work.{knotsFrom, pointsFrom, weightsFrom}
 use Rattle.edits.specs.Passes.{rowOf, keptRow, stored, Untouched, Outside, LiftDone}
 use Rattle.insertion.specs.Passes.{lowerRefusal, LowerDone, Formed, Inserted}
@@ -39,7 +40,7 @@ use Rattle.edits.specs.declared.control.Control.{Control}
 use Rattle.insertion.proofs.Grown.{grown-valid, controls-left}
 use Rattle.edits.proofs.RowReads.{row-axis, row-point, knot-from}
 use Rattle.edits.proofs.RowStores.{rows-same}
-use Rattle.insertion.proofs.Forming.{blend-cong, lower-cong, lower-is, first-of, joined, points-finite, points-left, put-low, put-high, put-knots}
+use Rattle.insertion.proofs.InsertionParts.{blend-cong, lower-cong, lower-is, first-of, joined, points-finite, points-left, put-low, put-high, put-knots}
 
 -- ---- 19, 20, and the curve that is formed
 fewer : (g : Bool) (m n j : ℕ) → n ≤ m → Untouched g m j → Untouched g n j
@@ -86,7 +87,8 @@ module _ (a p n k s : ℕ) (t : Float) (g : Bool) (w₀ : List Float) where
     o-is : o ≡ pointOf PS 0
     o-is = O ∙ sym (row-point g n w₀ 0 (omega arith))
 
-    module _ (S : s ≤ p) (P : p ≤ k) (room : (n + 1) * 4 ≤ a) (l : a + (n + p + 1) < length w₀) (L₁ : length w₁ ≡ length w₀) (v : ValidKnots p (n + 1) (moreKnots k t KS)) (w₂ : List Float) (r : Refusal)
+    module _ (S : s ≤ p) (P : p ≤ k) (room : (n + 1) * 4 ≤ a) (l : a + (n + p + 1) < length w₀) (L₁ : length w₁ ≡ length w₀) (v : ValidKnots p (n + 1) (moreKnots k t KS))
+        (w₂ : List Float) (r : Refusal)
         (B : LowerDone o g (blendAt p k s t (knotsFrom a p n w₁) (rowOf g w₁)) (n + 1) w₁ w₂ r) where
       -- the knots stay where they are
       pub knots-kept : (m : ℕ) (xs ys : List Float) → m * 4 ≤ a → length xs ≡ length ys → ((j : ℕ) → Untouched g m j → at xs j ≡ at ys j) → knotsFrom a p n xs ≡ knotsFrom a p n ys

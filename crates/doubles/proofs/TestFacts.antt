@@ -1,10 +1,10 @@
 -- Small facts on tests, and a double compared with itself. Assumes nothing.
 use mathlib.Core.Path.{_≡_, refl, sym, ap, _∙_, subst}
 use mathlib.Core.Logic.{_⊎_, inl, inr}
-use Prim.Native.Nat.{ℕ, zero, suc, _+_, _-_, _*_, _≤_, _<_}
-use mathlib.Core.Bool.{Bool, true, false, not, _&&_, _||_, Bool·beq, cond}
-use lib.Dec.{T, ltb, eqb, eqb-refl, leb}
-use lib.Ieee.{Float, nan, inf, fin, up, down, eq, ne, isNan, lt, le, neg}
+use Prim.Native.Nat.{_*_}
+use mathlib.Core.Bool.{Bool, true, false, not, _&&_, _||_}
+use lib.Dec.{T, eqb, eqb-refl}
+use lib.Ieee.{Float, nan, inf, fin, up, down, eq, ne, isNan, neg}
 use lib.Ieee.Bits.{is-true}
 
 pub T-of : (b : Bool) → b ≡ true → T b

@@ -14,7 +14,7 @@ use Rattle.exact.proofs.Field.{qring, q-ring, q-combine, ≤-trans, ≤
 use Rattle.exact.proofs.Sum.{Σ-cong}
 use Rattle.exact.proofs.Curve.{whole-curve}
 use Rattle.exact.proofs.Refined.{split, refined-is, OldSpan, held-is, old-knots, held-low, held-high, new-order, one-span, one-end, refined-span}
-use Rattle.exact.proofs.Inserted.{inserted-pos}
+use Rattle.exact.proofs.Shares.{inserted-pos}
 use Rattle.exact.proofs.Boehm.{boehm}
 
 pub whole-cong : (U : ℕ → ℚ) (t : ℚ) (s p count : ℕ) {c d : ℕ → ℚ} → ((i : ℕ) → i < count → c i ≡ d i) → whole U t s p count c ≡ whole U t s p count d

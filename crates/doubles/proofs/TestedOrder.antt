@@ -1,13 +1,12 @@
 -- The order of finite doubles as a program's tests tell it: `lt x y ≡ true` where the test passed, `≡ false` where it failed. Assumes nothing.
-use mathlib.Core.Path.{_≡_, sym, ap, _∙_, subst}
-use mathlib.Core.Bool.{Bool, true, false, not}
-use lib.Dec.{T}
+use mathlib.Core.Path.{_≡_, sym, ap, _∙_}
+use mathlib.Core.Bool.{true, false, not}
 use lib.Ieee.{Float, lt, le}
 use lib.Ieee.Scale.{finite}
 use lib.Ieee.Bits.{is-true, is-false}
 use borrow.Author.Tests.{not-true, not-false}
 use Rattle.doubles.specs.Value.{Number}
-use Rattle.doubles.proofs.Tests.{T-of, Tn-of}
+use Rattle.doubles.proofs.TestFacts.{T-of, Tn-of}
 use Rattle.doubles.proofs.Order as Order
 
 number : (x : Float) → finite x ≡ true → Number x

@@ -16,11 +16,11 @@ use Rattle.exact.specs.Spline.{exact}
 use Rattle.exact.specs.Boehm.{SpanOf, InSpan, InEnd, Insert, Fits, Between, refined, refinedAll, insertedAll, insertedPointAll}
 use Rattle.exact.proofs.Field.{lt→le}
 use Rattle.exact.proofs.Refined.{refined-is}
-use Rattle.exact.proofs.Insertions.{insertions-same, insertions-same-end}
+use Rattle.exact.proofs.SeveralKnots.{insertions-same, insertions-same-end}
 use Rattle.doubles.specs.Run.{at, valAt}
 use Rattle.doubles.specs.Value.{val, zero+, one+}
-use Rattle.doubles.proofs.Tests.{T-of, Tn-of}
-use Rattle.doubles.proofs.Tested.{le-gives}
+use Rattle.doubles.proofs.TestFacts.{T-of, Tn-of}
+use Rattle.doubles.proofs.TestedOrder.{le-gives}
 use Rattle.doubles.proofs.Value.{val-lt, val-le, val-zero}
 use Rattle.knots.specs.Knots.{ValidKnots}
 use Rattle.knots.specs.Curve.{countOf, isWeight, ValidControls, ValidCurve}
@@ -37,7 +37,7 @@ use Rattle.insertion.specs.Whole.{insertOutcome, insertStart}
 use Rattle.insertion.specs.Placed.{placed, weightValue, coordinateValue}
 use Rattle.insertion.proofs.Domain.{Spot, spot}
 use Rattle.insertion.proofs.Folds.{inserted-valid}
-use Rattle.insertion.proofs.Made.{by-number, others, Made, made, made-low, made-high}
+use Rattle.insertion.proofs.ListResult.{by-number, others, Made, made, made-low, made-high}
 use Rattle.insertion.proofs.StartOpen.{start-open}
 use Rattle.insertion.proofs.Textbook.{knot-refined}
 

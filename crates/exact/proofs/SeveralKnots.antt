@@ -9,7 +9,7 @@ use Rattle.exact.specs.Rational.{ℚ, q0, _≤q_, _<q_}
 use Rattle.exact.specs.Spline.{whole, exact}
 use Rattle.exact.specs.Boehm.{SpanOf, InSpan, InEnd, Insert, Fits, Between, refined, inserted, insertedPoint, refinedAll, heldAll, insertedAll, insertedPointAll}
 use Rattle.exact.proofs.Refined.{refined-is, new-order, one-span, one-end}
-use Rattle.exact.proofs.Insertion.{held-span, held-in, held-end, insertion-whole, insertion-point, weights-pos}
+use Rattle.exact.proofs.OneKnot.{held-span, held-in, held-end, insertion-whole, insertion-point, weights-pos}
 
 -- knots between their neighbours leave the knots in order
 pub insertions-order : (l : List Insert) (U : ℕ → ℚ) (count p : ℕ) {after : ℕ} → length l + count ≡ after → Fits p count l → Between U l

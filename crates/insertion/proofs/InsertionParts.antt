@@ -14,7 +14,7 @@ use lib.Ieee.{Float, nan, le}
 use lib.Ieee.Scale.{finite}
 use Rattle.doubles.specs.Run.{at}
 use Rattle.doubles.specs.Value.{zero+}
-use Rattle.doubles.proofs.Tested.{le-fails}
+use Rattle.doubles.proofs.TestedOrder.{le-fails}
 use Rattle.knots.specs.Below.{allBelow}
 use Rattle.knots.specs.Refusal.{refuse, accepted, edit-bad, point-not-finite}
 use Rattle.knots.specs.Knots.{allFinite}
@@ -139,7 +139,8 @@ points-left n ps true h B =
 points-left n ps false h B = refl
 
 -- ---- a knot is put among those from place a on
-module _ (a p n k : ℕ) (t : Float) (K : k < n) (w₀ w₃ : List Float) (l : a + (n + p + 1) < length w₀) (E : w₃ ≡ tabulate (a + (n + p + 1) + 1) (knotAt (a + k) t w₀) ++ drop (a + (n + p + 1) + 1) w₀) where
+module _ (a p n k : ℕ) (t : Float) (K : k < n) (w₀ w₃ : List Float) (l : a + (n + p + 1) < length w₀)
+    (E : w₃ ≡ tabulate (a + (n + p + 1) + 1) (knotAt (a + k) t w₀) ++ drop (a + (n + p + 1) + 1) w₀) where
   abbrev run : List Float
   run = tabulate (a + (n + p + 1) + 1) (knotAt (a + k) t w₀)
 
