@@ -4,10 +4,10 @@ use Prim.Native.Nat.{ℕ, zero, suc, _+_, _-_, _*_, _/_, _%_, _≤_, _<_}
 use mathlib.Core.Bool.{Bool, true, false, cond}
 use mathlib.Core.Path.{_≡_, refl, sym, _∙_, ap, ap₂, subst}
 use mathlib.Core.Logic.{_⊎_, inl, inr}
-use mathlib.Core.List.{List, _++_}
+use mathlib.Core.List.{List, _++_, [], append-nil}
 use native.Mathlib.Omega.{arith}
 use borrow.Author.Count.{below-more}
-use lib.ListN.{length, set, take, drop, length-set, length-take, length-drop}
+use lib.ListN.{length, set, take, drop, length-set, length-take, length-drop, length-append, drop-of-length-le}
 use lib.Seq.{getD-set-same, getD-set-other, getD-take, getD-drop, ext-getD}
 use lib.Ieee.{Float, nan}
 use Rattle.doubles.specs.Run.{at}
@@ -127,11 +127,14 @@ module _ (g : Bool) (n : ℕ) (rs p₀ w₀ : List Float) where
             let e : j / 3 * 4 + j % 3 ≡ i * 4 + c = omega arith in
             sym (row-axis g n rs i c l) ∙ ap (at rs) (sym e)
 
-    pub take-end : n ≤ i → (p₁ ≡ pointsFrom n rs ++ drop (n * 3) p₀) × (w₁ ≡ weightsFrom g n rs ++ drop (given g n) w₀)
-    take-end b =
+    pub take-end : n ≤ i → length p₀ ≡ n * 3 → (p₁ ≡ pointsFrom n rs) × (w₁ ≡ weightsFrom g n rs ++ drop (given g n) w₀)
+    take-end b P =
         let U = I .upto in
         let e : i ≡ n = omega arith in
-        (subst (λ (k : ℕ). p₁ ≡ tabulate (k * 3) points ++ drop (k * 3) p₀) e (I .points-are), subst (λ (k : ℕ). w₁ ≡ tabulate (given g k) weights ++ drop (given g k) w₀) e (I .weights-are))
+        let z : drop (n * 3) p₀ ≡ [] = drop-of-length-le p₀ {i = n * 3} (omega arith) in (
+          subst (λ (k : ℕ). p₁ ≡ tabulate (k * 3) points ++ drop (k * 3) p₀) e (I .points-are) ∙ (ap (λ (l : List Float). pointsFrom n rs ++ l) z ∙ append-nil (pointsFrom n rs)),
+          subst (λ (k : ℕ). w₁ ≡ tabulate (given g k) weights ++ drop (given g k) w₀) e (I .weights-are),
+        )
 
 -- ---- both
 pub curve-in : (a : ℕ) (ks ps : List Float) (g : Bool) (ws w₀ w₁ w₂ : List Float) → countOf ps * 4 ≤ a → RowsLaid g (givenRow ps g ws) (countOf ps) w₀ w₁ → KnotsLaid a ks w₁ w₂
@@ -180,10 +183,13 @@ stored-front m c xs x₀ x₁ x₂ C M E L F =
 
 -- what is taken from the rows from place f on
 module _ (g : Bool) (m f : ℕ) (work : List Float) (W : take (length work - f) (drop f work) ≡ drop f work) where
-  pub points-stored : (x₀ x₁ x₂ : List Float) → x₁ ≡ pointsFrom m (take (length work - f) (drop f work)) ++ drop (m * 3) x₀ → length x₁ ≡ length x₀ → x₂ ≡ take (m * 3) x₁ ++ zeros (length x₁ - m * 3)
-      → x₂ ≡ padded (length x₀) (pointsFrom m (drop f work))
-  points-stored x₀ x₁ x₂ E L F =
-      stored-front (m * 3) (m * 3) (pointsFrom m (drop f work)) x₀ x₁ x₂ refl (length-tabulate (m * 3) _) (E ∙ ap (λ (xs : List Float). pointsFrom m xs ++ drop (m * 3) x₀) W) L F
+  pub points-stored : (x₀ ys x₂ : List Float) → m * 3 ≤ length x₀ → ys ≡ pointsFrom m (take (length work - f) (drop f work))
+      → x₂ ≡ take (m * 3) (ys ++ drop (m * 3) x₀) ++ zeros (length (ys ++ drop (m * 3) x₀) - m * 3) → x₂ ≡ padded (length x₀) (pointsFrom m (drop f work))
+  points-stored x₀ ys x₂ b Y F =
+      let y : length ys ≡ m * 3 = ap length Y ∙ length-tabulate (m * 3) _ in
+      let d = length-drop (m * 3) x₀ in
+      stored-front (m * 3) (m * 3) (pointsFrom m (drop f work)) x₀ (ys ++ drop (m * 3) x₀) x₂ refl (length-tabulate (m * 3) _)
+      (ap (λ (l : List Float). l ++ drop (m * 3) x₀) (Y ∙ ap (pointsFrom m) W)) (length-append ys (drop (m * 3) x₀) ∙ omega arith) F
 
   pub weights-stored : (c : ℕ) → c ≡ given g m → (x₀ x₁ x₂ : List Float) → x₁ ≡ weightsFrom g m (take (length work - f) (drop f work)) ++ drop (given g m) x₀ → length x₁ ≡ length x₀
       → x₂ ≡ take c x₁ ++ zeros (length x₁ - c)

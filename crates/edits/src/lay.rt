@@ -20,15 +20,14 @@ ghost use Rattle.runs.specs.Lent.{padded};
 ghost use Rattle.edits.specs.Work.{knotsFrom, pointsFrom, weightsFrom};
 ghost use Rattle.edits.specs.Passes.{givenRow, RowsLaid, KnotsLaid, CurveIn};
 
-// n points and their weights become rows.
-pub fn lay_rows(n: usize, points: &[f64], rational: bool, weights: &[f64], rows: &mut [f64])
-    requires { ⌜ n * 3 ≤ length (now points) ⌝ }
-    requires { ⌜ (rational ≡ true → n ≤ length (now weights)) ⌝ }
-    requires { ⌜ n * 4 ≤ length (now rows) ⌝ }
-    ensures { λ _. ⌜ RowsLaid rational (givenRow (now (points .entry)) rational (now (weights .entry))) n (now (rows .entry)) (now (rows .exit)) ⌝ }
+// Points and their weights become rows. The test of the loop is the reader's own, so that the compiler keeps one of them.
+pub fn lay_rows(points: &[f64], rational: bool, weights: &[f64], rows: &mut [f64])
+    requires { ⌜ (rational ≡ true → length (now points) / 3 ≤ length (now weights)) ⌝ }
+    requires { ⌜ length (now points) / 3 * 4 ≤ length (now rows) ⌝ }
+    ensures { λ _. ⌜ RowsLaid rational (givenRow (now (points .entry)) rational (now (weights .entry))) (length (now (points .entry)) / 3) (now (rows .entry)) (now (rows .exit)) ⌝ }
 {
     let mut i = 0usize;
-    while i < n {
+    while i < points.len() / 3 {
         let q = kept_row(point_at(points, i), weight_at(rational, weights, i));
         put_whole(rational, rows, i, q);
         i += 1;
@@ -61,20 +60,20 @@ pub fn lay_into(
     requires { ⌜ (length (now points) / 3 * 4 ≤ a) × (a + length (now knots) ≤ length (now work)) ⌝ }
     ensures { λ _. ⌜ CurveIn a (now (knots .entry)) (now (points .entry)) rational (now (weights .entry)) (now (work .entry)) (now (work .exit)) ⌝ }
 {
-    lay_rows(points.len() / 3, points, rational, weights, work);
+    lay_rows(points, rational, weights, work);
     lay_knots(knots, a, work);
 }
 
-// The points and weights of n rows go to the front of two runs.
+// The points and weights of n rows go to n points, and to the front of the weights.
 pub fn take_rows(n: usize, rational: bool, rows: &[f64], points: &mut [f64], weights: &mut [f64])
     requires { ⌜ n * 4 ≤ length (now rows) ⌝ }
-    requires { ⌜ n * 3 ≤ length (now points) ⌝ }
+    requires { ⌜ length (now points) ≡ n * 3 ⌝ }
     requires { ⌜ (rational ≡ true → n ≤ length (now weights)) ⌝ }
-    ensures { λ _. ⌜ now (points .exit) ≡ pointsFrom n (now (rows .entry)) ++ drop (n * 3) (now (points .entry)) ⌝ }
+    ensures { λ _. ⌜ now (points .exit) ≡ pointsFrom n (now (rows .entry)) ⌝ }
     ensures { λ _. ⌜ now (weights .exit) ≡ weightsFrom rational n (now (rows .entry)) ++ drop (given rational n) (now (weights .entry)) ⌝ }
 {
     let mut i = 0usize;
-    while i < n {
+    while i < points.len() / 3 {
         let q = whole_row(rational, rows, i);
         put_point(points, i, vector_of(q));
         put_weight(weights, rational, i, q.w);
@@ -106,7 +105,8 @@ pub fn store_curve(
     let end = from + (m + p + 1);
     copy_run(&work[from..end], knots);
     let first = f * 4;
-    take_rows(m, rational, &work[first..], points, weights);
-    clear_from(points, m * 3);
+    let last = m * 3;
+    take_rows(m, rational, &work[first..], &mut points[..last], weights);
+    clear_from(points, last);
     clear_from(weights, given_count(rational, m));
 }

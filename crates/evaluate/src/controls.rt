@@ -74,6 +74,52 @@ pub fn scale_at(rational: bool, weights: &[f64], first: usize, n: usize) -> f64
     largest_in(0.0, weights, first, n)
 }
 
+// What the basis functions and their first derivatives give.
+pub struct TwoSums {
+    pub value: Sums,
+    pub slope: Sums,
+}
+
+// Rows 0 and 1 of a table of derivatives against the p + 1 active points from the first on, each of which is read once.
+pub fn two_sums(
+    two: bool,
+    p: usize,
+    first: usize,
+    scale: f64,
+    points: &[f64],
+    rational: bool,
+    weights: &[f64],
+    ders: &[f64; 195],
+) -> TwoSums
+    requires { ⌜ p ≤ 64 ⌝ }
+    requires { ⌜ (first + p) * 3 + 2 < length (now points) ⌝ }
+    requires { ⌜ (rational ≡ true → first + p < length (now weights)) ⌝ }
+    ensures { λ r. ⌜ r .value ≡ rowSums two (now (points .entry)) rational (now (weights .entry)) scale first (cell (now (ders .entry)) 0) (p + 1) ⌝ }
+    ensures { λ r. ⌜ r .slope ≡ rowSums two (now (points .entry)) rational (now (weights .entry)) scale first (cell (now (ders .entry)) 1) (p + 1) ⌝ }
+{
+    let o = point_at(points, first);
+    let mut value = Sums {
+        x: 0.0,
+        y: 0.0,
+        z: 0.0,
+        w: 0.0,
+    };
+    let mut slope = value;
+    let mut j = 0usize;
+    while j <= p {
+        let i = first + j;
+        let at = 65 + j;
+        let n = ders[j];
+        let m = ders[at];
+        let w = weight_at(rational, weights, scale, i);
+        let q = point_at(points, i);
+        value = plus_of(value, term_of(two, o, q, w, n));
+        slope = plus_of(slope, term_of(two, o, q, w, m));
+        j += 1;
+    }
+    TwoSums { value, slope }
+}
+
 // Row k of a table of derivatives against the p + 1 active points from the first on.
 pub fn row_sums(
     two: bool,

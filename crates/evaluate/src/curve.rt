@@ -1,6 +1,6 @@
 // Point and derivative of a curve: eval, and the step that it takes after validation.
-use crate::controls::row_sums;
 use crate::controls::scale_at;
+use crate::controls::two_sums;
 use crate::refusals::eval_refusal;
 use crate::refusals::step_refusal;
 use crate::sums::Sums;
@@ -69,9 +69,8 @@ fn curve_at(
     let first = span - p;
     let scale = scale_at(rational, weights, first, p + 1);
     let o = point_at(points, first);
-    let a = row_sums(false, 0, p, first, scale, points, rational, weights, &ders);
-    let d = row_sums(false, 1, p, first, scale, points, rational, weights, &ders);
-    quotient_of(o, a, d)
+    let s = two_sums(false, p, first, scale, points, rational, weights, &ders);
+    quotient_of(o, s.value, s.slope)
 }
 
 // The point and the first derivative at t of a curve that was validated before: only lengths are tested, so that many calls validate once.

@@ -6,7 +6,7 @@ use Rattle.edits.proofs.lay.lay_into.Statement.{statement}
 use Rattle.edits.proofs.lay.lay_into.Tie as tie
 
 lay-rows-requires : tie.Need-lay-rows-requires
-lay-rows-requires c κs = let q = c .before .before .before .before .before .pre .1 in let x = q .0 in let y = q .1 in (omega arith, (c .before .before .before .before .before .pre .0, omega arith))
+lay-rows-requires c κs = let q = c .before .before .before .before .before .pre .1 in let x = q .0 in let y = q .1 in (c .before .before .before .before .before .pre .0, omega arith)
 
 lay-knots-requires : tie.Need-lay-knots-requires
 lay-knots-requires c κs = let q = c .before .before .before .before .before .before .before .before .before .pre .1 in let y = q .1 in let w = c .before .before .work .given in omega arith

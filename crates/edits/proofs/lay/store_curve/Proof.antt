@@ -4,17 +4,19 @@ use mathlib.Core.Path.{_∙_, ap}
 use Prim.Native.Nat.{_+_, _*_}
 use native.Mathlib.Omega.{arith}
 use denote.Ref.{now}
+use mathlib.Core.List.{List}
 use lib.ListN.{length-take, length-drop, length, take}
+use lib.Ieee.{Float}
 use Rattle.runs.specs.Lent.{padded}
+use Rattle.runs.proofs.Cleared.{copied-whole}
 use Rattle.edits.proofs.Starting.{rest-all}
 use Rattle.edits.proofs.RowReads.{given-room}
 use Rattle.edits.proofs.IntoRun.{slice-is, points-stored, weights-stored}
-use mathlib.Core.List.{List}
-use lib.Ieee.{Float}
-use Rattle.runs.proofs.Cleared.{copied-whole}
 use borrow.Author.Needs.{needs}
 use Rattle.edits.proofs.lay.store_curve.Statement.{statement}
 use Rattle.edits.proofs.lay.store_curve.Tie as tie
+use Rattle.edits.proofs.lay.store_curve.Reads as reads
+use Rattle.edits.proofs.lay.store_curve.Lts as lts
 
 add-from : tie.Need-add-from
 add-from c = search needs
@@ -46,6 +48,9 @@ copy-run-requires c κs = search needs
 mul-first : tie.Need-mul-first
 mul-first c = search needs
 
+mul-last : tie.Need-mul-last
+mul-last c = search needs
+
 mul-take-rows : tie.Need-mul-take-rows
 mul-take-rows c = search needs
 
@@ -58,14 +63,18 @@ part-take-rows-start c = search needs
 part-take-rows-end : tie.Need-part-take-rows-end
 part-take-rows-end c = search needs
 
-take-rows-requires : tie.Need-take-rows-requires
-take-rows-requires c κs =
-    let a = c .before .before .before .before .before .before .before .before .before .before .before .before .args in
-    let pr = c .before .before .before .before .before .before .before .before .before .before .before .before .pre in
-    let q = pr .0 .1 in let p = pr .0 .0 in let e = length-drop (a .f * 4) (now (a .work)) in (simp length-take (omega arith), (pr .1 .1 .0, given-room (a .rational) (a .m) _ (pr .1 .1 .1)))
+slice-relend-prefix-take-rows : tie.Need-slice-relend-prefix-take-rows
+slice-relend-prefix-take-rows c = search needs
 
-mul-clear-from : tie.Need-mul-clear-from
-mul-clear-from c = search needs
+slice-aggregate-take-rows : tie.Need-slice-aggregate-take-rows
+slice-aggregate-take-rows c = let a = c .before .before .before .before .before .before .before .before .before .before .before .args in
+    let p = c .before .before .before .before .before .before .before .before .before .before .before .pre .0 .0 in
+    let q = c .before .before .before .before .before .before .before .before .before .before .before .pre .0 .1 in let e = length-drop (a .f * 4) (now (a .work)) in simp length-take (omega arith)
+
+take-rows-requires : tie.Need-take-rows-requires
+take-rows-requires c κs = let a = c .before .before .before .before .before .before .before .before .before .before .before .before .args in
+    let pr = c .before .before .before .before .before .before .before .before .before .before .before .before .pre in let q = pr .0 .1 in let p = pr .0 .0 in let s = pr .1 .1 .0 in
+    let e = length-drop (a .f * 4) (now (a .work)) in (simp length-take (omega arith), (length-take (a .m * 3) (now (a .points)) ∙ omega arith, given-room (a .rational) (a .m) _ (pr .1 .1 .1)))
 
 clear-from-requires : tie.Need-clear-from-requires
 clear-from-requires c κs = search needs
@@ -86,30 +95,18 @@ same-length-3 : tie.Need-same-length-3
 same-length-3 c = search needs
 
 returns : tie.Need-returns
-returns c =
-    let a = c .before .before .before .before .before .before .before .before .before .before .before .before .before .before .before .before .before .before .before .before .before
-    .before .before .before
-    .before .before .args in
-    let s =
-    slice-is
-    (a .a + a .f) (a .m + a .p + 1) (now (a .work)) in (
-      c .before .before .before .before .before .before .before .before .before .before .before .before .before .before .before .before .before .before .before .copy-run .ensures
-          ∙ (ap (λ (l : List Float). padded (length (now (a .knots))) (take (length (now (a .knots))) l)) s
-          ∙ copied-whole
-          (length (now (a .knots))) _
-          (simp
-          length-take
-          (let k = c .before .before .before .before .before .before .before .before .before .before .before .before .before .before .before .before .before .before .before .before .before .before
-          .before .before .before .before .pre .1 .0 in
-          omega arith))),
+returns c = let a = c .before .before .before .before .before .before .before .before .before .before .before .before .before .before .before .before .before .before .before .before
+    .before .before .before .before .before .before .args in
+    let k = c .before .before .before .before .before .before .before .before .before .before .before .before .before .before .before .before .before .before .before .before .before
+    .before .before .before .before .before .pre .1 .0 in let s = slice-is (a .a + a .f) (a .m + a .p + 1) (now (a .work)) in (
+      c .before .before .before .before .before .before .before .before .before .before .before .before .before .before .before .before .before .before .before .copy-run .ensures ∙
+          (ap (λ (l : List Float). padded (length (now (a .knots))) (take (length (now (a .knots))) l)) s ∙ copied-whole (length (now (a .knots))) _ (simp length-take (omega arith))),
       (
-        points-stored
-            (a .rational) (a .m) (a .f * 4) (now (a .work)) (rest-all (a .f * 4) (now (a .work))) _ _ _
-            (c .before .before .before .before .before .before .before .before .before .before .before .before .before .take-rows .ensures .0)
-            (c .before .before .before .before .before .before .before .before .before .before .before .before .points .given)
+        points-stored (a .rational) (a .m) (a .f * 4) (now (a .work)) (rest-all (a .f * 4) (now (a .work))) _ _ _
+            (c .before .before .before .before .before .before .before .before .before .before .before .before .before .before .before .before .before .before .before .before .before .before
+            .before .before .before .before .pre .1 .1 .0) (c .before .before .before .before .before .before .before .before .before .before .before .before .before .take-rows .ensures .0)
             (c .before .before .before .before .before .before .before .clear-from .ensures),
-        weights-stored
-            (a .rational) (a .m) (a .f * 4) (now (a .work)) (rest-all (a .f * 4) (now (a .work))) _ (c .before .before .before .given-count .ensures) _ _ _
+        weights-stored (a .rational) (a .m) (a .f * 4) (now (a .work)) (rest-all (a .f * 4) (now (a .work))) _ (c .before .before .before .given-count .ensures) _ _ _
             (c .before .before .before .before .before .before .before .before .before .before .before .before .before .take-rows .ensures .1)
             (c .before .before .before .before .before .before .before .before .before .before .weights .given) (c .before .before .clear-from2 .ensures),
       ),
@@ -129,12 +126,14 @@ store-curve-spec =
     part-copy-run-end
     copy-run-requires
     mul-first
+    mul-last
     mul-take-rows
     sub-take-rows
     part-take-rows-start
     part-take-rows-end
+    slice-relend-prefix-take-rows
+    slice-aggregate-take-rows
     take-rows-requires
-    mul-clear-from
     clear-from-requires
     given-count-requires
     clear-from-requires-2

@@ -1,6 +1,7 @@
 -- `edits::lay::take_rows` meets its contract.
 -- Assumes nothing.
 use Prim.Native.Nat.{_-_}
+use native.Mathlib.Omega.{arith}
 use denote.Ref.{now}
 use Rattle.edits.proofs.IntoRun.{InTake, take-start, take-more, take-end}
 use borrow.Author.Needs.{needs}
@@ -41,11 +42,13 @@ loop-again c =
     let a = c .before .before .before .before .before .before .before .before .before .before .before .before .before .before .before .args in
     let l = c .before .before .before .before .before .before .before .before .before .before .before .loop in
     let q = c .before .before .before .before .before .before .before .before .before .before .before .before .before .before .before .pre in
+    let e = q .1 .0 in
+    let s = l .inv .long-points in
+    let t = c .before .before .before .before .before .before .before .before .before .before .loop-test .taken in
     take-more
-    (a .rational) (a .n) (now (a .rows)) (now (a .points)) (now (a .weights)) _ _ (l .i) (l .inv) (c .before .before .before .before .before .before .before .before .before .before .loop-test .taken)
-    (q .1 .0) (q .1 .1) _ (c .before .before .before .before .before .before .before .before .before .whole-row .ensures) _
-    (c .before .before .before .before .before .before .before .vector-of .ensures)
-    _ _ (c .before .before .before .before .before .before .put-point .ensures) (c .before .before .put-weight .ensures)
+    (a .rational) (a .n) (now (a .rows)) (now (a .points)) (now (a .weights)) _ _ (l .i) (l .inv) (omega arith) (omega arith) (q .1 .1) _
+    (c .before .before .before .before .before .before .before .before .before .whole-row .ensures) _ (c .before .before .before .before .before .before .before .vector-of .ensures) _ _
+    (c .before .before .before .before .before .before .put-point .ensures) (c .before .before .put-weight .ensures)
 
 same-length : tie.Need-same-length Inv-loop μ-loop
 same-length c = c .before .loop .inv .long-points
@@ -56,7 +59,10 @@ same-length-2 c = c .before .loop .inv .long-weights
 returns : tie.Need-returns Inv-loop μ-loop
 returns c =
     let a = c .before .before .before .before .before .args in
-    take-end (a .rational) (a .n) (now (a .rows)) (now (a .points)) (now (a .weights)) _ _ (c .before .loop .i) (c .before .loop .inv) (c .loop-test .left)
+    let e = c .before .before .before .before .before .pre .1 .0 in
+    let s = c .before .loop .inv .long-points in
+    let t = c .loop-test .left in
+    take-end (a .rational) (a .n) (now (a .rows)) (now (a .points)) (now (a .weights)) _ _ (c .before .loop .i) (c .before .loop .inv) (omega arith) e
 
 pub take-rows-spec : {M : Type 1} → statement M
 take-rows-spec =

@@ -1,13 +1,15 @@
 -- `evaluate::curve::curve_at` meets its contract.
 -- Assumes nothing.
+use Rattle.basis.proofs.Whole.{Reach}
+use denote.Ref.{now}
 use mathlib.Core.Path.{refl}
 use native.Mathlib.Omega.{arith}
-use denote.Ref.{now}
-use Rattle.basis.proofs.Whole.{Reach}
 use Rattle.evaluate.proofs.Curves.{curve-is}
 use borrow.Author.Needs.{needs}
 use Rattle.evaluate.proofs.curve.curve_at.Statement.{statement}
 use Rattle.evaluate.proofs.curve.curve_at.Tie as tie
+use Rattle.evaluate.proofs.curve.curve_at.Reads as reads
+use Rattle.evaluate.proofs.curve.curve_at.Lts as lts
 
 slice-aggregate-basis-derivatives : tie.Need-slice-aggregate-basis-derivatives
 slice-aggregate-basis-derivatives c = search needs
@@ -22,33 +24,24 @@ add-scale-at : tie.Need-add-scale-at
 add-scale-at c = search needs
 
 scale-at-requires : tie.Need-scale-at-requires
-scale-at-requires c κs = λ g. let h = c .before .before .before .before .before .before .pre .1 .1 .1 .1 .1 g in omega arith
+scale-at-requires c κs = (λ g. let h = c .before .before .before .before .before .before .pre .1 .1 .1 .1 .1 g in omega arith)
 
 point-at-requires : tie.Need-point-at-requires
 point-at-requires c κs = search needs
 
-row-sums-requires : tie.Need-row-sums-requires
-row-sums-requires c κs =
-    let q = c .before .before .before .before .before .before .before .before .before .pre in
-    (omega arith, (omega arith, (omega arith, (λ g. let h = q .1 .1 .1 .1 .1 g in omega arith))))
-
-row-sums-requires-2 : tie.Need-row-sums-requires-2
-row-sums-requires-2 c κs =
-    let q = c .before .before .before .before .before .before .before .before .before .before .before .pre in
-    (omega arith, (omega arith, (omega arith, (λ g. let h = q .1 .1 .1 .1 .1 g in omega arith))))
+two-sums-requires : tie.Need-two-sums-requires
+two-sums-requires c κs = let q = c .before .before .before .before .before .before .before .before .before .pre in (omega arith, (omega arith, λ g. let h = q .1 .1 .1 .1 .1 g in omega arith))
 
 quotient-of-requires : tie.Need-quotient-of-requires
 quotient-of-requires c κs = search needs
 
 returns : tie.Need-returns
-returns c =
-    let a = c .before .before .before .before .before .before .before .before .before .before .before .before .before .args in
-    let q = c .before .before .before .before .before .before .before .before .before .before .before .before .before .pre in
+returns c = let a = c .before .before .before .before .before .before .before .before .before .before .before .args in
+    let q = c .before .before .before .before .before .before .before .before .before .before .before .pre in
     let reach : Reach 195 (a .p) 1 (now (a .knots)) (a .span) = record { degree = q .0; high = q .1 .0; orders = omega arith; low = q .1 .1 .0; long = q .1 .1 .1 .0; room = refl } in
-    curve-is
-    (a .p) 1 (now (a .knots)) (now (a .points)) (a .rational) (now (a .weights)) (a .span) (a .u) reach _
-    (c .before .before .before .before .before .before .before .before .basis-derivatives .ensures) _ (c .before .before .before .before .before .before .scale-at .ensures)
-    (omega arith) _ _ _ _ (c .before .before .before .before .before .point-at .ensures) (c .before .before .before .row-sums .ensures) (c .before .row-sums2 .ensures) (c .quotient-of .ensures)
+    curve-is (a .p) 1 (now (a .knots)) (now (a .points)) (a .rational) (now (a .weights)) (a .span) (a .u) reach _
+    (c .before .before .before .before .before .before .basis-derivatives .ensures) _ (c .before .before .before .before .scale-at .ensures) (omega arith) _ _ _ _
+    (c .before .before .before .point-at .ensures) (c .before .two-sums .ensures .0) (c .before .two-sums .ensures .1) (c .quotient-of .ensures)
 
 pub curve-at-spec : {M : Type 1} → statement M
 curve-at-spec =
@@ -60,7 +53,6 @@ curve-at-spec =
     add-scale-at
     scale-at-requires
     point-at-requires
-    row-sums-requires
-    row-sums-requires-2
+    two-sums-requires
     quotient-of-requires
     returns)

@@ -1,0 +1,104 @@
+-- `evaluate::controls::two_sums` meets its contract.
+-- Assumes nothing.
+use Prim.Native.Nat.{ℕ, _+_, _-_, _≤_}
+use mathlib.Core.Path.{_≡_, subst}
+use native.Mathlib.Omega.{arith}
+use denote.Ref.{now}
+use lib.Ieee.{ofBits}
+use Rattle.basis.specs.Basis.{cell}
+use Rattle.evaluate.specs.Controls.{noSums, sumsFrom, termOf, rowTerm, rowSums}
+use Rattle.doubles.specs.Run.{at}
+use Rattle.runs.specs.Point.{pointOf}
+use Rattle.evaluate.proofs.Summed.{sums-none, sums-more, term-is}
+use borrow.Author.Needs.{needs}
+use Rattle.evaluate.proofs.controls.two_sums.Statement.{statement}
+use Rattle.evaluate.proofs.controls.two_sums.Tie as tie
+use Rattle.evaluate.proofs.controls.two_sums.Reads as reads
+use Rattle.evaluate.proofs.controls.two_sums.Lts as lts
+
+abbrev Inv-loop : tie.InvT-loop
+Inv-loop two p first scale points rational weights ders o value₀ slope₀ j₀ value slope j = (j ≤ p + 1) × (value ≡ sumsFrom noSums (rowTerm two points rational weights scale (pointOf points first) first (cell ders 0)) j) × (slope ≡ sumsFrom noSums (rowTerm two points rational weights scale (pointOf points first) first (cell ders 1)) j)
+
+abbrev μ-loop : tie.MeasureT-loop
+μ-loop two p first scale points rational weights ders o value₀ slope₀ j₀ value slope j = p + 1 - j
+
+point-at-requires : tie.Need-point-at-requires Inv-loop μ-loop
+point-at-requires c κs = search needs
+
+loop-holds : tie.Need-loop-holds Inv-loop μ-loop
+unfolding ofBits
+loop-holds c = let a = c .before .before .before .args in (omega arith, sums-none noSums (rowTerm (a .two) (now (a .points)) (a .rational) (now (a .weights)) (a .scale) (pointOf (now (a .points)) (a .first)) (a .first) (cell (now (a .ders)) 0)), sums-none noSums (rowTerm (a .two) (now (a .points)) (a .rational) (now (a .weights)) (a .scale) (pointOf (now (a .points)) (a .first)) (a .first) (cell (now (a .ders)) 1)))
+
+add-i : tie.Need-add-i Inv-loop μ-loop
+add-i c = search needs
+
+add-at : tie.Need-add-at Inv-loop μ-loop
+add-at c = search needs
+
+mul-n : tie.Need-mul-n Inv-loop μ-loop
+mul-n c = search needs
+
+element-copy-out-n : tie.Need-element-copy-out-n Inv-loop μ-loop
+element-copy-out-n c = search needs
+
+mul-m : tie.Need-mul-m Inv-loop μ-loop
+mul-m c = search needs
+
+element-copy-out-m : tie.Need-element-copy-out-m Inv-loop μ-loop
+element-copy-out-m c = search needs
+
+weight-at-requires : tie.Need-weight-at-requires Inv-loop μ-loop
+weight-at-requires c κs = λ g. let h = c .before .before .before .before .before .before .before .pre .1 .1 g in omega arith
+
+point-at-requires-2 : tie.Need-point-at-requires-2 Inv-loop μ-loop
+point-at-requires-2 c κs = search needs
+
+term-of-requires : tie.Need-term-of-requires Inv-loop μ-loop
+term-of-requires c κs = search needs
+
+plus-of-requires : tie.Need-plus-of-requires Inv-loop μ-loop
+plus-of-requires c κs = search needs
+
+term-of-requires-2 : tie.Need-term-of-requires-2 Inv-loop μ-loop
+term-of-requires-2 c κs = search needs
+
+plus-of-requires-2 : tie.Need-plus-of-requires-2 Inv-loop μ-loop
+plus-of-requires-2 c κs = search needs
+
+add-j : tie.Need-add-j Inv-loop μ-loop
+add-j c = let t = c .before .before .before .before .before .before .before .before .loop-test .taken in let h = c .before .before .before .before .before .before .before .before .before .before .before .before .before .pre .0 in search needs
+
+loop-less : tie.Need-loop-less Inv-loop μ-loop
+loop-less c = search needs
+
+loop-again : tie.Need-loop-again Inv-loop μ-loop
+loop-again c = let a = c .before .before .before .before .before .before .before .before .before .before .before .before .before .args in let l = c .before .before .before .before .before .before .before .before .before .loop in let z : l .j ≡ 0 + l .j = omega arith in (omega arith, sums-more noSums (rowTerm (a .two) (now (a .points)) (a .rational) (now (a .weights)) (a .scale) (pointOf (now (a .points)) (a .first)) (a .first) (cell (now (a .ders)) 0)) (l .j) (l .value) _ _ (l .inv .1) (term-is (a .two) (now (a .points)) (a .rational) (now (a .weights)) (a .scale) (a .first) (l .j) (cell (now (a .ders)) 0) (pointOf (now (a .points)) (a .first)) _ _ _ (c .before .before .before .before .before .before .before .before .before .before .point-at .ensures) (c .before .before .before .before .point-at2 .ensures) (c .before .before .before .before .before .weight-at .ensures) _ (subst (λ (i : ℕ). c .before .before .before .term-of .result ≡ termOf (a .two) (c .before .before .before .before .before .before .before .before .before .before .point-at .result) (c .before .before .before .before .point-at2 .result) (c .before .before .before .before .before .weight-at .result) (at (now (a .ders)) i)) z (c .before .before .before .term-of .ensures))) (c .before .before .plus-of .ensures), sums-more noSums (rowTerm (a .two) (now (a .points)) (a .rational) (now (a .weights)) (a .scale) (pointOf (now (a .points)) (a .first)) (a .first) (cell (now (a .ders)) 1)) (l .j) (l .slope) _ _ (l .inv .2) (term-is (a .two) (now (a .points)) (a .rational) (now (a .weights)) (a .scale) (a .first) (l .j) (cell (now (a .ders)) 1) (pointOf (now (a .points)) (a .first)) _ _ _ (c .before .before .before .before .before .before .before .before .before .before .point-at .ensures) (c .before .before .before .before .point-at2 .ensures) (c .before .before .before .before .before .weight-at .ensures) _ (c .before .term-of2 .ensures)) (c .plus-of2 .ensures))
+
+returns : tie.Need-returns Inv-loop μ-loop
+unfolding rowSums
+returns c = let a = c .before .before .before .before .before .args in let l = c .before .loop in let e : l .j ≡ a .p + 1 = omega arith in (subst (λ (i : ℕ). l .value ≡ sumsFrom noSums (rowTerm (a .two) (now (a .points)) (a .rational) (now (a .weights)) (a .scale) (pointOf (now (a .points)) (a .first)) (a .first) (cell (now (a .ders)) 0)) i) e (l .inv .1), subst (λ (i : ℕ). l .slope ≡ sumsFrom noSums (rowTerm (a .two) (now (a .points)) (a .rational) (now (a .weights)) (a .scale) (pointOf (now (a .points)) (a .first)) (a .first) (cell (now (a .ders)) 1)) i) e (l .inv .2))
+
+pub two-sums-spec : {M : Type 1} → statement M
+two-sums-spec =
+    tie.close
+    (tie.spec
+    Inv-loop
+    μ-loop
+    point-at-requires
+    loop-holds
+    add-i
+    add-at
+    mul-n
+    element-copy-out-n
+    mul-m
+    element-copy-out-m
+    weight-at-requires
+    point-at-requires-2
+    term-of-requires
+    plus-of-requires
+    term-of-requires-2
+    plus-of-requires-2
+    add-j
+    loop-less
+    loop-again
+    returns)
