@@ -59,9 +59,8 @@ same-length-8 : tie.Need-same-length-8
 same-length-8 c = search needs
 
 returns-2 : tie.Need-returns-2
-returns-2 c =
-    let a = c .before .before .before .before .before .before .before .before .before .before .before .before .before .before .before .before .before .before .before .before .before
-    .before .before .before .before .before .before .before .before .before .before .before .before .before .before .before .before .before .args in
+returns-2 c = let far = c .before .before .before .before .before .before .before .before .before .before .before .before .before .before .before .before .before .before .before .before in
+    let a = far .before .before .before .before .before .before .before .before .before .before .before .before .before .before .before .before .before .before .args in
     let k = c .before .before .before .before .before .before .before .before .clear-all2 .ensures in
     elevate-late (a .degree) (now (a .knots)) (now (a .points)) (a .rational) (now (a .weights)) (a .raised) (length (now (a .out-knots))) (length (now (a .out-points)))
     (length (now (a .out-weights))) (length (now (a .scratch))) _

@@ -2,8 +2,10 @@
 -- Assumes nothing.
 use borrow.Author.Needs.{needs}
 use borrow.Author.Tests.{not-true, not-false}
+use Rattle.edits.specs.Counts.{bit}
 use native.Mathlib.Omega.{arith}
-use Prim.Native.Nat.{ℕ, _+_, _-_}
+use Prim.Native.Nat.{ℕ, _+_, _-_, _*_, _≤_}
+use lib.ListN.{length}
 use mathlib.Core.Path.{_∙_, ap}
 use denote.Ref.{now}
 use Rattle.elevation.specs.Breaks.{breaksOf}
@@ -136,8 +138,14 @@ returns-2 c =
 bit-of-requires : tie.Need-bit-of-requires Inv-loop μ-loop
 bit-of-requires c κs = search needs
 
-add-place-2 : tie.Need-add-place-2 Inv-loop μ-loop
-add-place-2 c =
+-- the points of the next segment have room
+within : (c : tie.After-bit-of Inv-loop μ-loop)
+    → (c .before .before .before .before .before .before .before .before .before .before .before .before .loop .place +
+    (c .before .before .before .before .before .before .before .before .before .before .before .before .before .before .before .before .before .before .before .before .before .before
+    .before .before .before .before .args .e
+    + bit (c .before .before .before .before .before .before .before .before .before .is-full .result))) * 3 ≤ length
+    (c .before .before .before .before .before .before .before .before .before .before .before .before .loop .points)
+within c =
     let a = c .before .before .before .before .before .before .before .before .before .before .before .before .before .before .before .before .before .before .before .before .before
     .before .before .before .before .before .args in
     let d = c .before .before .before .before .before .before .before .before .before .before .before .before .loop in
@@ -145,36 +153,34 @@ add-place-2 c =
     .before .before .before .before .before .pre in
     let z = c .before .before .before .before .before .before .before .before .before .before .before .before .before .before .before .before .before .before .before .put-segment in
     let v = c .before .before .before .before .before .before .before .before .before .before .before .before .before .before .before .before .before .before .points in
-    let r = rest-points (a .p) (a .e) (a .n) (now (a .knots)) (now (a .work)) (a .o) (a .rational) (z .last .1 .1 .1 .1 .1 .1 .1 .1 .0) (z .last .1 .1 .1 .1 .1 .1 .1 .1 .1 .0) (h .1 .0)
+    rest-points (a .p) (a .e) (a .n) (now (a .knots)) (now (a .work)) (a .o) (a .rational) (z .last .1 .1 .1 .1 .1 .1 .1 .1 .0) (z .last .1 .1 .1 .1 .1 .1 .1 .1 .1 .0) (h .1 .0)
     (let w = v .given in let y = h .1 .1 .0 in omega arith)
     (let w = c .before .before .before .before .before .before .before .before .before .before .before .before .before .before .before .before .weights .given in let y = h .1 .1 .1 in
     omega arith) (d .points) (d .weights) (d .k) (d .j) (d .place) (d .inv .1) (d .inv .0)
     (c .before .before .before .before .before .before .before .before .before .before .before .loop-test .taken) _
-    (c .before .before .before .before .before .before .before .before .before .is-full .ensures) in let b = c .bit-of .ensures in let u = v .given in
-    let g = c .before .before .before .before .before .before .before .before .before .before .before .before .before .before .before .before .before .before .before .before .before
-    .before .before .before .before .before .good in
-    let f = c .before .before .before .before .before .before .before .before .before .before .before .before .before .before .before .before .before .before .before .before .before
-    .before .before .before .before .before .fits in let l = d .inv .1 .going .long-points in search needs
+    (c .before .before .before .before .before .before .before .before .before .is-full .ensures)
+
+add-place-2 : tie.Need-add-place-2 Inv-loop μ-loop
+add-place-2 c =
+    let r = within c in
+    let b = c .bit-of .ensures in
+    let u = c .before .before .before .before .before .before .before .before .before .before .before .before .before .before .before .before .before .before .points .given in
+    let l = c .before .before .before .before .before .before .before .before .before .before .before .before .loop .inv .1 .going .long-points in
+    let s = c .before .before .before .before .before .before .before .before .before .before .before .before .before .before .before .before .before .before .before .before .before
+    .before .before .before .before .before in
+    let g = s .good in
+    let f = s .fits in search needs
 
 add-place-3 : tie.Need-add-place-3 Inv-loop μ-loop
 add-place-3 c =
-    let a = c .before .before .before .before .before .before .before .before .before .before .before .before .before .before .before .before .before .before .before .before .before
-    .before .before .before .before .before .args in
-    let d = c .before .before .before .before .before .before .before .before .before .before .before .before .loop in
-    let h = c .before .before .before .before .before .before .before .before .before .before .before .before .before .before .before .before .before .before .before .before .before
-    .before .before .before .before .before .pre in
-    let z = c .before .before .before .before .before .before .before .before .before .before .before .before .before .before .before .before .before .before .before .put-segment in
-    let v = c .before .before .before .before .before .before .before .before .before .before .before .before .before .before .before .before .before .before .points in
-    let r = rest-points (a .p) (a .e) (a .n) (now (a .knots)) (now (a .work)) (a .o) (a .rational) (z .last .1 .1 .1 .1 .1 .1 .1 .1 .0) (z .last .1 .1 .1 .1 .1 .1 .1 .1 .1 .0) (h .1 .0)
-    (let w = v .given in let y = h .1 .1 .0 in omega arith)
-    (let w = c .before .before .before .before .before .before .before .before .before .before .before .before .before .before .before .before .weights .given in let y = h .1 .1 .1 in
-    omega arith) (d .points) (d .weights) (d .k) (d .j) (d .place) (d .inv .1) (d .inv .0)
-    (c .before .before .before .before .before .before .before .before .before .before .before .loop-test .taken) _
-    (c .before .before .before .before .before .before .before .before .before .is-full .ensures) in let b = c .bit-of .ensures in let u = v .given in
-    let g = c .before .before .before .before .before .before .before .before .before .before .before .before .before .before .before .before .before .before .before .before .before
-    .before .before .before .before .before .good in
-    let f = c .before .before .before .before .before .before .before .before .before .before .before .before .before .before .before .before .before .before .before .before .before
-    .before .before .before .before .before .fits in let l = d .inv .1 .going .long-points in search needs
+    let r = within c in
+    let b = c .bit-of .ensures in
+    let u = c .before .before .before .before .before .before .before .before .before .before .before .before .before .before .before .before .before .before .points .given in
+    let l = c .before .before .before .before .before .before .before .before .before .before .before .before .loop .inv .1 .going .long-points in
+    let s = c .before .before .before .before .before .before .before .before .before .before .before .before .before .before .before .before .before .before .before .before .before
+    .before .before .before .before .before in
+    let g = s .good in
+    let f = s .fits in search needs
 
 add-j : tie.Need-add-j Inv-loop μ-loop
 add-j c =

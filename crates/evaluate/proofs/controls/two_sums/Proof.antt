@@ -17,7 +17,9 @@ use Rattle.evaluate.proofs.controls.two_sums.Reads as reads
 use Rattle.evaluate.proofs.controls.two_sums.Lts as lts
 
 abbrev Inv-loop : tie.InvT-loop
-Inv-loop two p first scale points rational weights ders o value₀ slope₀ j₀ value slope j = (j ≤ p + 1) × (value ≡ sumsFrom noSums (rowTerm two points rational weights scale (pointOf points first) first (cell ders 0)) j) × (slope ≡ sumsFrom noSums (rowTerm two points rational weights scale (pointOf points first) first (cell ders 1)) j)
+Inv-loop two p first scale points rational weights ders o value₀ slope₀ j₀ value slope j = (j ≤ p + 1) ×
+    (value ≡ sumsFrom noSums (rowTerm two points rational weights scale (pointOf points first) first (cell ders 0)) j) ×
+    (slope ≡ sumsFrom noSums (rowTerm two points rational weights scale (pointOf points first) first (cell ders 1)) j)
 
 abbrev μ-loop : tie.MeasureT-loop
 μ-loop two p first scale points rational weights ders o value₀ slope₀ j₀ value slope j = p + 1 - j
@@ -27,7 +29,13 @@ point-at-requires c κs = search needs
 
 loop-holds : tie.Need-loop-holds Inv-loop μ-loop
 unfolding ofBits
-loop-holds c = let a = c .before .before .before .args in (omega arith, sums-none noSums (rowTerm (a .two) (now (a .points)) (a .rational) (now (a .weights)) (a .scale) (pointOf (now (a .points)) (a .first)) (a .first) (cell (now (a .ders)) 0)), sums-none noSums (rowTerm (a .two) (now (a .points)) (a .rational) (now (a .weights)) (a .scale) (pointOf (now (a .points)) (a .first)) (a .first) (cell (now (a .ders)) 1)))
+loop-holds c = let a = c .before .before .before .args in (
+  omega arith,
+  sums-none noSums (rowTerm (a .two) (now (a .points)) (a .rational) (now (a .weights)) (a .scale) (pointOf (now (a .points)) (a .first)) (a .first)
+      (cell (now (a .ders)) 0)),
+  sums-none noSums (rowTerm (a .two) (now (a .points)) (a .rational) (now (a .weights)) (a .scale) (pointOf (now (a .points)) (a .first)) (a .first)
+      (cell (now (a .ders)) 1)),
+)
 
 add-i : tie.Need-add-i Inv-loop μ-loop
 add-i c = search needs
@@ -66,17 +74,39 @@ plus-of-requires-2 : tie.Need-plus-of-requires-2 Inv-loop μ-loop
 plus-of-requires-2 c κs = search needs
 
 add-j : tie.Need-add-j Inv-loop μ-loop
-add-j c = let t = c .before .before .before .before .before .before .before .before .loop-test .taken in let h = c .before .before .before .before .before .before .before .before .before .before .before .before .before .pre .0 in search needs
+add-j c = let t = c .before .before .before .before .before .before .before .before .loop-test .taken in
+    let h = c .before .before .before .before .before .before .before .before .before .before .before .before .before .pre .0 in search needs
 
 loop-less : tie.Need-loop-less Inv-loop μ-loop
 loop-less c = search needs
 
 loop-again : tie.Need-loop-again Inv-loop μ-loop
-loop-again c = let a = c .before .before .before .before .before .before .before .before .before .before .before .before .before .args in let l = c .before .before .before .before .before .before .before .before .before .loop in let z : l .j ≡ 0 + l .j = omega arith in (omega arith, sums-more noSums (rowTerm (a .two) (now (a .points)) (a .rational) (now (a .weights)) (a .scale) (pointOf (now (a .points)) (a .first)) (a .first) (cell (now (a .ders)) 0)) (l .j) (l .value) _ _ (l .inv .1) (term-is (a .two) (now (a .points)) (a .rational) (now (a .weights)) (a .scale) (a .first) (l .j) (cell (now (a .ders)) 0) (pointOf (now (a .points)) (a .first)) _ _ _ (c .before .before .before .before .before .before .before .before .before .before .point-at .ensures) (c .before .before .before .before .point-at2 .ensures) (c .before .before .before .before .before .weight-at .ensures) _ (subst (λ (i : ℕ). c .before .before .before .term-of .result ≡ termOf (a .two) (c .before .before .before .before .before .before .before .before .before .before .point-at .result) (c .before .before .before .before .point-at2 .result) (c .before .before .before .before .before .weight-at .result) (at (now (a .ders)) i)) z (c .before .before .before .term-of .ensures))) (c .before .before .plus-of .ensures), sums-more noSums (rowTerm (a .two) (now (a .points)) (a .rational) (now (a .weights)) (a .scale) (pointOf (now (a .points)) (a .first)) (a .first) (cell (now (a .ders)) 1)) (l .j) (l .slope) _ _ (l .inv .2) (term-is (a .two) (now (a .points)) (a .rational) (now (a .weights)) (a .scale) (a .first) (l .j) (cell (now (a .ders)) 1) (pointOf (now (a .points)) (a .first)) _ _ _ (c .before .before .before .before .before .before .before .before .before .before .point-at .ensures) (c .before .before .before .before .point-at2 .ensures) (c .before .before .before .before .before .weight-at .ensures) _ (c .before .term-of2 .ensures)) (c .plus-of2 .ensures))
+loop-again c =
+    let b = c .before .before .before .before .before .before .before .before .before .before .point-at in
+    let a = c .before .before .before .before .before .before .before .before .before .before .before .before .before .args in
+    let l = c .before .before .before .before .before .before .before .before .before .loop in let z : l .j ≡ 0 + l .j = omega arith in (
+      omega (arith, c .before .before .before .before .before .before .before .before .loop-test .taken),
+      sums-more noSums (rowTerm (a .two) (now (a .points)) (a .rational) (now (a .weights)) (a .scale) (pointOf (now (a .points)) (a .first)) (a .first)
+          (cell (now (a .ders)) 0)) (l .j) (l .value) _ _ (l .inv .1)
+          (term-is (a .two) (now (a .points)) (a .rational) (now (a .weights)) (a .scale) (a .first) (l .j) (cell (now (a .ders)) 0) (pointOf (now (a .points)) (a .first)) _ _ _ (b .ensures)
+          (c .before .before .before .before .point-at2 .ensures) (c .before .before .before .before .before .weight-at .ensures) _
+          (subst (λ (i : ℕ). c .before .before .before .term-of .result ≡ termOf (a .two) (b .result) (c .before .before .before .before .point-at2 .result)
+          (c .before .before .before .before .before .weight-at .result) (at (now (a .ders)) i)) z (c .before .before .before .term-of .ensures))) (c .before .before .plus-of .ensures),
+      sums-more noSums (rowTerm (a .two) (now (a .points)) (a .rational) (now (a .weights)) (a .scale) (pointOf (now (a .points)) (a .first)) (a .first) (cell (now (a .ders)) 1)) (l .j)
+          (l .slope) _ _ (l .inv .2) (term-is (a .two) (now (a .points)) (a .rational) (now (a .weights)) (a .scale) (a .first) (l .j) (cell (now (a .ders)) 1)
+          (pointOf (now (a .points)) (a .first)) _ _ _ (b .ensures) (c .before .before .before .before .point-at2 .ensures) (c .before .before .before .before .before .weight-at .ensures) _
+          (c .before .term-of2 .ensures)) (c .plus-of2 .ensures),
+    )
 
 returns : tie.Need-returns Inv-loop μ-loop
 unfolding rowSums
-returns c = let a = c .before .before .before .before .before .args in let l = c .before .loop in let e : l .j ≡ a .p + 1 = omega arith in (subst (λ (i : ℕ). l .value ≡ sumsFrom noSums (rowTerm (a .two) (now (a .points)) (a .rational) (now (a .weights)) (a .scale) (pointOf (now (a .points)) (a .first)) (a .first) (cell (now (a .ders)) 0)) i) e (l .inv .1), subst (λ (i : ℕ). l .slope ≡ sumsFrom noSums (rowTerm (a .two) (now (a .points)) (a .rational) (now (a .weights)) (a .scale) (pointOf (now (a .points)) (a .first)) (a .first) (cell (now (a .ders)) 1)) i) e (l .inv .2))
+returns c = let a = c .before .before .before .before .before .args in let l = c .before .loop in let e : l .j ≡ a .p + 1 = omega arith in (
+  subst (λ (i : ℕ). l .value ≡ sumsFrom noSums (rowTerm (a .two) (now (a .points)) (a .rational) (now (a .weights)) (a .scale) (pointOf (now (a .points)) (a .first)) (a .first)
+      (cell (now (a .ders)) 0)) i) e (l .inv .1),
+  subst
+      (λ (i : ℕ). l .slope ≡ sumsFrom noSums (rowTerm (a .two) (now (a .points)) (a .rational) (now (a .weights)) (a .scale) (pointOf (now (a .points)) (a .first)) (a .first)
+      (cell (now (a .ders)) 1)) i) e (l .inv .2),
+)
 
 pub two-sums-spec : {M : Type 1} → statement M
 two-sums-spec =
