@@ -5,7 +5,7 @@ use runs::larger::larger_of;
 use runs::points::point_at;
 use runs::vector::Vector;
 ghost use mathlib.Core.Path.{_≡_};
-ghost use mathlib.Core.Bool.{true};
+ghost use mathlib.Core.Bool.{true, false};
 ghost use Prim.Native.Nat.{_+_, _*_, _<_, _≤_};
 ghost use lib.ListN.{length};
 ghost use Rattle.doubles.specs.Run.{at};
@@ -80,9 +80,8 @@ pub struct TwoSums {
     pub slope: Sums,
 }
 
-// Rows 0 and 1 of a table of derivatives against the p + 1 active points from the first on, each of which is read once.
+// Rows 0 and 1 of a table of derivatives against the p + 1 active points from the first on, each of which is read once. The order of operations is that of one derivative.
 pub fn two_sums(
-    two: bool,
     p: usize,
     first: usize,
     scale: f64,
@@ -94,8 +93,8 @@ pub fn two_sums(
     requires { ⌜ p ≤ 64 ⌝ }
     requires { ⌜ (first + p) * 3 + 2 < length (now points) ⌝ }
     requires { ⌜ (rational ≡ true → first + p < length (now weights)) ⌝ }
-    ensures { λ r. ⌜ r .value ≡ rowSums two (now (points .entry)) rational (now (weights .entry)) scale first (cell (now (ders .entry)) 0) (p + 1) ⌝ }
-    ensures { λ r. ⌜ r .slope ≡ rowSums two (now (points .entry)) rational (now (weights .entry)) scale first (cell (now (ders .entry)) 1) (p + 1) ⌝ }
+    ensures { λ r. ⌜ r .value ≡ rowSums false (now (points .entry)) rational (now (weights .entry)) scale first (cell (now (ders .entry)) 0) (p + 1) ⌝ }
+    ensures { λ r. ⌜ r .slope ≡ rowSums false (now (points .entry)) rational (now (weights .entry)) scale first (cell (now (ders .entry)) 1) (p + 1) ⌝ }
 {
     let o = point_at(points, first);
     let mut value = Sums {
@@ -113,8 +112,8 @@ pub fn two_sums(
         let m = ders[at];
         let w = weight_at(rational, weights, scale, i);
         let q = point_at(points, i);
-        value = plus_of(value, term_of(two, o, q, w, n));
-        slope = plus_of(slope, term_of(two, o, q, w, m));
+        value = plus_of(value, term_of(false, o, q, w, n));
+        slope = plus_of(slope, term_of(false, o, q, w, m));
         j += 1;
     }
     TwoSums { value, slope }

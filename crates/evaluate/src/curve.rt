@@ -69,7 +69,7 @@ fn curve_at(
     let first = span - p;
     let scale = scale_at(rational, weights, first, p + 1);
     let o = point_at(points, first);
-    let s = two_sums(false, p, first, scale, points, rational, weights, &ders);
+    let s = two_sums(p, first, scale, points, rational, weights, &ders);
     quotient_of(o, s.value, s.slope)
 }
 

@@ -1,7 +1,6 @@
 // Point and two derivatives of a curve: eval2, and the step that it takes after validation.
 use crate::controls::row_sums;
 use crate::controls::scale_at;
-use crate::controls::two_sums;
 use crate::refusals::eval_refusal;
 use crate::refusals::step_refusal;
 use crate::sums::Sums;
@@ -82,9 +81,10 @@ fn curve2_at(
     let first = span - p;
     let o = point_at(points, first);
     let scale = scale_at(rational, weights, first, p + 1);
-    let s = two_sums(true, p, first, scale, points, rational, weights, &ders);
+    let a = row_sums(true, 0, p, first, scale, points, rational, weights, &ders);
+    let d = row_sums(true, 1, p, first, scale, points, rational, weights, &ders);
     let e = row_sums(true, 2, p, first, scale, points, rational, weights, &ders);
-    quotient2_of(o, s.value, s.slope, e)
+    quotient2_of(o, a, d, e)
 }
 
 // All nine numbers are finite.

@@ -1,6 +1,7 @@
 -- `evaluate::controls::two_sums` meets its contract.
 -- Assumes nothing.
 use Prim.Native.Nat.{ℕ, _+_, _-_, _≤_}
+use mathlib.Core.Bool.{false}
 use mathlib.Core.Path.{_≡_, subst}
 use native.Mathlib.Omega.{arith}
 use denote.Ref.{now}
@@ -17,12 +18,12 @@ use Rattle.evaluate.proofs.controls.two_sums.Reads as reads
 use Rattle.evaluate.proofs.controls.two_sums.Lts as lts
 
 abbrev Inv-loop : tie.InvT-loop
-Inv-loop two p first scale points rational weights ders o value₀ slope₀ j₀ value slope j = (j ≤ p + 1) ×
-    (value ≡ sumsFrom noSums (rowTerm two points rational weights scale (pointOf points first) first (cell ders 0)) j) ×
-    (slope ≡ sumsFrom noSums (rowTerm two points rational weights scale (pointOf points first) first (cell ders 1)) j)
+Inv-loop p first scale points rational weights ders o value₀ slope₀ j₀ value slope j = (j ≤ p + 1) ×
+    (value ≡ sumsFrom noSums (rowTerm false points rational weights scale (pointOf points first) first (cell ders 0)) j) ×
+    (slope ≡ sumsFrom noSums (rowTerm false points rational weights scale (pointOf points first) first (cell ders 1)) j)
 
 abbrev μ-loop : tie.MeasureT-loop
-μ-loop two p first scale points rational weights ders o value₀ slope₀ j₀ value slope j = p + 1 - j
+μ-loop p first scale points rational weights ders o value₀ slope₀ j₀ value slope j = p + 1 - j
 
 point-at-requires : tie.Need-point-at-requires Inv-loop μ-loop
 point-at-requires c κs = search needs
@@ -31,9 +32,9 @@ loop-holds : tie.Need-loop-holds Inv-loop μ-loop
 unfolding ofBits
 loop-holds c = let a = c .before .before .before .args in (
   omega arith,
-  sums-none noSums (rowTerm (a .two) (now (a .points)) (a .rational) (now (a .weights)) (a .scale) (pointOf (now (a .points)) (a .first)) (a .first)
+  sums-none noSums (rowTerm false (now (a .points)) (a .rational) (now (a .weights)) (a .scale) (pointOf (now (a .points)) (a .first)) (a .first)
       (cell (now (a .ders)) 0)),
-  sums-none noSums (rowTerm (a .two) (now (a .points)) (a .rational) (now (a .weights)) (a .scale) (pointOf (now (a .points)) (a .first)) (a .first)
+  sums-none noSums (rowTerm false (now (a .points)) (a .rational) (now (a .weights)) (a .scale) (pointOf (now (a .points)) (a .first)) (a .first)
       (cell (now (a .ders)) 1)),
 )
 
@@ -86,14 +87,14 @@ loop-again c =
     let a = c .before .before .before .before .before .before .before .before .before .before .before .before .before .args in
     let l = c .before .before .before .before .before .before .before .before .before .loop in let z : l .j ≡ 0 + l .j = omega arith in (
       omega (arith, c .before .before .before .before .before .before .before .before .loop-test .taken),
-      sums-more noSums (rowTerm (a .two) (now (a .points)) (a .rational) (now (a .weights)) (a .scale) (pointOf (now (a .points)) (a .first)) (a .first)
+      sums-more noSums (rowTerm false (now (a .points)) (a .rational) (now (a .weights)) (a .scale) (pointOf (now (a .points)) (a .first)) (a .first)
           (cell (now (a .ders)) 0)) (l .j) (l .value) _ _ (l .inv .1)
-          (term-is (a .two) (now (a .points)) (a .rational) (now (a .weights)) (a .scale) (a .first) (l .j) (cell (now (a .ders)) 0) (pointOf (now (a .points)) (a .first)) _ _ _ (b .ensures)
+          (term-is false (now (a .points)) (a .rational) (now (a .weights)) (a .scale) (a .first) (l .j) (cell (now (a .ders)) 0) (pointOf (now (a .points)) (a .first)) _ _ _ (b .ensures)
           (c .before .before .before .before .point-at2 .ensures) (c .before .before .before .before .before .weight-at .ensures) _
-          (subst (λ (i : ℕ). c .before .before .before .term-of .result ≡ termOf (a .two) (b .result) (c .before .before .before .before .point-at2 .result)
+          (subst (λ (i : ℕ). c .before .before .before .term-of .result ≡ termOf false (b .result) (c .before .before .before .before .point-at2 .result)
           (c .before .before .before .before .before .weight-at .result) (at (now (a .ders)) i)) z (c .before .before .before .term-of .ensures))) (c .before .before .plus-of .ensures),
-      sums-more noSums (rowTerm (a .two) (now (a .points)) (a .rational) (now (a .weights)) (a .scale) (pointOf (now (a .points)) (a .first)) (a .first) (cell (now (a .ders)) 1)) (l .j)
-          (l .slope) _ _ (l .inv .2) (term-is (a .two) (now (a .points)) (a .rational) (now (a .weights)) (a .scale) (a .first) (l .j) (cell (now (a .ders)) 1)
+      sums-more noSums (rowTerm false (now (a .points)) (a .rational) (now (a .weights)) (a .scale) (pointOf (now (a .points)) (a .first)) (a .first) (cell (now (a .ders)) 1)) (l .j)
+          (l .slope) _ _ (l .inv .2) (term-is false (now (a .points)) (a .rational) (now (a .weights)) (a .scale) (a .first) (l .j) (cell (now (a .ders)) 1)
           (pointOf (now (a .points)) (a .first)) _ _ _ (b .ensures) (c .before .before .before .before .point-at2 .ensures) (c .before .before .before .before .before .weight-at .ensures) _
           (c .before .term-of2 .ensures)) (c .plus-of2 .ensures),
     )
@@ -101,10 +102,10 @@ loop-again c =
 returns : tie.Need-returns Inv-loop μ-loop
 unfolding rowSums
 returns c = let a = c .before .before .before .before .before .args in let l = c .before .loop in let e : l .j ≡ a .p + 1 = omega arith in (
-  subst (λ (i : ℕ). l .value ≡ sumsFrom noSums (rowTerm (a .two) (now (a .points)) (a .rational) (now (a .weights)) (a .scale) (pointOf (now (a .points)) (a .first)) (a .first)
+  subst (λ (i : ℕ). l .value ≡ sumsFrom noSums (rowTerm false (now (a .points)) (a .rational) (now (a .weights)) (a .scale) (pointOf (now (a .points)) (a .first)) (a .first)
       (cell (now (a .ders)) 0)) i) e (l .inv .1),
   subst
-      (λ (i : ℕ). l .slope ≡ sumsFrom noSums (rowTerm (a .two) (now (a .points)) (a .rational) (now (a .weights)) (a .scale) (pointOf (now (a .points)) (a .first)) (a .first)
+      (λ (i : ℕ). l .slope ≡ sumsFrom noSums (rowTerm false (now (a .points)) (a .rational) (now (a .weights)) (a .scale) (pointOf (now (a .points)) (a .first)) (a .first)
       (cell (now (a .ders)) 1)) i) e (l .inv .2),
 )
 

@@ -1,15 +1,13 @@
 -- `evaluate::curve2::curve2_at` meets its contract.
 -- Assumes nothing.
-use Rattle.basis.proofs.Whole.{Reach}
-use denote.Ref.{now}
 use mathlib.Core.Path.{refl}
 use native.Mathlib.Omega.{arith}
+use denote.Ref.{now}
+use Rattle.basis.proofs.Whole.{Reach}
 use Rattle.evaluate.proofs.Curves.{curve2-is}
 use borrow.Author.Needs.{needs}
 use Rattle.evaluate.proofs.curve2.curve2_at.Statement.{statement}
 use Rattle.evaluate.proofs.curve2.curve2_at.Tie as tie
-use Rattle.evaluate.proofs.curve2.curve2_at.Reads as reads
-use Rattle.evaluate.proofs.curve2.curve2_at.Lts as lts
 
 slice-aggregate-basis-derivatives : tie.Need-slice-aggregate-basis-derivatives
 slice-aggregate-basis-derivatives c = search needs
@@ -27,26 +25,33 @@ add-scale-at : tie.Need-add-scale-at
 add-scale-at c = search needs
 
 scale-at-requires : tie.Need-scale-at-requires
-scale-at-requires c κs = (λ g. let h = c .before .before .before .before .before .before .before .pre .1 .1 .1 .1 .1 g in omega arith)
-
-two-sums-requires : tie.Need-two-sums-requires
-two-sums-requires c κs = let q = c .before .before .before .before .before .before .before .before .before .pre in (omega arith, (omega arith, λ g. let h = q .1 .1 .1 .1 .1 g in omega arith))
+scale-at-requires c κs = λ g. let h = c .before .before .before .before .before .before .before .pre .1 .1 .1 .1 .1 g in omega arith
 
 row-sums-requires : tie.Need-row-sums-requires
-row-sums-requires c κs = let q = c .before .before .before .before .before .before .before .before .before .before .before .pre in
+row-sums-requires c κs = let q = c .before .before .before .before .before .before .before .before .before .pre in
+    (omega arith, (omega arith, (omega arith, (λ g. let h = q .1 .1 .1 .1 .1 g in omega arith))))
+
+row-sums-requires-2 : tie.Need-row-sums-requires-2
+row-sums-requires-2 c κs = let q = c .before .before .before .before .before .before .before .before .before .before .before .pre in
+    (omega arith, (omega arith, (omega arith, (λ g. let h = q .1 .1 .1 .1 .1 g in omega arith))))
+
+row-sums-requires-3 : tie.Need-row-sums-requires-3
+row-sums-requires-3 c κs = let q = c .before .before .before .before .before .before .before .before .before .before .before .before .before .pre in
     (omega arith, (omega arith, (omega arith, (λ g. let h = q .1 .1 .1 .1 .1 g in omega arith))))
 
 quotient2-of-requires : tie.Need-quotient2-of-requires
 quotient2-of-requires c κs = search needs
 
 returns : tie.Need-returns
-returns c = let a = c .before .before .before .before .before .before .before .before .before .before .before .before .before .args in
-    let q = c .before .before .before .before .before .before .before .before .before .before .before .before .before .pre in
+returns c = let a = c .before .before .before .before .before .before .before .before .before .before .before .before .before .before .before .args in
+    let q = c .before .before .before .before .before .before .before .before .before .before .before .before .before .before .before .pre in
     let reach : Reach 195 (a .p) 2 (now (a .knots)) (a .span) = record { degree = q .0; high = q .1 .0; orders = omega arith; low = q .1 .1 .0; long = q .1 .1 .1 .0; room = refl } in
-    curve2-is (a .p) 2 (now (a .knots)) (now (a .points)) (a .rational) (now (a .weights)) (a .span) (a .u) reach _
-    (c .before .before .before .before .before .before .before .before .basis-derivatives .ensures) _ (c .before .before .before .before .before .scale-at .ensures) (omega arith) _ _ _
-    _ _ (c .before .before .before .before .before .before .point-at .ensures) (c .before .before .before .two-sums .ensures .0) (c .before .before .before .two-sums .ensures .1)
-    (c .before .row-sums .ensures) (c .quotient2-of .ensures)
+    curve2-is
+    (a .p) 2 (now (a .knots)) (now (a .points)) (a .rational) (now (a .weights)) (a .span) (a .u) reach _
+    (c .before .before .before .before .before .before .before .before .before .before .basis-derivatives .ensures) _ (c .before .before .before .before .before .before .before .scale-at .ensures)
+    (omega arith)
+    _ _ _ _ _ (c .before .before .before .before .before .before .before .before .point-at .ensures) (c .before .before .before .before .before .row-sums .ensures)
+    (c .before .before .before .row-sums2 .ensures) (c .before .row-sums3 .ensures) (c .quotient2-of .ensures)
 
 pub curve2-at-spec : {M : Type 1} → statement M
 curve2-at-spec =
@@ -58,7 +63,8 @@ curve2-at-spec =
     point-at-requires
     add-scale-at
     scale-at-requires
-    two-sums-requires
     row-sums-requires
+    row-sums-requires-2
+    row-sums-requires-3
     quotient2-of-requires
     returns)
