@@ -6,7 +6,6 @@ ghost use Prim.Native.Nat.{_+_, _-_, _*_, _<_, _≤_};
 ghost use lib.ListN.{length};
 ghost use lib.IntN.{pos};
 ghost use lib.Ieee.{binary64, ofInt};
-ghost use Rattle.doubles.specs.Run.{at};
 ghost use Rattle.basis.specs.Basis.{cell, leftOf, rightOf};
 ghost use Rattle.basis.specs.Ders.{inReach, basisTable, FunctionDers, RawDers, Scaled, DersDone};
 use crate::row::row;

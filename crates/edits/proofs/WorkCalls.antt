@@ -8,7 +8,6 @@ use mathlib.Core.List.{List}
 use native.Mathlib.Omega.{arith}
 use lib.ListN.{length, take}
 use lib.Ieee.{Float}
-use Rattle.doubles.specs.Run.{at}
 use Rattle.knots.specs.Refusal.{refuse, accepted, length-bad}
 use Rattle.knots.specs.Clear.{zeros}
 use Rattle.knots.specs.Curve.{countOf, formedRefusal}

@@ -1,5 +1,5 @@
 -- The operations of the crate as functions of the values: what each contract says is the result (document 01, module 1, and the divide of module 6).
-use Prim.Native.Nat.{zero, _+_, _-_}
+use Prim.Native.Nat.{zero, _+_}
 use mathlib.Core.Bool.{Bool, true, false, _||_, _&&_, cond}
 use lib.Ieee.{Float, inf, binary64, neg, lt, le, eq, isNan, add, sub, mul, div}
 use Rattle.doubles.specs.Neighbour.{nextUp, nextDown, fmin, fmax, fabs, least4, greatest4}

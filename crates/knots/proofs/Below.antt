@@ -68,3 +68,20 @@ module _ (f : ℕ → Bool) where
   -- a loop that stopped at place i
   pub all-stops : (n i : ℕ) → i < n → f i ≡ false → false ≡ allBelow f n
   all-stops n i l h = sym (all-fails n i l h)
+
+-- ---- two tests, each over every place
+pub both-below : (f h : ℕ → Bool) (n : ℕ) → (allBelow f n && allBelow h n) ≡ allBelow (λ k. f k && h k) n
+unfolding allBelow
+both-below f h zero = refl
+both-below f h (suc n) = four (allBelow f n) (f n) (allBelow h n) (h n) ∙ ap (λ (b : Bool). b && (f n && h n)) (both-below f h n)
+  where
+    four : (a b c d : Bool) → ((a && b) && (c && d)) ≡ ((a && c) && (b && d))
+    four true true c d = refl
+    four true false true d = refl
+    four true false false d = refl
+    four false b c d = refl
+
+pub true-below : (n : ℕ) → allBelow (λ k. true) n ≡ true
+unfolding allBelow
+true-below zero = refl
+true-below (suc n) = ap (λ (b : Bool). b && true) (true-below n)

@@ -6,7 +6,6 @@ use mathlib.Core.Path.{_≡_}
 use mathlib.Core.List.{List, _++_}
 use lib.ListN.{drop}
 use lib.Ieee.{Float, binary64, mul, div}
-use Rattle.doubles.specs.Run.{at}
 use Rattle.doubles.specs.Value.{one+}
 use Rattle.knots.specs.Below.{allBelow}
 use Rattle.knots.specs.Curve.{isWeight}

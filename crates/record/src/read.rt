@@ -9,7 +9,6 @@ use knots::refusal::refuse;
 ghost use mathlib.Core.Path.{_≡_};
 ghost use mathlib.Core.Option.{none};
 ghost use Prim.Native.Nat.{_+_, _*_, _<_};
-ghost use lib.ListN.{length};
 ghost use Rattle.record.specs.Reading.{endOf, layoutOf, rational, roomFor, ReadsLayout, ReadsNumbers};
 
 // How many numbers each run of a record has. The knots start at byte 8, the points 3 bytes after the knots, the weights 3 bytes after the points.

@@ -15,8 +15,6 @@ use Rattle.edits.proofs.IntoRun.{slice-is, points-stored, weights-store
 use borrow.Author.Needs.{needs}
 use Rattle.edits.proofs.lay.store_curve.Statement.{statement}
 use Rattle.edits.proofs.lay.store_curve.Tie as tie
-use Rattle.edits.proofs.lay.store_curve.Reads as reads
-use Rattle.edits.proofs.lay.store_curve.Lts as lts
 
 add-from : tie.Need-add-from
 add-from c = search needs

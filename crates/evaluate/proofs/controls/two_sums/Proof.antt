@@ -14,8 +14,6 @@ use Rattle.evaluate.proofs.Summed.{sums-none, sums-more, term-is}
 use borrow.Author.Needs.{needs}
 use Rattle.evaluate.proofs.controls.two_sums.Statement.{statement}
 use Rattle.evaluate.proofs.controls.two_sums.Tie as tie
-use Rattle.evaluate.proofs.controls.two_sums.Reads as reads
-use Rattle.evaluate.proofs.controls.two_sums.Lts as lts
 
 abbrev Inv-loop : tie.InvT-loop
 Inv-loop p first scale points rational weights ders o value₀ slope₀ j₀ value slope j = (j ≤ p + 1) ×

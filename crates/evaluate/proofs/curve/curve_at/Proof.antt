@@ -8,8 +8,6 @@ use Rattle.evaluate.proofs.Curves.{curve-is}
 use borrow.Author.Needs.{needs}
 use Rattle.evaluate.proofs.curve.curve_at.Statement.{statement}
 use Rattle.evaluate.proofs.curve.curve_at.Tie as tie
-use Rattle.evaluate.proofs.curve.curve_at.Reads as reads
-use Rattle.evaluate.proofs.curve.curve_at.Lts as lts
 
 slice-aggregate-basis-derivatives : tie.Need-slice-aggregate-basis-derivatives
 slice-aggregate-basis-derivatives c = search needs

@@ -15,8 +15,6 @@ use Rattle.insertion.proofs.LowerLoop.{InLower, lower-start, lower-stop
 use borrow.Author.Needs.{needs}
 use Rattle.insertion.proofs.lower.lower_rows.Statement.{statement}
 use Rattle.insertion.proofs.lower.lower_rows.Tie as tie
-use Rattle.insertion.proofs.lower.lower_rows.Reads as reads
-use Rattle.insertion.proofs.lower.lower_rows.Lts as lts
 
 abbrev Inv-loop : tie.InvT-loop
 Inv-loop spot n a o rational rows₀ fine₀ before₀ i₀ rows fine before i = InLower o rational
