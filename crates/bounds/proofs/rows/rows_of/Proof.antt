@@ -90,9 +90,7 @@ returns : tie.Need-returns Inv-loop μ-loop Inv-loop2 μ-loop2
 returns c =
     let a = c .before .before .before .before .before .before .before .before .before .before .before .args in
     let e = sym (c .before .before .before .row-of .ensures) ∙ c .before .n .given .1 in
-    fill-refused (λ (i : ℕ). rowOf (now (a .points))
-    (now (a .weights))
-    (a .rational)
+    fill-refused (λ (i : ℕ). rowOf (now (a .points)) (now (a .weights)) (a .rational)
     ((a .row + i) * a .nv + a .col) (a .o) (a .scale) (now (a .vk)) (a .v .degree) (a .v .span) (a .v .t)) (a .u .degree) (now (a .uk)) (a .u .span) (a .u .t)
     (c .before .before .before .before .before .loop .net) (c .before .before .before .before .before .loop .m) (c .before .before .before .before .before .loop .inv)
     (c .before .before .before .before .loop-test .taken) _ e (row-not-0 _ _ _ _ _ _ _ _ _ _ _ e)
@@ -118,9 +116,7 @@ loop-less c =
 loop-again : tie.Need-loop-again Inv-loop μ-loop Inv-loop2 μ-loop2
 loop-again c =
     let a = c .before .before .before .before .before .before .before .before .before .before .before .args in
-    fill-step (λ (i : ℕ). rowOf (now (a .points))
-    (now (a .weights))
-    (a .rational)
+    fill-step (λ (i : ℕ). rowOf (now (a .points)) (now (a .weights)) (a .rational)
     ((a .row + i) * a .nv + a .col) (a .o) (a .scale) (now (a .vk)) (a .v .degree) (a .v .span) (a .v .t)) (a .u .degree) (c .before .before .before .before .before .loop .net)
     (c .before .before .before .before .before .loop .m) (c .before .before .before .before .before .loop .inv) (c .before .before .before .before .loop-test .taken)
     (c .before .before .before .before .before .before .before .before .before .before .before .pre .0) _ (sym (c .before .before .before .row-of .ensures) ∙ c .before .c .given .1)
@@ -202,17 +198,11 @@ returns-2 c =
     let a = c .before .before .before .before .before .before .before .before .before .before .before .before .before .before .before .before .args in
     let b = c .before .before .before .before .before .before .before .before .before .before .loop in
     let d = c .before .before .before .before .before .before .before .before .loop2 in
-    steps-refused (now (a .uk))
-    (a .u .degree)
-    (a .u .span)
-    (a .u .t)
-    (held (b .net)) (d .net)
-    (d .at .level) (d .at .j)
+    steps-refused (now (a .uk)) (a .u .degree) (a .u .span) (a .u .t)
+    (held (b .net)) (d .net) (d .at .level) (d .at .j)
     (d .inv) (c .before .before .before .before .before .before .if1 .taken) _ _ _
     (sym (c .before .before .before .step-at .ensures) ∙ c .before .n2 .given .1) ∙ held-filled
-    (λ (i : ℕ). rowOf (now (a .points))
-    (now (a .weights))
-    (a .rational)
+    (λ (i : ℕ). rowOf (now (a .points)) (now (a .weights)) (a .rational)
     ((a .row + i) * a .nv + a .col) (a .o) (a .scale) (now (a .vk)) (a .v .degree) (a .v .span) (a .v .t)) (now (a .uk)) (a .u .degree) (a .u .span) (a .u .t) (b .net) (b .m) (b .inv)
     (c .before .before .before .before .before .before .before .before .before .loop-test .left)
 
@@ -248,17 +238,11 @@ returns-3 : tie.Need-returns-3 Inv-loop μ-loop Inv-loop2 μ-loop2
 returns-3 c =
     let a = c .before .before .before .before .before .before .before .before .before .before .before .args in
     let b = c .before .before .before .loop2 in
-    steps-end (now (a .uk))
-    (a .u .degree)
-    (a .u .span)
-    (a .u .t) (held (c .before .before .before .before .before .loop .net))
-    (b .net) (b .at .level) (b .at .j) (b .inv)
-    (c .before .if1 .left) zeroControl _ (getD-any (b .net)
-    (a .u .degree) _ zeroControl
+    steps-end (now (a .uk)) (a .u .degree) (a .u .span)
+    (a .u .t) (held (c .before .before .before .before .before .loop .net)) (b .net) (b .at .level) (b .at .j) (b .inv)
+    (c .before .if1 .left) zeroControl _ (getD-any (b .net) (a .u .degree) _ zeroControl
     (omega (arith, b .inv .long, c .before .before .before .before .before .before .before .before .before .before .before .pre .0))) ∙ held-filled
-    (λ (i : ℕ). rowOf (now (a .points))
-    (now (a .weights))
-    (a .rational)
+    (λ (i : ℕ). rowOf (now (a .points)) (now (a .weights)) (a .rational)
     ((a .row + i) * a .nv + a .col) (a .o) (a .scale) (now (a .vk)) (a .v .degree) (a .v .span) (a .v .t)) (now (a .uk)) (a .u .degree) (a .u .span) (a .u .t)
     (c .before .before .before .before .before .loop .net) (c .before .before .before .before .before .loop .m) (c .before .before .before .before .before .loop .inv)
     (c .before .before .before .before .loop-test .left)
