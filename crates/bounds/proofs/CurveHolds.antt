@@ -51,7 +51,8 @@ use Rattle.bounds.proofs.WeightIn.{Cut, Cuts, Largest, Least, largest, 
 use Rattle.jets.proofs.CartesianIn.{FinitePoint, Boxes, over, cartesian-in, boxes-eq, three-eq}
 use Rattle.ranges.proofs.SpanIn.{span-valid, in-parts, t-above, t-below, heavy-pos}
 use Rattle.bounds.specs.Answer.{boundedOf}
-use Rattle.bounds.specs.Holds.{weight, Holding, HoldsOn, Holds}
+use Rattle.bounds.specs.Holds.{Holding, HoldsOn, Holds}
+use Rattle.runs.specs.Fraction.{weightValue}
 use Rattle.bounds.specs.declared.answer.NurbsBounds.{NurbsBounds}
 use Rattle.bounds.specs.declared.answer.Bounded.{Bounded}
 use Rattle.bounds.specs.declared.answer.Bounded.the-variants as C
@@ -116,10 +117,10 @@ module _ (p s : ℕ) (ks ps ws : List Float) (r : Bool) (lo hi : Float) (A : Act
   a-pos : q0 <q a
   a-pos = least-is .positive
 
-  lows : (m : ℕ) → m ≤ p → a ≤q weight r ws (s - p + m)
+  lows : (m : ℕ) → m ≤ p → a ≤q weightValue r ws (s - p + m)
   lows m l = least-is .all m (omega arith)
 
-  highs : (m : ℕ) → m ≤ p → weight r ws (s - p + m) ≤q σ
+  highs : (m : ℕ) → m ≤ p → weightValue r ws (s - p + m) ≤q σ
   highs m l = most-is .all m (omega arith)
 
   σ-pos : q0 <q σ
@@ -130,31 +131,32 @@ module _ (p s : ℕ) (ks ps ws : List Float) (r : Bool) (lo hi : Float) (A : Act
 
   -- the exact homogeneous net
   abbrev H : (ℕ → ℚ) → ℕ → ℚ
-  H P m = (P (s - p + m) -q P (s - p)) *q (weight r ws (s - p + m) /q σ)
+  H P m = (P (s - p + m) -q P (s - p)) *q (weightValue r ws (s - p + m) /q σ)
 
   abbrev HW : ℕ → ℚ
-  HW m = weight r ws (s - p + m) /q σ
+  HW m = weightValue r ws (s - p + m) /q σ
 
   abbrev wh : ℚ
   wh = work U t p s HW p p
 
   wh-low : a /q σ ≤q wh
-  wh-low = divisor-low knots p b n base fits room above below (weight r ws) a σ σ-pos lows
+  wh-low = divisor-low knots p b n base fits room above below (weightValue r ws) a σ σ-pos lows
 
   wh-high : wh ≤q q1
-  wh-high = divisor-le-1 knots p b n base fits room above below (weight r ws) σ σ-pos highs
+  wh-high = divisor-le-1 knots p b n base fits room above below (weightValue r ws) σ σ-pos highs
 
-  sum-ne : whole U t s p n (weight r ws) ≢ q0
-  sum-ne = pos-ne (weight-pos knots p b n base fits room above below (weight r ws) a a-pos lows)
+  sum-ne : whole U t s p n (weightValue r ws) ≢ q0
+  sum-ne = pos-ne (weight-pos knots p b n base fits room above below (weightValue r ws) a a-pos lows)
 
-  point-eq : (P : ℕ → ℚ) → work U t p s (H P) p p /q wh +q P b ≡ exact (valAt ks) t s p n (weight r ws) P
+  point-eq : (P : ℕ → ℚ) → work U t p s (H P) p p /q wh +q P b ≡ exact (valAt ks) t s p n (weightValue r ws) P
   point-eq P =
-      sym (exact-work knots p b n base fits room t (weight r ws) P (P b) σ (pos-ne σ-pos) sum-ne) ∙ exact-local near base base fits fits t (weight r ws) P (weight r ws) P (λ i m. refl)
+      sym (exact-work knots p b n base fits room t (weightValue r ws) P (P b) σ (pos-ne σ-pos) sum-ne) ∙ exact-local near base base fits fits t (weightValue r ws) P (weightValue r ws) P (λ i m. refl)
       (λ i m. refl)
 
-  deriv-eq : (P : ℕ → ℚ) → quotient (work U t p s (H P) p p) (dwork U t p s (H P) (λ m. q0) p p) wh (dwork U t p s HW (λ m. q0) p p) ≡ dexact (valAt ks) t s p n (weight r ws) P
+  deriv-eq : (P : ℕ → ℚ) → quotient (work U t p s (H P) p p) (dwork U t p s (H P) (λ m. q0) p p) wh (dwork U t p s HW (λ m. q0) p p) ≡ dexact (valAt ks) t s p n (weightValue r ws) P
   deriv-eq P =
-      sym (dexact-work knots p b n base fits room t (weight r ws) P (P b) σ (pos-ne σ-pos) sum-ne) ∙ dexact-local near base base fits fits t (weight r ws) P (weight r ws) P (λ i m. refl)
+      sym (dexact-work knots p b n base fits room t (weightValue r ws) P (P b) σ (pos-ne σ-pos) sum-ne) ∙ dexact-local near base base fits fits t (weightValue r ws) P
+      (weightValue r ws) P (λ i m. refl)
       (λ i m. refl)
 
   no-dv : (A B : ℚ) → quotient A q0 B q0 ≡ q0

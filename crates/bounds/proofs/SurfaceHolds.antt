@@ -49,7 +49,7 @@ use Rattle.bounds.proofs.Boxes.{boxed, unless-in}
 use Rattle.bounds.proofs.NetWeight.{Largest₂, Least₂, largest₂, least₂}
 use Rattle.bounds.proofs.SpansIn.{below-product, ranges-valid}
 use Rattle.ranges.proofs.SpanIn.{SpanValid, InSpan, in-span, heavy-valid, heavy-pos}
-use Rattle.bounds.specs.Holds.{weight}
+use Rattle.runs.specs.Fraction.{weightValue}
 use Rattle.bounds.specs.Answer.{boundedOf}
 use Rattle.knots.specs.Surface.{surfaceRefusal, ValidSurface}
 use Rattle.knots.proofs.Surfaces.{valid-surface}
@@ -91,7 +91,7 @@ module _ (p q us vs : ℕ) (uk vk : List Float) (nu nv : ℕ) (ps ws : List Floa
   here′ m k h l = subst (λ (i : ℕ). i < nu * nv) (sym (same-place m k)) (here m k h l)
 
   abbrev w₂ : ℕ → ℕ → ℚ
-  w₂ = grid (weight r ws) nv
+  w₂ = grid (weightValue r ws) nv
 
   least-is : Least₂ w (suc q) (suc p) (minRows w (suc q) (suc p))
   least-is = least₂ w q p (λ i j l h. heavy _ (here′ i j (omega arith) (omega arith))) (λ i j l h. positive _ (here′ i j (omega arith) (omega arith)))
@@ -106,10 +106,10 @@ module _ (p q us vs : ℕ) (uk vk : List Float) (nu nv : ℕ) (ps ws : List Floa
   σ = val (maxRows w (suc q) (suc p))
 
   lows : (m k : ℕ) → m ≤ p → k ≤ q → a ≤q w₂ (us - p + m) (vs - q + k)
-  lows m k h l = subst (λ (i : ℕ). a ≤q weight r ws i) (same-place m k) (least-is .all m k (omega arith) (omega arith))
+  lows m k h l = subst (λ (i : ℕ). a ≤q weightValue r ws i) (same-place m k) (least-is .all m k (omega arith) (omega arith))
 
   highs : (m k : ℕ) → m ≤ p → k ≤ q → w₂ (us - p + m) (vs - q + k) ≤q σ
-  highs m k h l = subst (λ (i : ℕ). weight r ws i ≤q σ) (same-place m k) (most-is .all m k (omega arith) (omega arith))
+  highs m k h l = subst (λ (i : ℕ). weightValue r ws i ≤q σ) (same-place m k) (most-is .all m k (omega arith) (omega arith))
 
   σ-pos : q0 <q σ
   σ-pos = <-≤-trans (least-is .positive) (≤-trans (lows 0 0 (omega arith) (omega arith)) (highs 0 0 (omega arith) (omega arith)))
@@ -181,8 +181,8 @@ module _ (p q us vs : ℕ) (uk vk : List Float) (nu nv : ℕ) (ps ws : List Floa
         → ControlIn (start c m k) (H (X ps) (us - p + m) (vs - q + k)) (H (Y ps) (us - p + m) (vs - q + k)) (H (Z ps) (us - p + m) (vs - q + k)) (HW (us - p + m) (vs - q + k))
     unfolding startAt
     start-in c d m l k h =
-        subst (λ (i : ℕ). ControlIn (start c m k) ((X ps i -q X ps ((us - p) * nv + (vs - q))) *q (weight r ws i /q σ)) ((Y ps i -q Y ps ((us - p) * nv + (vs - q))) *q (weight r ws i /q σ))
-        ((Z ps i -q Z ps ((us - p) * nv + (vs - q))) *q (weight r ws i /q σ)) (weight r ws i /q σ)) (same-place m k)
+        subst (λ (i : ℕ). ControlIn (start c m k) ((X ps i -q X ps ((us - p) * nv + (vs - q))) *q (weightValue r ws i /q σ)) ((Y ps i -q Y ps ((us - p) * nv + (vs - q))) *q (weightValue r ws i /q σ))
+        ((Z ps i -q Z ps ((us - p) * nv + (vs - q))) *q (weightValue r ws i /q σ)) (weightValue r ws i /q σ)) (same-place m k)
         (control-in (P.pointOf ps ((us - p + m) * nv + (vs - q) + k)) (P.pointOf ps ((us - p) * nv + (vs - q))) (weightAt r ws ((us - p + m) * nv + (vs - q) + k)) c σ
         (finite-at ((us - p + m) * nv + (vs - q) + k) (here′ m k l h)) (finite-at ((us - p) * nv + (vs - q)) first-here) (heavy ((us - p + m) * nv + (vs - q) + k) (here′ m k l h)) d)
 

@@ -8,26 +8,18 @@ use Rattle.exact.specs.Rational.{ℚ, _≤q_}
 use Rattle.exact.specs.Spline.{exact}
 use Rattle.doubles.specs.Value.{val}
 use Rattle.doubles.specs.Run.{valAt}
-use Rattle.runs.specs.Coordinate as P
 use Rattle.interval.specs.Inside.{Inside}
 use Rattle.knots.specs.Curve.{countOf}
 use Rattle.ranges.specs.Range.{spanOver}
-use Rattle.runs.specs.Weight.{weightAt}
+use Rattle.runs.specs.Fraction.{weightValue, coordinateValue}
 use Rattle.bounds.specs.declared.answer.Triple.{Triple}
 use Rattle.bounds.specs.declared.answer.NurbsBounds.{NurbsBounds}
 use Rattle.bounds.specs.declared.answer.Bounded.{Bounded}
 use Rattle.bounds.specs.declared.answer.Bounded.the-variants.{Are}
 
--- coordinate k of point i, and its weight
-abbrev pub coordinate : List Float → ℕ → ℕ → ℚ
-coordinate ps k i = val (P.coordinate ps i k)
-
-abbrev pub weight : Bool → List Float → ℕ → ℚ
-weight r ws i = val (weightAt r ws i)
-
 -- the exact coordinate k at t on span s
 abbrev pub pointAt : ℕ → List Float → List Float → Bool → List Float → ℕ → ℚ → ℕ → ℚ
-pointAt p ks ps r ws s t k = exact (valAt ks) t s p (countOf ps) (weight r ws) (coordinate ps k)
+pointAt p ks ps r ws s t k = exact (valAt ks) t s p (countOf ps) (weightValue r ws) (coordinateValue ps k)
 
 pub record Holding (b : Triple) (e f g : ℚ) : Type 0 where
   pub x : Inside (b .x) e

@@ -11,7 +11,7 @@ use mathlib.Core.Bool.{Bool, true, false, not, cond}
 use lib.Dec.{T, leb, eqb, not-T, eqb→eq, le→leb}
 use lib.Arith.{digits-lt, digits-div, digits-mod, lt→nleb}
 use lib.Pow.{pow-pos}
-use lib.Ieee.{Float, nan, inf, fin, Format, prec, emax, low, odd, hid, ones, top, ofFields, ofBits}
+use lib.Ieee.{Float, nan, inf, Format, prec, emax, low, odd, hid, ones, top, ofFields, ofBits}
 use lib.Ieee.Fits.{eq→eqb}
 use lib.Ieee.Bits.{is-true, is-false, cond-no}
 use lib.Ieee.Exact.{HasValue, odd-sign}

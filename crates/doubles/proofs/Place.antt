@@ -10,7 +10,7 @@ use mathlib.Core.Bool.{Bool, true, false, not, cond, true≢false}
 use lib.IntN.{ℤ, pos, negsuc, negℤ, sucℤ}
 use lib.Dec.{T, leb, ltb, eqb, leb→le, ltb→lt, nltb→le, nleb→lt}
 use lib.Pow.{pow-pos}
-use lib.Ieee.{Float, nan, inf, fin, Format, prec, emax, low, up, down, size, fits, isNan, hid, ones, top, ofBits, toBits, lt, below}
+use lib.Ieee.{Float, nan, inf, fin, Format, prec, emax, low, up, down, size, fits, isNan, hid, ones, top, ofBits, toBits, lt}
 use lib.Ieee.Fits.{up-pos}
 use lib.Ieee.Bits.{ofBits-toBits, toBits-lt, toBits-ofBits}
 use lib.Ieee.Exact.{HasValue}

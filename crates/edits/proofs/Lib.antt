@@ -1,5 +1,5 @@
 pub mod CountLoop
-pub mod Tested
+pub mod LastTest
 pub mod RowReads
 pub mod RowStores
 pub mod LayLoop

@@ -141,6 +141,7 @@ module _ (a k : ℕ) (xs ys : List Float) (L : length ys ≡ k) (b : a + k ≤ l
       ∙ (getD-append-add ys (drop k (drop a xs)) m nan ∙ (getD-drop k (drop a xs) m nan ∙ getD-drop a xs (k + m) nan)))
 
 module _ (i : ℕ) (q : Control) (xs : List Float) (l : i * 4 + 3 < length xs) (g : Bool) where
+  -- how long the part from i * 4 to i * 4 + 4 is, in the words of the logic
   abbrev k : ℕ
   k = i * 4 + 4 - i * 4
 

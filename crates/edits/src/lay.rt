@@ -1,9 +1,9 @@
 // A curve goes into a lent run, and out of it.
 use crate::counts::given_count;
+use crate::inside::put_whole;
+use crate::inside::whole_row;
 use crate::rows::kept_row;
 use crate::rows::vector_of;
-use crate::whole::put_whole;
-use crate::whole::whole_row;
 use runs::copy::clear_from;
 use runs::copy::copy_run;
 use runs::points::point_at;
@@ -64,7 +64,7 @@ pub fn lay_into(
     lay_knots(knots, a, work);
 }
 
-// The points and weights of n rows go to n points, and to the front of the weights.
+// The points and weights of n rows go to n points, and to the front of the weights. The test of the loop is the store's own.
 pub fn take_rows(n: usize, rational: bool, rows: &[f64], points: &mut [f64], weights: &mut [f64])
     requires { ⌜ n * 4 ≤ length (now rows) ⌝ }
     requires { ⌜ length (now points) ≡ n * 3 ⌝ }
@@ -105,8 +105,8 @@ pub fn store_curve(
     let end = from + (m + p + 1);
     copy_run(&work[from..end], knots);
     let first = f * 4;
-    let last = m * 3;
-    take_rows(m, rational, &work[first..], &mut points[..last], weights);
-    clear_from(points, last);
+    let past = m * 3;
+    take_rows(m, rational, &work[first..], &mut points[..past], weights);
+    clear_from(points, past);
     clear_from(weights, given_count(rational, m));
 }

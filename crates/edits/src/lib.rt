@@ -2,8 +2,8 @@
 pub mod answer;
 pub mod control;
 pub mod counts;
+mod inside;
 mod lay;
 pub mod rows;
 pub mod start;
-mod whole;
 pub mod work;

@@ -2,9 +2,9 @@
 use crate::control::Control;
 use crate::control::is_lifted;
 use crate::control::lift_of;
-use crate::whole::put_whole;
-use crate::whole::row_of;
-use crate::whole::whole_row;
+use crate::inside::put_whole;
+use crate::inside::row_of;
+use crate::inside::whole_row;
 use knots::clear::clear;
 use knots::refusal::Refusal;
 use knots::refusal::refuse;

@@ -19,7 +19,7 @@ use Rattle.elevation.specs.Elevate.{raisedCount, raisedKnots, keptAll, p
 use Rattle.elevation.specs.Passes.{over, Put, joinRefusal, Joined}
 use Rattle.elevation.proofs.KnotWalks.{raised-long}
 use Rattle.elevation.proofs.Putting.{points-long, given-long}
-use Rattle.elevation.proofs.Joining.{kept-count}
+use Rattle.elevation.proofs.SegmentWalk.{kept-count}
 
 -- the front of a run that was written
 front-over : (l d xs : List Float) (m : ℕ) → length l ≡ m → xs ≡ over 0 l d → take m xs ≡ l

@@ -1,11 +1,11 @@
 pub mod Breaks
 pub mod Missing
-pub mod Raising
+pub mod RaiseLoop
 pub mod Overlaid
 pub mod BreakWalks
 pub mod KnotWalks
 pub mod Putting
-pub mod Joining
+pub mod SegmentWalk
 pub mod JoinedCurve
 pub mod Limits
 pub mod Opened

@@ -16,7 +16,7 @@ use Rattle.runs.proofs.Overlays.{drop-zeros}
 use Rattle.runs.proofs.Cleared.{copied-whole}
 use Rattle.edits.specs.Rows.{given}
 use Rattle.edits.specs.Whole.{givenOf}
-use Rattle.elevation.specs.Elevate.{three}
+use Rattle.runs.specs.Point.{threeOf}
 use Rattle.elevation.specs.Passes.{over}
 
 pub over-none : (a : ℕ) (d : List Float) → over a [] d ≡ d
@@ -61,7 +61,7 @@ pub over-one : (a : ℕ) (x : Float) (d : List Float) → a < length d → set d
 unfolding over
 over-one a x d l = set-split d a x l ∙ ap (λ (i : ℕ). take a d ++ (x ∷ drop i d)) (sym (add-one a))
 
-pub over-three : (a : ℕ) (v : Vector) (d : List Float) → a + 2 < length d → set (set (set d a (v .x)) (a + 1) (v .y)) (a + 2) (v .z) ≡ over a (three v) d
+pub over-three : (a : ℕ) (v : Vector) (d : List Float) → a + 2 < length d → set (set (set d a (v .x)) (a + 1) (v .y)) (a + 2) (v .z) ≡ over a (threeOf v) d
 over-three a v d l =
     over-one (a + 2) (v .z) (set (set d a (v .x)) (a + 1) (v .y)) (simp length-set (omega arith))
     ∙ (ap (over (a + 2) (v .z ∷ []))

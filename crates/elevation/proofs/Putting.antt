@@ -12,7 +12,8 @@ use Rattle.edits.specs.Control.{isBlended, lowerOf}
 use Rattle.edits.specs.Rows.{given}
 use Rattle.edits.specs.Whole.{givenOf}
 use Rattle.edits.specs.declared.control.Control.{Control}
-use Rattle.elevation.specs.Elevate.{controlsOf, allBlended, three, pointsOf, weightsOf}
+use Rattle.elevation.specs.Elevate.{controlsOf, allBlended, pointsOf, weightsOf}
+use Rattle.runs.specs.Point.{threeOf}
 use Rattle.elevation.specs.Passes.{over, Put}
 use Rattle.elevation.proofs.Overlaid.{over-none, over-long, over-over}
 
@@ -20,7 +21,7 @@ use Rattle.elevation.proofs.Overlaid.{over-none, over-long, over-over}
 pub points-append : (o : Vector) (a b : List Control) → pointsOf o (a ++ b) ≡ pointsOf o a ++ pointsOf o b
 unfolding pointsOf
 points-append o [] b = refl
-points-append o (q ∷ a) b = ap (λ (x : List Float). three (lowerOf o q) ++ x) (points-append o a b)
+points-append o (q ∷ a) b = ap (λ (x : List Float). threeOf (lowerOf o q) ++ x) (points-append o a b)
 
 pub points-long : (o : Vector) (a : List Control) → length (pointsOf o a) ≡ length a * 3
 unfolding pointsOf
@@ -129,11 +130,11 @@ module _ (o : Vector) (g : Bool) (l : List Control) (j : ℕ) (p₀ w₀ : List 
 
 -- ---- one control
 pub put-one : (o : Vector) (g : Bool) (q : Control) (i : ℕ) (p₀ w₀ p₁ w₁ : List Float) (v : Vector) (r : Bool)
-    → r ≡ isBlended q → v ≡ lowerOf o q → p₁ ≡ over (i * 3) (three v) p₀ → w₁ ≡ over (given g i) (givenOf g (q .w ∷ [])) w₀ → Put o g (q ∷ []) i p₀ w₀ p₁ w₁ r
+    → r ≡ isBlended q → v ≡ lowerOf o q → p₁ ≡ over (i * 3) (threeOf v) p₀ → w₁ ≡ over (given g i) (givenOf g (q .w ∷ [])) w₀ → Put o g (q ∷ []) i p₀ w₀ p₁ w₁ r
 unfolding allBlended pointsOf weightsOf
 put-one o g q i p₀ w₀ p₁ w₁ v r R Q P W = record {
   answer = R ∙ and-one (isBlended q);
-  points = λ z. P ∙ ap (λ (x : Vector). over (i * 3) (three x) p₀) Q;
+  points = λ z. P ∙ ap (λ (x : Vector). over (i * 3) (threeOf x) p₀) Q;
   weights = λ z. W;
 }
   where
@@ -198,7 +199,7 @@ module _ (o : Vector) (g : Bool) (h : ℕ → Control) (f m j : ℕ) (p₀ w₀ 
           no z = let y : _≡_ {A = ℕ} 0 1 = cc in omega arith
 
       pub put-more : (j + m) * 3 ≤ length p₀ → given g (j + m) ≤ length w₀ → isBlended q ≡ true → (v : Vector) → v ≡ lowerOf o q
-          → p₂ ≡ over ((j + i) * 3) (three v) p₁ → w₂ ≡ over (given g (j + i)) (givenOf g (q .w ∷ [])) w₁ → InPut p₂ w₂ (i + 1)
+          → p₂ ≡ over ((j + i) * 3) (threeOf v) p₁ → w₂ ≡ over (given g (j + i)) (givenOf g (q .w ∷ [])) w₁ → InPut p₂ w₂ (i + 1)
       put-more P W e v Y E F =
           let s : m ≡ length (controlsOf h f m) = sym (controls-long h f m) in
           let d : j + i + 1 ≡ j + (i + 1) = omega arith in

@@ -33,10 +33,10 @@ use Rattle.elevation.specs.Elevate.{extractedCount, raisedCount, raisedK
 use Rattle.elevation.specs.Elevate.{raisedRefusal, raisedOutcome, afterExtraction, raiseAll}
 use Rattle.elevation.specs.Whole.{elevatedCount}
 use Rattle.elevation.specs.Passes.{joinRefusal, Joined, Raised}
-use Rattle.elevation.proofs.Raising.{times-cong}
+use Rattle.elevation.proofs.RaiseLoop.{times-cong}
 use Rattle.elevation.proofs.Overlaid.{over-zeros}
 use Rattle.elevation.proofs.Putting.{controls-cong}
-use Rattle.elevation.proofs.Joining.{skip-sum}
+use Rattle.elevation.proofs.SegmentWalk.{skip-sum}
 
 -- ---- equal controls are joined to equal ones
 module _ (p e : ℕ) (l : p ≤ e) (ks : List Float) (f h : ℕ → Control) (b : ℕ) (E : (i : ℕ) → i < (p + 1) * (b + 1) → f i ≡ h i) where

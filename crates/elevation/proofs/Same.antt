@@ -33,7 +33,8 @@ use Rattle.insertion.specs.Fold.{insertAll}
 use Rattle.edits.specs.Outcome.{Outcome, gives, refuses}
 use Rattle.edits.specs.Whole.{givenOf}
 use Rattle.edits.specs.Start.{clampedEnds, editStart}
-use Rattle.insertion.specs.Placed.{placed, weightValue, coordinateValue, Each}
+use Rattle.insertion.specs.Placed.{placed, Each}
+use Rattle.runs.specs.Fraction.{weightValue, coordinateValue}
 use Rattle.insertion.proofs.KnotCounts.{multiplicity-low, multiplicity-high, below-room}
 use Rattle.insertion.proofs.ListResult.{each-map, by-number, Made, made, made-low, made-high, made-clamped}
 use Rattle.edits.proofs.Starting.{edit-open}

@@ -12,7 +12,7 @@ use Rattle.knots.specs.Below.{allBelow}
 use Rattle.knots.specs.Refusal.{refuse, control-bad, edit-bad}
 use Rattle.knots.specs.Curve.{formedRefusal}
 use Rattle.knots.specs.declared.refusal.Refusal.{Refusal}
-use Rattle.runs.specs.Point.{pointOf}
+use Rattle.runs.specs.Point.{pointOf, threeOf}
 use Rattle.runs.specs.declared.vector.Vector.{Vector}
 use Rattle.edits.specs.Control.{isLifted, isBlended, lowerOf}
 use Rattle.edits.specs.Counts.{bit}
@@ -65,12 +65,9 @@ allBlended [] = true
 allBlended (q ∷ qs) = isBlended q && allBlended qs
 
 -- the points of controls that are relative to o, and their weights
-abbrev pub three : Vector → List Float
-three v = v .x ∷ v .y ∷ v .z ∷ []
-
 unfoldable pub pointsOf : Vector → List Control → List Float
 pointsOf o [] = []
-pointsOf o (q ∷ qs) = three (lowerOf o q) ++ pointsOf o qs
+pointsOf o (q ∷ qs) = threeOf (lowerOf o q) ++ pointsOf o qs
 
 unfoldable pub weightsOf : List Control → List Float
 weightsOf [] = []

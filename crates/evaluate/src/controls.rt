@@ -75,13 +75,13 @@ pub fn scale_at(rational: bool, weights: &[f64], first: usize, n: usize) -> f64
 }
 
 // What the basis functions and their first derivatives give.
-pub struct TwoSums {
+pub struct ValueSlope {
     pub value: Sums,
     pub slope: Sums,
 }
 
-// Rows 0 and 1 of a table of derivatives against the p + 1 active points from the first on, each of which is read once. The order of operations is that of one derivative.
-pub fn two_sums(
+// Rows 0 and 1 of a table of derivatives against the p + 1 active points from the first on: a point and its weight are read once for both. The order of operations is that of one derivative.
+pub fn value_and_slope(
     p: usize,
     first: usize,
     scale: f64,
@@ -89,7 +89,7 @@ pub fn two_sums(
     rational: bool,
     weights: &[f64],
     ders: &[f64; 195],
-) -> TwoSums
+) -> ValueSlope
     requires { ⌜ p ≤ 64 ⌝ }
     requires { ⌜ (first + p) * 3 + 2 < length (now points) ⌝ }
     requires { ⌜ (rational ≡ true → first + p < length (now weights)) ⌝ }
@@ -109,19 +109,18 @@ pub fn two_sums(
         let i = first + j;
         let at = 65 + j;
         let n = ders[j];
-        let m = ders[at];
+        let dn = ders[at];
         let w = weight_at(rational, weights, scale, i);
         let q = point_at(points, i);
         value = plus_of(value, term_of(false, o, q, w, n));
-        slope = plus_of(slope, term_of(false, o, q, w, m));
+        slope = plus_of(slope, term_of(false, o, q, w, dn));
         j += 1;
     }
-    TwoSums { value, slope }
+    ValueSlope { value, slope }
 }
 
-// Row k of a table of derivatives against the p + 1 active points from the first on.
+// Row k of a table of derivatives against the p + 1 active points from the first on, in the order of operations of two derivatives.
 pub fn row_sums(
-    two: bool,
     k: usize,
     p: usize,
     first: usize,
@@ -135,7 +134,7 @@ pub fn row_sums(
     requires { ⌜ p ≤ 64 ⌝ }
     requires { ⌜ (first + p) * 3 + 2 < length (now points) ⌝ }
     requires { ⌜ (rational ≡ true → first + p < length (now weights)) ⌝ }
-    ensures { λ r. ⌜ r ≡ rowSums two (now (points .entry)) rational (now (weights .entry)) scale first (cell (now (ders .entry)) k) (p + 1) ⌝ }
+    ensures { λ r. ⌜ r ≡ rowSums true (now (points .entry)) rational (now (weights .entry)) scale first (cell (now (ders .entry)) k) (p + 1) ⌝ }
 {
     let o = point_at(points, first);
     let mut s = Sums {
@@ -151,7 +150,7 @@ pub fn row_sums(
         let n = ders[at];
         let w = weight_at(rational, weights, scale, i);
         let q = point_at(points, i);
-        s = plus_of(s, term_of(two, o, q, w, n));
+        s = plus_of(s, term_of(true, o, q, w, n));
         j += 1;
     }
     s

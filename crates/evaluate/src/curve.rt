@@ -1,6 +1,6 @@
 // Point and derivative of a curve: eval, and the step that it takes after validation.
 use crate::controls::scale_at;
-use crate::controls::two_sums;
+use crate::controls::value_and_slope;
 use crate::refusals::eval_refusal;
 use crate::refusals::step_refusal;
 use crate::sums::Sums;
@@ -69,7 +69,7 @@ fn curve_at(
     let first = span - p;
     let scale = scale_at(rational, weights, first, p + 1);
     let o = point_at(points, first);
-    let s = two_sums(p, first, scale, points, rational, weights, &ders);
+    let s = value_and_slope(p, first, scale, points, rational, weights, &ders);
     quotient_of(o, s.value, s.slope)
 }
 

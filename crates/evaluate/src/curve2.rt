@@ -81,9 +81,9 @@ fn curve2_at(
     let first = span - p;
     let o = point_at(points, first);
     let scale = scale_at(rational, weights, first, p + 1);
-    let a = row_sums(true, 0, p, first, scale, points, rational, weights, &ders);
-    let d = row_sums(true, 1, p, first, scale, points, rational, weights, &ders);
-    let e = row_sums(true, 2, p, first, scale, points, rational, weights, &ders);
+    let a = row_sums(0, p, first, scale, points, rational, weights, &ders);
+    let d = row_sums(1, p, first, scale, points, rational, weights, &ders);
+    let e = row_sums(2, p, first, scale, points, rational, weights, &ders);
     quotient2_of(o, a, d, e)
 }
 

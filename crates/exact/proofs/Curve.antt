@@ -6,7 +6,7 @@ use mathlib.Core.List.{[], _∷_}
 use Prim.Native.Nat.{ℕ, suc, _+_, _-_, _≤_, _<_}
 use native.Mathlib.Omega.{arith}
 use Rattle.exact.specs.Rational.{ℚ, _+q_, _-q_, _*q_, _/q_, q0, q1, _≤q_, _<q_}
-use Rattle.exact.specs.Spline.{Σq, basis, Knots, exact, quotient, whole}
+use Rattle.exact.specs.Spline.{Σq, basis, Knots, exact, whole}
 use Rattle.exact.proofs.Field.{qring, q-ring, q-combine₂, zero-mul, <-≤-trans, pos-ne, div-le-div, div-eq, one-mul}
 use Rattle.exact.proofs.Sum.{Σ-zero, Σ-split}
 use Rattle.exact.proofs.DeBoor.{basis-low, basis-high, curve, point, point-is, point-relative, deboor-is, deboor-low, deboor-high}

@@ -8,7 +8,7 @@ use native.Mathlib.Nat.{add-zero, zero-add}
 use native.Mathlib.Omega.{arith}
 use lib.Dec.{leb, leb→le, le→leb}
 use Rattle.exact.specs.Rational.{ℚ, _+q_, _-q_, _*q_, _/q_, negq, inv, q0, q1}
-use Rattle.exact.specs.Spline.{Σq, Knots, basis, whole, slope, dbasis, quotient, dexact, dwhole, exact}
+use Rattle.exact.specs.Spline.{Σq, Knots, basis, whole, slope, dbasis, quotient, dexact, dwhole}
 use Rattle.exact.proofs.Field.{qring, q-ring, q-combine, q-combine₂, zero-mul, mul-zero, inv-ne-0}
 use Rattle.exact.proofs.Sum.{Σ-zero, Σ-split, Σ-scale, Σ-relative}
 use Rattle.exact.proofs.Source.{alpha, alpha-is, work, work-curve, next, cond-yes, cond-no}

@@ -4,7 +4,7 @@ use mathlib.Core.Logic.{_≢_}
 use mathlib.Core.List.{[], _∷_}
 use Prim.Native.Nat.{ℕ, suc, _+_, _≤_, _<_, zero-le}
 use Rattle.exact.specs.Rational.{ℚ, _+q_, _-q_, _*q_, _/q_, negq, inv, q0, q1, _≤q_, _<q_}
-use Rattle.exact.specs.Spline.{Σq, basis, Knots, whole, dbasis, quotient, dwhole, exact}
+use Rattle.exact.specs.Spline.{Σq, basis, Knots, whole, dbasis, quotient, dwhole}
 use Rattle.exact.specs.Surface.{exact₂, sum₂, whole₂, dexact₂u, dexact₂v}
 use Rattle.exact.proofs.Field.{qring, q-ring, ≤-trans, <-≤-trans, pos-ne, div-le-div, div-eq, one-mul, inv-ne-0}
 use Rattle.exact.proofs.Sum.{Σ-cong, Σ-mul, Σ-scale, Σ-relative, Σ-outer}

@@ -14,7 +14,7 @@ use Rattle.knots.specs.Refusal.{accepted}
 use Rattle.knots.specs.declared.refusal.Refusal.{Refusal}
 use Rattle.doubles.specs.Value.{zero+}
 use Rattle.exports.specs.Tables.{packedOf}
-use Rattle.exports.specs.Answer.{Answer, refused, values, answerBy, told, run, Leaves}
+use Rattle.exports.specs.Answer.{Answer, refused, values, answerBy, told, Leaves}
 
 pub leaves-by : {a b : Answer} {before after : List Float} {r : ℕ} → a ≡ b → Leaves a before after r → Leaves b before after r
 leaves-by {before = before} {after = after} {r = r} e = subst (λ (a : Answer). Leaves a before after r) e

@@ -34,7 +34,9 @@ use Rattle.insertion.specs.Fold.{insertAll}
 use Rattle.edits.specs.Outcome.{gives, refuses}
 use Rattle.edits.specs.Whole.{givenOf}
 use Rattle.insertion.specs.Whole.{insertOutcome, insertStart}
-use Rattle.insertion.specs.Placed.{placed, weightValue, coordinateValue}
+use Rattle.insertion.specs.Placed.{placed}
+use Rattle.runs.specs.Fraction.{weightValue, coordinateValue}
+use Rattle.runs.specs.Weight.{weightAt}
 use Rattle.insertion.proofs.Domain.{Spot, spot}
 use Rattle.insertion.proofs.Folds.{inserted-valid}
 use Rattle.insertion.proofs.ListResult.{by-number, others, Made, made, made-low, made-high}
@@ -143,7 +145,7 @@ module _ (p : ℕ) (g : Bool) (n : ℕ) (ks ps ws ts ks' ps' ws' : List Float) (
 
 -- ---- a table's weights are above 0
 pub weight-above : (n : ℕ) (ps : List Float) (g : Bool) (ws : List Float) → ValidControls n ps g ws → (i : ℕ) → i < n → q0 <q weightValue g ws i
-unfolding isWeight lt
+unfolding weightAt isWeight lt
 weight-above n ps true ws C i l =
     let L = C .weights refl in
     let h = C .positive refl i (omega arith) in

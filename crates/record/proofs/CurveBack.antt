@@ -12,7 +12,7 @@ use borrow.Author.Tests.{le-leb}
 use Rattle.knots.specs.Refusal.{accepted}
 use Rattle.knots.specs.Curve.{ValidCurve}
 use Rattle.knots.proofs.Curves.{curve-not-refused}
-use Rattle.record.specs.Format.{given, rationalBy}
+use Rattle.record.specs.Format.{rationalBy}
 use Rattle.record.specs.Reading.{layout, roomFor, numbers, Lent}
 use Rattle.runs.specs.Lent.{padded}
 use Rattle.record.specs.Validated.{refusalIn, ReadsTable}

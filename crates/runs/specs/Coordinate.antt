@@ -1,4 +1,4 @@
--- Coordinates in a run: the one place of the definitions that knows how they are arranged.
+-- Coordinates in a run: where coordinate k of point i stands.
 -- Assumes nothing.
 use Prim.Native.Nat.{ℕ, _+_, _*_}
 use mathlib.Core.List.{List}

@@ -1,4 +1,4 @@
-// Points in a run of coordinates: the one place of the code that knows how coordinates are arranged.
+// Points in a run of coordinates, read and stored.
 use crate::numbers::number_at;
 use crate::store::store_vector;
 use crate::vector::Vector;

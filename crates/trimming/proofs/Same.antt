@@ -27,7 +27,8 @@ use Rattle.edits.specs.Rows.{given}
 use Rattle.insertion.specs.Fold.{insertAll}
 use Rattle.edits.specs.Outcome.{Outcome, gives, refuses}
 use Rattle.edits.specs.Whole.{givenOf}
-use Rattle.insertion.specs.Placed.{placed, weightValue, coordinateValue}
+use Rattle.insertion.specs.Placed.{placed}
+use Rattle.runs.specs.Fraction.{weightValue, coordinateValue}
 use Rattle.insertion.proofs.ListResult.{by-number}
 use Rattle.insertion.proofs.Repeated.{Cut}
 use Rattle.insertion.proofs.EqualKnots.{equal-value}

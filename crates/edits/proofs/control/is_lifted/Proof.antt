@@ -1,7 +1,7 @@
 -- `edits::control::is_lifted` meets its contract.
 -- Assumes nothing.
 use borrow.Author.Needs.{needs}
-use Rattle.edits.proofs.Tested.{last-decides}
+use Rattle.edits.proofs.LastTest.{last-decides}
 use mathlib.Core.Path.{sym, _∙_}
 use lib.Ieee.{ofBits}
 use borrow.Author.Tests.{not-true, not-false}

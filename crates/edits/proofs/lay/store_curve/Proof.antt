@@ -46,8 +46,8 @@ copy-run-requires c κs = search needs
 mul-first : tie.Need-mul-first
 mul-first c = search needs
 
-mul-last : tie.Need-mul-last
-mul-last c = search needs
+mul-past : tie.Need-mul-past
+mul-past c = search needs
 
 mul-take-rows : tie.Need-mul-take-rows
 mul-take-rows c = search needs
@@ -124,7 +124,7 @@ store-curve-spec =
     part-copy-run-end
     copy-run-requires
     mul-first
-    mul-last
+    mul-past
     mul-take-rows
     sub-take-rows
     part-take-rows-start

@@ -2,7 +2,7 @@
 -- Assumes nothing.
 use denote.Ref.{now}
 use Rattle.elevation.specs.Passes.{controlIn}
-use Rattle.elevation.proofs.Raising.{raise-mid}
+use Rattle.elevation.proofs.RaiseLoop.{raise-mid}
 use borrow.Author.Needs.{needs}
 use Rattle.elevation.proofs.raise.raise_at.Statement.{statement}
 use Rattle.elevation.proofs.raise.raise_at.Tie as tie

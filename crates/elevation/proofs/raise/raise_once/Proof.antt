@@ -3,7 +3,7 @@
 use borrow.Author.Needs.{needs}
 use native.Mathlib.Omega.{arith}
 use denote.Ref.{now}
-use Rattle.elevation.proofs.Raising.{InRaise, raise-start, raise-more, raise-end}
+use Rattle.elevation.proofs.RaiseLoop.{InRaise, raise-start, raise-more, raise-end}
 use Rattle.elevation.proofs.raise.raise_once.Statement.{statement}
 use Rattle.elevation.proofs.raise.raise_once.Tie as tie
 

@@ -4,7 +4,7 @@ use borrow.Author.Needs.{needs}
 use native.Mathlib.Omega.{arith}
 use denote.Ref.{now}
 use Prim.Native.Nat.{_-_}
-use Rattle.elevation.proofs.Raising.{InTimes, times-start, times-more, times-end}
+use Rattle.elevation.proofs.RaiseLoop.{InTimes, times-start, times-more, times-end}
 use Rattle.elevation.proofs.raise.raise_rows.Statement.{statement}
 use Rattle.elevation.proofs.raise.raise_rows.Tie as tie
 

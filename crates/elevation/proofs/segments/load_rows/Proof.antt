@@ -8,7 +8,7 @@ use lib.ListN.{length}
 use denote.Ref.{now}
 use Rattle.edits.specs.Passes.{rowOf}
 use Rattle.elevation.specs.Passes.{RowsAre}
-use Rattle.elevation.proofs.Raising.{hold-none, hold-more}
+use Rattle.elevation.proofs.RaiseLoop.{hold-none, hold-more}
 use Rattle.elevation.proofs.segments.load_rows.Statement.{statement}
 use Rattle.elevation.proofs.segments.load_rows.Tie as tie
 

@@ -6,7 +6,7 @@ use mathlib.Core.Path.{sym, subst, ap}
 use lib.ListN.{length}
 use denote.Ref.{now}
 use Rattle.edits.specs.Rows.{given}
-use Rattle.elevation.proofs.Joining.{skip-sum, segment-put}
+use Rattle.elevation.proofs.SegmentWalk.{skip-sum, segment-put}
 use borrow.Author.Needs.{needs}
 use Rattle.edits.proofs.CountLoop.{bit-le}
 use Rattle.elevation.proofs.segments.put_segment.Statement.{statement}

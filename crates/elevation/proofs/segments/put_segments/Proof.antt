@@ -11,7 +11,7 @@ use denote.Ref.{now}
 use Rattle.elevation.specs.Breaks.{breaksOf}
 use Rattle.elevation.specs.Passes.{AtBreak}
 use Rattle.elevation.proofs.BreakWalks.{left, left-none, walk-all, breaks-few}
-use Rattle.elevation.proofs.Joining.{first-room, all-stop, all-put, InRest, rest-start, rest-rows, rest-points, rest-weights, rest-stop, rest-more, rest-end}
+use Rattle.elevation.proofs.SegmentWalk.{first-room, all-stop, all-put, InRest, rest-start, rest-rows, rest-points, rest-weights, rest-stop, rest-more, rest-end}
 use Rattle.elevation.proofs.segments.put_segments.Statement.{statement}
 use Rattle.elevation.proofs.segments.put_segments.Tie as tie
 

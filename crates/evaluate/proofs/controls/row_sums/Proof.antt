@@ -1,6 +1,7 @@
 -- `evaluate::controls::row_sums` meets its contract.
 -- Assumes nothing.
 use Prim.Native.Nat.{ℕ, _+_, _-_, _≤_}
+use mathlib.Core.Bool.{true}
 use mathlib.Core.Path.{_≡_, subst}
 use native.Mathlib.Omega.{arith}
 use denote.Ref.{now}
@@ -14,10 +15,10 @@ use Rattle.evaluate.proofs.controls.row_sums.Statement.{statement}
 use Rattle.evaluate.proofs.controls.row_sums.Tie as tie
 
 abbrev Inv-loop : tie.InvT-loop
-Inv-loop two k p first scale points rational weights ders o s₀ j₀ s j = (j ≤ p + 1) × (s ≡ sumsFrom noSums (rowTerm two points rational weights scale (pointOf points first) first (cell ders k)) j)
+Inv-loop k p first scale points rational weights ders o s₀ j₀ s j = (j ≤ p + 1) × (s ≡ sumsFrom noSums (rowTerm true points rational weights scale (pointOf points first) first (cell ders k)) j)
 
 abbrev μ-loop : tie.MeasureT-loop
-μ-loop two k p first scale points rational weights ders o s₀ j₀ s j = p + 1 - j
+μ-loop k p first scale points rational weights ders o s₀ j₀ s j = p + 1 - j
 
 point-at-requires : tie.Need-point-at-requires Inv-loop μ-loop
 point-at-requires c κs = search needs
@@ -26,7 +27,7 @@ loop-holds : tie.Need-loop-holds Inv-loop μ-loop
 unfolding ofBits
 loop-holds c =
     let a = c .before .before .before .args in
-    (omega arith, sums-none noSums (rowTerm (a .two) (now (a .points)) (a .rational) (now (a .weights)) (a .scale) (pointOf (now (a .points)) (a .first)) (a .first) (cell (now (a .ders)) (a .k))))
+    (omega arith, sums-none noSums (rowTerm true (now (a .points)) (a .rational) (now (a .weights)) (a .scale) (pointOf (now (a .points)) (a .first)) (a .first) (cell (now (a .ders)) (a .k))))
 
 add-i : tie.Need-add-i Inv-loop μ-loop
 add-i c = search needs
@@ -67,12 +68,12 @@ loop-again c =
     let l = c .before .before .before .before .before .before .loop in
     let t =
     term-is
-    (a .two) (now (a .points)) (a .rational) (now (a .weights)) (a .scale) (a .first) (l .j) (cell (now (a .ders)) (a .k)) (pointOf (now (a .points)) (a .first)) _ _ _
+    true (now (a .points)) (a .rational) (now (a .weights)) (a .scale) (a .first) (l .j) (cell (now (a .ders)) (a .k)) (pointOf (now (a .points)) (a .first)) _ _ _
     (c .before .before .before .before .before .before .before .point-at .ensures) (c .before .before .point-at2 .ensures) (c .before .before .before .weight-at .ensures) _
     (c .before .term-of .ensures) in (
       omega arith,
       sums-more
-          noSums (rowTerm (a .two) (now (a .points)) (a .rational) (now (a .weights)) (a .scale) (pointOf (now (a .points)) (a .first)) (a .first) (cell (now (a .ders)) (a .k))) (l .j) (l .s) _ _
+          noSums (rowTerm true (now (a .points)) (a .rational) (now (a .weights)) (a .scale) (pointOf (now (a .points)) (a .first)) (a .first) (cell (now (a .ders)) (a .k))) (l .j) (l .s) _ _
           (l .inv .1) t (c .plus-of .ensures),
     )
 
@@ -83,7 +84,7 @@ returns c =
     let l = c .before .loop in
     let e : l .j ≡ a .p + 1 = omega arith in
     subst
-    (λ (i : ℕ). l .s ≡ sumsFrom noSums (rowTerm (a .two) (now (a .points)) (a .rational) (now (a .weights)) (a .scale) (pointOf (now (a .points)) (a .first)) (a .first)
+    (λ (i : ℕ). l .s ≡ sumsFrom noSums (rowTerm true (now (a .points)) (a .rational) (now (a .weights)) (a .scale) (pointOf (now (a .points)) (a .first)) (a .first)
     (cell (now (a .ders)) (a .k))) i)
     e (l .inv .1)
 

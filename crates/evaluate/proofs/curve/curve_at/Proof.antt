@@ -27,8 +27,8 @@ scale-at-requires c κs = (λ g. let h = c .before .before .before .before .befo
 point-at-requires : tie.Need-point-at-requires
 point-at-requires c κs = search needs
 
-two-sums-requires : tie.Need-two-sums-requires
-two-sums-requires c κs = let q = c .before .before .before .before .before .before .before .before .before .pre in (omega arith, (omega arith, λ g. let h = q .1 .1 .1 .1 .1 g in omega arith))
+value-and-slope-requires : tie.Need-value-and-slope-requires
+value-and-slope-requires c κs = let q = c .before .before .before .before .before .before .before .before .before .pre in (omega arith, (omega arith, λ g. let h = q .1 .1 .1 .1 .1 g in omega arith))
 
 quotient-of-requires : tie.Need-quotient-of-requires
 quotient-of-requires c κs = search needs
@@ -39,7 +39,7 @@ returns c = let a = c .before .before .before .before .before .before .before .b
     let reach : Reach 195 (a .p) 1 (now (a .knots)) (a .span) = record { degree = q .0; high = q .1 .0; orders = omega arith; low = q .1 .1 .0; long = q .1 .1 .1 .0; room = refl } in
     curve-is (a .p) 1 (now (a .knots)) (now (a .points)) (a .rational) (now (a .weights)) (a .span) (a .u) reach _
     (c .before .before .before .before .before .before .basis-derivatives .ensures) _ (c .before .before .before .before .scale-at .ensures) (omega arith) _ _ _ _
-    (c .before .before .before .point-at .ensures) (c .before .two-sums .ensures .0) (c .before .two-sums .ensures .1) (c .quotient-of .ensures)
+    (c .before .before .before .point-at .ensures) (c .before .value-and-slope .ensures .0) (c .before .value-and-slope .ensures .1) (c .quotient-of .ensures)
 
 pub curve-at-spec : {M : Type 1} → statement M
 curve-at-spec =
@@ -51,6 +51,6 @@ curve-at-spec =
     add-scale-at
     scale-at-requires
     point-at-requires
-    two-sums-requires
+    value-and-slope-requires
     quotient-of-requires
     returns)

@@ -1,4 +1,4 @@
--- `edits::whole::put_whole` meets its contract.
+-- `edits::inside::put_whole` meets its contract.
 -- Assumes nothing.
 use Prim.Native.Nat.{_/_}
 use native.Mathlib.Omega.{arith}
@@ -7,8 +7,8 @@ use lib.ListN.{length, length-set}
 use borrow.Author.Tests.{lt-ltb}
 use Rattle.edits.specs.Passes.{rowPut}
 use borrow.Author.Needs.{needs}
-use Rattle.edits.proofs.whole.put_whole.Statement.{statement}
-use Rattle.edits.proofs.whole.put_whole.Tie as tie
+use Rattle.edits.proofs.inside.put_whole.Statement.{statement}
+use Rattle.edits.proofs.inside.put_whole.Tie as tie
 
 mul-at : tie.Need-mul-at
 mul-at c = search needs

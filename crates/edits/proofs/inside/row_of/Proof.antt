@@ -1,8 +1,8 @@
--- `edits::whole::row_of` meets its contract.
+-- `edits::inside::row_of` meets its contract.
 -- Assumes nothing.
 use lib.Ieee.{ofBits}
-use Rattle.edits.proofs.whole.row_of.Statement.{statement}
-use Rattle.edits.proofs.whole.row_of.Tie as tie
+use Rattle.edits.proofs.inside.row_of.Statement.{statement}
+use Rattle.edits.proofs.inside.row_of.Tie as tie
 
 returns : tie.Need-returns
 returns c = simp (c .if1 .taken)

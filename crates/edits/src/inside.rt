@@ -1,4 +1,4 @@
-// Rows that are whole inside a run: a loop over rows has asked once how many there are.
+// A row by its numbers, and rows that lie whole inside their run: who calls has asked how many there are.
 use crate::control::Control;
 ghost use mathlib.Core.Path.{_≡_};
 ghost use Prim.Native.Nat.{_+_, _*_, _<_};

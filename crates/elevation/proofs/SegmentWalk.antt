@@ -18,7 +18,7 @@ use Rattle.elevation.specs.Breaks.{breaksOf, isFull, fullCount}
 use Rattle.elevation.specs.Raise.{raiseTimes}
 use Rattle.elevation.specs.Elevate.{extractedCount, raisedCount, controlsOf, segmentOf, addedBy, keptFrom, keptAll}
 use Rattle.elevation.specs.Passes.{controlIn, RowsAre, Put, AtBreak, NextBreak}
-use Rattle.elevation.proofs.Raising.{times-cong}
+use Rattle.elevation.proofs.RaiseLoop.{times-cong}
 use Rattle.elevation.proofs.BreakWalks.{left}
 use Rattle.elevation.proofs.Putting.{Putting, putting-start, putting-stop, putting-run, putting-end, put-append, given-within, controls-long, controls-cong}
 

@@ -1,4 +1,4 @@
--- `evaluate::controls::two_sums` meets its contract.
+-- `evaluate::controls::value_and_slope` meets its contract.
 -- Assumes nothing.
 use Prim.Native.Nat.{ℕ, _+_, _-_, _≤_}
 use mathlib.Core.Bool.{false}
@@ -12,8 +12,8 @@ use Rattle.doubles.specs.Run.{at}
 use Rattle.runs.specs.Point.{pointOf}
 use Rattle.evaluate.proofs.Summed.{sums-none, sums-more, term-is}
 use borrow.Author.Needs.{needs}
-use Rattle.evaluate.proofs.controls.two_sums.Statement.{statement}
-use Rattle.evaluate.proofs.controls.two_sums.Tie as tie
+use Rattle.evaluate.proofs.controls.value_and_slope.Statement.{statement}
+use Rattle.evaluate.proofs.controls.value_and_slope.Tie as tie
 
 abbrev Inv-loop : tie.InvT-loop
 Inv-loop p first scale points rational weights ders o value₀ slope₀ j₀ value slope j = (j ≤ p + 1) ×
@@ -48,11 +48,11 @@ mul-n c = search needs
 element-copy-out-n : tie.Need-element-copy-out-n Inv-loop μ-loop
 element-copy-out-n c = search needs
 
-mul-m : tie.Need-mul-m Inv-loop μ-loop
-mul-m c = search needs
+mul-dn : tie.Need-mul-dn Inv-loop μ-loop
+mul-dn c = search needs
 
-element-copy-out-m : tie.Need-element-copy-out-m Inv-loop μ-loop
-element-copy-out-m c = search needs
+element-copy-out-dn : tie.Need-element-copy-out-dn Inv-loop μ-loop
+element-copy-out-dn c = search needs
 
 weight-at-requires : tie.Need-weight-at-requires Inv-loop μ-loop
 weight-at-requires c κs = λ g. let h = c .before .before .before .before .before .before .before .pre .1 .1 g in omega arith
@@ -107,8 +107,8 @@ returns c = let a = c .before .before .before .before .before .args in let l = c
       (cell (now (a .ders)) 1)) i) e (l .inv .2),
 )
 
-pub two-sums-spec : {M : Type 1} → statement M
-two-sums-spec =
+pub value-and-slope-spec : {M : Type 1} → statement M
+value-and-slope-spec =
     tie.close
     (tie.spec
     Inv-loop
@@ -119,8 +119,8 @@ two-sums-spec =
     add-at
     mul-n
     element-copy-out-n
-    mul-m
-    element-copy-out-m
+    mul-dn
+    element-copy-out-dn
     weight-at-requires
     point-at-requires-2
     term-of-requires
