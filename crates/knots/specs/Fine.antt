@@ -2,13 +2,9 @@
 use mathlib.Core.Bool.{Bool, true, cond}
 use mathlib.Core.List.{List}
 use lib.Ieee.{Float, lt}
-use lib.Ieee.Scale.{finite}
 use Rattle.doubles.specs.Value.{zero+}
 use Rattle.knots.specs.Knots.{allFinite}
-use Rattle.knots.specs.Curve.{isWeight, allWeights}
-
-abbrev pub fine : Bool → Float → Bool
-fine weight x = cond weight (isWeight x) (finite x)
+use Rattle.knots.specs.Curve.{allWeights}
 
 -- what a weight is asked beside being finite
 abbrev pub above : Bool → Float → Bool

@@ -3,9 +3,10 @@ use crate::knots::all_finite;
 use crate::knots::knot_refusal;
 use crate::limits::over_long;
 use crate::numbers::all_fine;
-use crate::numbers::is_fine;
+use crate::numbers::is_above;
 use crate::refusal::Refusal;
 use crate::refusal::refuse;
+use interval::float::is_finite;
 ghost use mathlib.Core.Path.{_≡_};
 ghost use Rattle.knots.specs.Curve.{isWeight, allWeights, controlRefusal, formedRefusal, anyLong, curveRefusal};
 
@@ -13,7 +14,11 @@ ghost use Rattle.knots.specs.Curve.{isWeight, allWeights, controlRefusal
 pub fn is_weight(x: f64) -> bool
     ensures { λ r. ⌜ r ≡ isWeight x ⌝ }
 {
-    is_fine(x, true)
+    if is_finite(x) {
+        is_above(x, true)
+    } else {
+        false
+    }
 }
 
 // Every number of the run is a weight.

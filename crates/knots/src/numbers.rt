@@ -1,20 +1,10 @@
 // Which numbers a run may have: finite ones, and of weights those above 0. A call says which as a constant, so that each has a loop of its own.
 use interval::float::is_finite;
 ghost use mathlib.Core.Path.{_≡_};
-ghost use Rattle.knots.specs.Fine.{fine as fineOf, above as aboveOf, allFine};
+ghost use Rattle.knots.specs.Fine.{above as aboveOf, allFine};
 
-// A weight is finite and above 0. NaN and both zeros are none.
-pub fn is_fine(x: f64, weight: bool) -> bool
-    ensures { λ r. ⌜ r ≡ fineOf weight x ⌝ }
-{
-    if weight {
-        return if is_finite(x) { x > 0.0 } else { false };
-    }
-    is_finite(x)
-}
-
-// What a weight is asked beside being finite.
-fn is_above(x: f64, weight: bool) -> bool
+// What a weight is asked beside being finite. NaN and both zeros are not above 0.
+pub fn is_above(x: f64, weight: bool) -> bool
     ensures { λ r. ⌜ r ≡ aboveOf weight x ⌝ }
 {
     if weight {
