@@ -1,22 +1,22 @@
--- A curve is not refused exactly where it is valid.
+-- A curve is not refused exactly where it is valid. And 9 of an empty run of weights.
 -- Assumes nothing.
-use Prim.Native.Nat.{ℕ, _+_, _*_, _/_, _%_, _≤_}
+use Prim.Native.Nat.{ℕ, _+_, _*_, _/_, _%_, _≤_, _<_}
 use mathlib.Core.Bool.{Bool, true, false, not, _&&_, _||_}
 use mathlib.Core.Path.{_≡_, refl, sym, _∙_, ap}
-use mathlib.Core.List.{List}
+use mathlib.Core.List.{List, []}
 use native.Mathlib.Nat.{div-add-mod, add-zero, mul-mod-right}
 use native.Mathlib.Omega.{arith}
 use lib.ListN.{length}
 use lib.Dec.{eqb}
 use lib.Ieee.{Float}
 use lib.Ieee.Scale.{finite}
-use borrow.Author.Tests.{eqb-true, ltb-false, le-ltb, eq-eqb, not-false}
+use borrow.Author.Tests.{eqb-true, ltb-false, le-ltb, eq-eqb, ne-eqb, not-false}
 use Rattle.doubles.specs.Run.{at}
-use Rattle.knots.specs.Refusal.{refuse, accepted, point-not-finite, weight-count, weight-bad, length-bad, points-uneven}
+use Rattle.knots.specs.Refusal.{refuse, accepted, orElse, point-not-finite, weight-count, weight-bad, length-bad, points-uneven}
 use Rattle.knots.specs.Knots.{allFinite, knotRefusal, ValidKnots}
 use Rattle.knots.specs.Curve.{longest, overLong, anyLong, isWeight, allWeights, controlRefusal, countOf, formedRefusal, curveRefusal, Short, ValidControls, ValidCurve}
 use Rattle.knots.proofs.Below.{all-at, all-in}
-use Rattle.knots.proofs.Refusals.{passed, orElse-none}
+use Rattle.knots.proofs.Refusals.{passed, row-first, refusal-first, orElse-none}
 use Rattle.knots.proofs.Valid.{valid, not-refused}
 
 -- ---- lengths
@@ -116,3 +116,17 @@ module _ (p : ℕ) (ks ps : List Float) (g : Bool) (ws : List Float) where
         eq-eqb (length ps % 3) 0 (thirds-of (length ps) (v .triples)),
         formed-not-refused p (countOf ps) ks ps g ws (v .knots) (v .controls),
       )
+
+-- ---- weights that are given, and are none: 9 behind all that refuses the curve without weights
+controls-empty : (n : ℕ) (ps : List Float) → 0 < n → controlRefusal n ps true [] ≡ orElse (controlRefusal n ps false []) (refuse weight-count)
+unfolding controlRefusal
+controls-empty n ps h = row-first (not (allFinite ps)) (refuse point-not-finite) _ _ (refuse weight-count) (λ e. omega arith) (rw (ne-eqb 0 n (λ e. omega arith)))
+
+pub empty-weights : (p : ℕ) (ks ps : List Float) → curveRefusal p ks ps true [] ≡ orElse (curveRefusal p ks ps false []) (refuse weight-count)
+unfolding curveRefusal formedRefusal anyLong overLong
+empty-weights p ks ps =
+    let n = countOf ps in
+    row-first (anyLong ks ps false []) (refuse length-bad) _ _ (refuse weight-count) (λ e. omega arith)
+    (row-first (not (eqb (length ps % 3) 0)) (refuse points-uneven) _ _ (refuse weight-count) (λ e. omega arith)
+    (refusal-first (knotRefusal p n ks) _ _ (refuse weight-count)
+    (λ e. let count = valid p n ks e .count in controls-empty n ps (omega arith))))

@@ -19,6 +19,19 @@ stop {a} e h = ne-eqb (a .number) 0 (λ z. h (ap (λ (x : Refusal). x .number) e
 pub skip : {r a : Refusal} → r ≡ a → r .number ≡ 0 → eqb (a .number) 0 ≡ true
 skip {a} e h = eq-eqb (a .number) 0 (sym (ap (λ (x : Refusal). x .number) e) ∙ h)
 
+-- a row above stands before what is asked last
+pub row-first : (b : Bool) (r x y z : Refusal) → (r .number ≡ 0 → ⊥) → x ≡ orElse y z → cond b r x ≡ orElse (cond b r y) z
+row-first true r x y z n e = rw (ne-eqb (r .number) 0 n)
+row-first false r x y z n e = e
+
+-- and so does a refusal that is asked before
+pub refusal-first : (a x y z : Refusal) → (a .number ≡ 0 → x ≡ orElse y z) → orElse a x ≡ orElse (orElse a y) z
+refusal-first a x y z f = go (eqb (a .number) 0) refl
+  where
+    go : (t : Bool) → eqb (a .number) 0 ≡ t → cond t x a ≡ orElse (cond t y a) z
+    go true e = f (eqb-true (a .number) 0 e)
+    go false e = rw e
+
 pub orElse-none : (a b : Refusal) → orElse a b .number ≡ 0 → (a .number ≡ 0) × (b .number ≡ 0)
 orElse-none a b = go (eqb (a .number) 0) refl
   where
