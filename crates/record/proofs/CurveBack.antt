@@ -3,8 +3,7 @@
 use Prim.Native.Nat.{ℕ, _≤_}
 use mathlib.Core.Bool.{Bool, true, false}
 use mathlib.Core.Path.{_≡_, refl, _∙_}
-use mathlib.Core.List.{List, [], _∷_}
-use mathlib.Core.Option.{some}
+use mathlib.Core.List.{List, []}
 use native.Mathlib.Omega.{arith}
 use lib.ListN.{length, take, length-map}
 use lib.Ieee.{Float, binary64, toBits}
@@ -31,14 +30,10 @@ unfolding padded
 front-back n xs run back e = front-of n (length xs) (bits xs) run e (length-bits xs) ∙ back
 
 module _ (p : ℕ) (ks ps ws : List Float) where
-  -- a valid rational curve has weights
-  weighted : ValidCurve p ks ps true ws → (xs : List ℕ) → length xs ≡ length ws → rationalBy (some xs) ≡ true
-  weighted v [] e = let a = v .controls .weights refl in let b = v .knots .count in absurd (omega arith)
-  weighted v (x ∷ xs) e = refl
-
-  kept : (g : Bool) → ValidCurve p ks ps g ws → rationalBy (chosen g ws) ≡ g
-  kept false v = refl
-  kept true v = weighted v (bits ws) (length-bits ws)
+  -- what is written as rational is read as rational
+  kept : (g : Bool) → rationalBy (chosen g ws) ≡ g
+  kept false = refl
+  kept true = refl
 
   -- weights that are not given have no part in validity
   unweighted : ValidCurve p ks ps false ws → ValidCurve p ks ps false []
@@ -61,7 +56,7 @@ module _ (p : ℕ) (ks ps ws : List Float) where
     not-refused : (g : Bool) → ValidCurve p ks ps g ws → refusalIn (tableFrom p ks ps g ws) ≡ accepted
     unfolding refusalIn
     not-refused false v = rw (bk, bp) (curve-not-refused p ks ps false [] (unweighted v))
-    not-refused true v = rw (bk, bp, bw, kept true v) (curve-not-refused p ks ps true ws v)
+    not-refused true v = rw (bk, bp, bw) (curve-not-refused p ks ps true ws v)
 
 -- what was written, read into the runs k, q, w
 module _ (p n : ℕ) (ks ps : List Float) (g : Bool) (ws : List Float) (after : List ℕ) (b : ReadsBack p ks ps g ws after (Written n)) (v : ValidCurve p ks ps g ws) where
@@ -71,7 +66,7 @@ module _ (p n : ℕ) (ks ps : List Float) (g : Bool) (ws : List Float) (after : 
       let t = tableFrom p ks ps g ws in
       let found = b .table n refl in
       let answer : r ≡ Curve (layout t) g =
-      reads .answer ∙ rw (found, room-for p ks ps ws g (length k) (length q) (length w) lk lp lw, not-refused p ks ps ws (b .knots) (b .points) (b .weights) g v, kept p ks ps ws g v) in
+      reads .answer ∙ rw (found, room-for p ks ps ws g (length k) (length q) (length w) lk lp lw, not-refused p ks ps ws (b .knots) (b .points) (b .weights) g v, kept p ks ps ws g) in
       let runs : Lent t k q w k′ q′ w′ = rw (answer, found) at (reads .runs) in
       record {
         answer = answer;

@@ -10,4 +10,5 @@ pub mod Sizes
 pub mod Written
 pub mod RoundTrip
 pub mod CurveBack
+pub mod EmptyWeights
 pub mod Determined

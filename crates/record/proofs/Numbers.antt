@@ -1,22 +1,21 @@
 -- The numbers of a record in three lent runs: where they are read, and what the runs hold after each answer.
 -- Assumes nothing.
-use Prim.Native.Nat.{ℕ, suc, _+_, _*_, _≤_, _<_}
-use mathlib.Core.Bool.{true, false, not}
+use Prim.Native.Nat.{ℕ, _+_, _*_, _≤_, _<_}
+use mathlib.Core.Bool.{true, false}
 use mathlib.Core.Path.{_≡_, refl, sym, _∙_, subst}
-use mathlib.Core.List.{List, [], _∷_, append-nil}
+use mathlib.Core.List.{List, [], append-nil}
 use mathlib.Core.Option.{Option, none, some}
 use native.Mathlib.Nat.{sub-zero}
 use native.Mathlib.Omega.{arith}
 use lib.ListN.{length, drop, length-map}
 use lib.Ieee.{Float}
-use lib.Dec.{eqb}
 use lib.Seq.{sets}
-use borrow.Author.Tests.{le-leb, leb-true, ne-eqb}
+use borrow.Author.Tests.{le-leb, leb-true}
 use Rattle.knots.specs.Refusal.{refuse, length-bad}
 use Rattle.knots.specs.declared.refusal.Refusal.{Refusal}
 use Rattle.doubles.specs.Value.{zero+}
-use Rattle.record.specs.Format.{Table, IsRecordOf, Means, Patterns, given, rationalBy, optional}
-use Rattle.record.specs.Reading.{patterns, tableOf, layout, layoutOf, rational, roomFor, numbersOf, numbers, cleared, blank, Lent, ReadsNumbers}
+use Rattle.record.specs.Format.{Table, IsRecordOf, Means, Patterns, given, optional}
+use Rattle.record.specs.Reading.{patterns, tableOf, layout, layoutOf, roomFor, numbersOf, numbers, cleared, blank, Lent, ReadsNumbers}
 use Rattle.runs.specs.Lent.{padded}
 use Rattle.record.specs.declared.read.Layout.{Layout}
 use Rattle.record.specs.declared.read.Record.the-variants.{Fields, Refused}
@@ -144,13 +143,3 @@ no-room s l k p w e room =
     let found = layout-some (tableOf s) l e in
     let none-for : roomFor (layout (found .0)) k p w ≡ false = subst (λ (x : Layout). roomFor x k p w ≡ false) (sym (found .2)) room in
     rw (found .1, none-for)
-
--- ---- rational or polynomial
-
-pub rational-layout : (t : Table) → rational (layout t) ≡ rationalBy (t .weights)
-rational-layout t = from (t .weights)
-  where
-    from : (ws : Option (List ℕ)) → not (eqb (length (given ws)) 0) ≡ rationalBy ws
-    from none = refl
-    from (some []) = refl
-    from (some (x ∷ xs)) = rw (ne-eqb (suc (length xs)) 0 (λ z. omega arith))

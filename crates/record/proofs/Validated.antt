@@ -25,7 +25,7 @@ use Rattle.record.specs.declared.table.TableAnswer.{TableAnswer}
 use Rattle.record.specs.declared.read.Layout.{Layout}
 use Rattle.record.specs.declared.read.Record.the-variants as R
 use Rattle.record.specs.declared.table.TableAnswer.the-variants.{Curve, Refused}
-use Rattle.record.proofs.Numbers.{fits-runs, blank-runs, rational-layout}
+use Rattle.record.proofs.Numbers.{fits-runs, blank-runs}
 
 -- ---- what an answer of `read_numbers` says
 
@@ -124,7 +124,7 @@ module _ (s : List ℕ) (k p w k′ p′ w′ : List Float) where
         let a = front-of (length k) (l .knots) (t .knots) k′ (runs .knots) (ap (λ (x : Layout). x .knots) e) in
         let b = front-of (length p) (l .points) (t .points) p′ (runs .points) (ap (λ (x : Layout). x .points) e) in
         let c = front-of (length w) (l .weights) (given (t .weights)) w′ (runs .weights) (ap (λ (x : Layout). x .weights) e) in
-        let g : rational l ≡ rationalBy (t .weights) = ap rational (sym e) ∙ rational-layout t in
+        let g : rational l ≡ rationalBy (t .weights) = ap rational (sym e) in
         refusal-same t (ap (λ (x : Layout). x .degree) (sym e)) a b g c
 
     module _ (x : Refusal) (tested : x ≡ curveRefusal (l .degree) (take (l .knots) k′) (take (l .points) p′) (rational l) (take (l .weights) w′)) where
@@ -143,9 +143,8 @@ module _ (s : List ℕ) (k p w k′ p′ w′ : List Float) where
       pub curve-read : length k′ ≡ length k → length p′ ≡ length p → length w′ ≡ length w → x .number ≡ 0 → ReadsTable s k p w k′ p′ w′ (Curve l (rational l))
       curve-read lk lp lw h =
           let fits = fits-runs l (length k) (length p) (length w) room in
-          let g : rational l ≡ rationalBy (found .0 .weights) = ap rational (sym (found .2)) ∙ rational-layout (found .0) in
-          let a : Curve l (rational l) ≡ answerOf (tableOf s) (length k) (length p) (length w) = rw (found .1, found .3, skip (tested ∙ refusal-is) h, g)
-          (ap (λ (y : Layout). Curve y (rationalBy (found .0 .weights))) (sym (found .2))) in
+          let same : Curve l (rational l) ≡ Curve (layout (found .0)) (rationalBy (found .0 .weights)) = ap (λ (y : Layout). Curve y (rational y)) (sym (found .2)) in
+          let a : Curve l (rational l) ≡ answerOf (tableOf s) (length k) (length p) (length w) = same ∙ rw (found .1, found .3, skip (tested ∙ refusal-is) h) in
           record {
             means = r .means;
             answer = a;

@@ -50,11 +50,10 @@ abbrev pub given : Option (List ℕ) → List ℕ
 given none = []
 given (some xs) = xs
 
--- whether weights make a curve rational: absent or empty ones mean polynomial
+-- whether a curve is rational: absent weights alone mean polynomial, and an empty list is a list of weights
 abbrev pub rationalBy : Option (List ℕ) → Bool
 rationalBy none = false
-rationalBy (some []) = false
-rationalBy (some (x ∷ xs)) = true
+rationalBy (some xs) = true
 
 -- the bytes s are the record of the table t. That each payload is below 65,536 bytes follows from the record's own length
 pub record IsRecordOf (s : List ℕ) (t : Table) : Type 0 where

@@ -1,7 +1,7 @@
 -- How a record is read: the table that bytes hold, what a call answers of it, and what it leaves in the lent runs.
 -- Assumes nothing.
 use Prim.Native.Nat.{ℕ, zero, suc, _+_, _-_, _*_, _/_, _%_, _<_}
-use mathlib.Core.Bool.{Bool, true, false, not, cond, _&&_}
+use mathlib.Core.Bool.{Bool, not, cond, _&&_}
 use mathlib.Core.Path.{_≡_}
 use mathlib.Core.List.{List, [], _∷_, map}
 use mathlib.Core.Option.{Option, none, some}
@@ -11,7 +11,7 @@ use lib.Ieee.{Float, binary64, ofBits}
 use Rattle.knots.specs.Refusal.{refuse, length-bad, record-malformed}
 use Rattle.knots.specs.Clear.{zeros}
 use Rattle.runs.specs.Lent.{padded}
-use Rattle.record.specs.Format.{Table, Means, given}
+use Rattle.record.specs.Format.{Table, Means, given, rationalBy}
 use Rattle.record.specs.declared.field.Count.{Count}
 use Rattle.record.specs.declared.field.Count.the-variants.{Is, Bad}
 use Rattle.record.specs.declared.read.Layout.{Layout}
@@ -75,10 +75,6 @@ tableOf s =
     (λ k. onCount (runOf (drop (8 + 8 * k) s) 3) none
     (λ n. endOf s p k n))))
 
-abbrev pub isGiven : Option (List ℕ) → Bool
-isGiven none = false
-isGiven (some xs) = true
-
 -- how many numbers each run of a table has
 abbrev pub layout : Table → Layout
 layout t =
@@ -86,7 +82,7 @@ layout t =
       degree = t .degree;
       knots = length (t .knots);
       points = length (t .points);
-      weighted = isGiven (t .weights);
+      weighted = rationalBy (t .weights);
       weights = length (given (t .weights));
     }
 
@@ -95,9 +91,9 @@ abbrev pub layoutOf : Option Table → Record
 layoutOf none = Refused (refuse record-malformed)
 layoutOf (some t) = Fields (layout t)
 
--- whether a curve of this layout is rational: an absent weights field and one of length 0 mean polynomial
+-- whether a curve of this layout is rational: an absent weights field alone means polynomial
 abbrev pub rational : Layout → Bool
-rational l = not (eqb (l .weights) 0)
+rational l = l .weighted
 
 -- the promise of `read_record`
 pub record ReadsLayout (s : List ℕ) (r : Record) : Type 0 where

@@ -87,11 +87,11 @@ pub fn read_record(s: &[u8]) -> Record
     end_at(s, degree, knots, points)
 }
 
-// Whether the curve of a record is rational: an absent weights field and one of length 0 mean polynomial.
+// Whether the curve of a record is rational: an absent weights field alone means polynomial.
 pub fn is_rational(l: Layout) -> bool
     ensures { λ r. ⌜ r ≡ rational l ⌝ }
 {
-    l.weights != 0
+    l.weighted
 }
 
 // Whether runs of these lengths have room for the numbers of a record.
