@@ -13,7 +13,7 @@ The JSON is {"degree": 1, "knots": [0, 0, 1, 1], "points": [[0, 0, 0], [2, 5, 0]
 are left out, the record has no field of them, and the table is polynomial. A decimal is the double that is nearest to
 it. A string of 16 hexadecimal digits is a double by its bits, as the listers print it: an infinity or a NaN can be
 written in no other way. Whether the table is valid is not judged here: the last point may have fewer than three
-coordinates, as in a record, and "weights": [] is a field of length 0, which the programs refuse by 9.
+coordinates, as in a record, and "weights": [] is a field of length 0. The programs refuse both.
 
 Exit status: 0 done; 2 bad usage; 4 the input is no such JSON or no record; 5 it cannot be read, or the output failed.
 """

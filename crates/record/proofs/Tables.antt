@@ -3,7 +3,7 @@
 use Prim.Native.Nat.{ℕ, _+_, _*_, _≤_, _<_}
 use mathlib.Core.Path.{_≡_, refl, sym, _∙_, ap, subst}
 use mathlib.Core.Logic.{⊎-elim}
-use mathlib.Core.List.{List, [], _∷_, _++_, append-nil}
+use mathlib.Core.List.{List, [], _∷_, _++_, append-nil, append-assoc}
 use mathlib.Core.Option.{Option, none, some}
 use native.Mathlib.Nat.{le-refl, le-of-eq}
 use native.Mathlib.Omega.{arith}
@@ -89,6 +89,14 @@ sound s t b e =
       points = are-patterns n (drop (11 + 8 * k) s) (bytes-drop (11 + 8 * k) s b);
       weights = end .3;
     })
+
+-- the degree, the knots and the points stand in front of the weights
+unfoldable pub front : ℕ → List ℕ → List ℕ → List ℕ
+front p ks ps = field 1 (little 2 p) ++ field 2 (doubles ks) ++ field 3 (doubles ps)
+
+pub front-encode : (t : Table) → front (t .degree) (t .knots) (t .points) ++ optional 4 (t .weights) ≡ encode t
+unfolding front encode
+front-encode t = rw (append-assoc, append-assoc)
 
 pub length-encode : (t : Table) → length (encode t) ≡ 11 + 8 * length (t .knots) + 8 * length (t .points) + length (optional 4 (t .weights))
 unfolding encode

@@ -3,7 +3,7 @@
 use Prim.Native.Nat.{ℕ, _+_, _*_, _≤_, _<_}
 use mathlib.Core.Bool.{Bool, true, false, cond}
 use mathlib.Core.Path.{_≡_, refl, sym, _∙_, ap}
-use mathlib.Core.List.{List, _++_, append-nil, append-assoc}
+use mathlib.Core.List.{List, _++_, append-nil}
 use native.Mathlib.Omega.{arith}
 use lib.ListN.{length, replicate, length-append, length-map}
 use borrow.Author.Tests.{le-leb, lt-leb}
@@ -18,7 +18,7 @@ use Rattle.record.proofs.Tests.{held, bad-is, is-same}
 use Rattle.record.proofs.Little.{length-little}
 use Rattle.record.proofs.Runs.{length-doubles}
 use Rattle.record.proofs.Fields.{length-head, length-field}
-use Rattle.record.proofs.Tables.{length-encode}
+use Rattle.record.proofs.Tables.{front, front-encode, length-encode}
 use Rattle.record.proofs.Stores.{sets-next, sets-front}
 
 -- a field of doubles
@@ -44,15 +44,14 @@ module _ (l : List ℕ) (p : ℕ) (ks ps : List Float) where
   unfolding field
   degree-put = sets-next l (head 1 2) (little 2 p) 3 (length-head 1 2) ∙ rw (length-little 2 p)
 
-  -- the degree, the knots and the points
-  pub front : List ℕ
-  front = field 1 (little 2 p) ++ run 2 ks ++ run 3 ps
+  abbrev fronts : List ℕ
+  fronts = front p (bits ks) (bits ps)
 
-  length-front : length front ≡ 8 + 8 * length ks + 3 + 8 * length ps
+  length-front : length fronts ≡ 8 + 8 * length ks + 3 + 8 * length ps
   unfolding front
   length-front = rw (length-append, length-append, length-run, length-run, length-field, length-little) (omega arith)
 
-  pub front-put : sets (sets (sets l 0 (field 1 (little 2 p))) 5 (run 2 ks)) (8 + 8 * length ks) (run 3 ps) ≡ sets l 0 front
+  pub front-put : sets (sets (sets l 0 (field 1 (little 2 p))) 5 (run 2 ks)) (8 + 8 * length ks) (run 3 ps) ≡ sets l 0 fronts
   unfolding front
   front-put =
       let first = field 1 (little 2 p) in
@@ -62,20 +61,16 @@ module _ (l : List ℕ) (p : ℕ) (ks ps : List Float) where
       ∙ sets-next l (first ++ run 2 ks) (run 3 ps) (8 + 8 * length ks) two
 
   -- the five runs of bytes as the stores leave them
-  pub front-stored : {o₁ o₂ o₃ o₄ : List ℕ} → o₁ ≡ sets l 0 (head 1 2) → o₂ ≡ sets o₁ 3 (little 2 p) → o₃ ≡ sets o₂ 5 (run 2 ks) → o₄ ≡ sets o₃ (8 + 8 * length ks) (run 3 ps) → o₄ ≡ sets l 0 front
+  pub front-stored : {o₁ o₂ o₃ o₄ : List ℕ} → o₁ ≡ sets l 0 (head 1 2) → o₂ ≡ sets o₁ 3 (little 2 p) → o₃ ≡ sets o₂ 5 (run 2 ks) → o₄ ≡ sets o₃ (8 + 8 * length ks) (run 3 ps) → o₄ ≡ sets l 0 fronts
   front-stored e₁ e₂ e₃ e₄ = e₄ ∙ rw (e₃, e₂, e₁, degree-put) front-put
 
-  front-encode : (rational : Bool) (ws : List Float) → front ++ optional 4 (chosen rational ws) ≡ encode (tableFrom p ks ps rational ws)
-  unfolding front encode
-  front-encode rational ws = rw (append-assoc, append-assoc)
-
-  pub polynomial-put : (ws : List Float) → sets l 0 front ≡ sets l 0 (encode (tableFrom p ks ps false ws))
+  pub polynomial-put : (ws : List Float) → sets l 0 fronts ≡ sets l 0 (encode (tableFrom p ks ps false ws))
   unfolding optional
-  polynomial-put ws = ap (λ (x : List ℕ). sets l 0 x) (sym (append-nil front) ∙ front-encode false ws)
+  polynomial-put ws = ap (λ (x : List ℕ). sets l 0 x) (sym (append-nil fronts) ∙ front-encode (tableFrom p ks ps false ws))
 
-  pub rational-put : (ws : List Float) → sets (sets l 0 front) (8 + 8 * length ks + 3 + 8 * length ps) (run 4 ws) ≡ sets l 0 (encode (tableFrom p ks ps true ws))
+  pub rational-put : (ws : List Float) → sets (sets l 0 fronts) (8 + 8 * length ks + 3 + 8 * length ps) (run 4 ws) ≡ sets l 0 (encode (tableFrom p ks ps true ws))
   unfolding optional
-  rational-put ws = sets-next l front (run 4 ws) _ length-front ∙ ap (λ (x : List ℕ). sets l 0 x) (front-encode true ws)
+  rational-put ws = sets-next l fronts (run 4 ws) _ length-front ∙ ap (λ (x : List ℕ). sets l 0 x) (front-encode (tableFrom p ks ps true ws))
 
 -- ---- the answer
 

@@ -50,7 +50,7 @@ knots0 = 2 ∷ 0 ∷ 0 ∷ []
 abbrev points0 : List ℕ
 points0 = 3 ∷ 0 ∷ 0 ∷ []
 
-abbrev weights0 : List ℕ
+abbrev pub weights0 : List ℕ
 weights0 = 4 ∷ 0 ∷ 0 ∷ []
 
 abbrev empty : Option (List ℕ) → Table

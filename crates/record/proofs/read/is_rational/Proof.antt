@@ -6,7 +6,7 @@ use borrow.Author.Needs.{needs}
 use Rattle.record.proofs.read.is_rational.Statement.{statement}
 use Rattle.record.proofs.read.is_rational.Tie as tie
 
--- the answer may be spelt as a test of the field
+-- not needed as the code is: with it the answer may be spelt as a test of the field
 is-there : (b : Bool) → not (Bool·beq b false) ≡ b
 is-there true = refl
 is-there false = refl
