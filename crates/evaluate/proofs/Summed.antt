@@ -32,6 +32,17 @@ module _ (two : Bool) (ps : List Float) (g : Bool) (ws : List Float) (m : Float)
   unfolding rowTerm
   term-is j f o₀ o q w O Q W t e = e ∙ (ap₂ (λ (x y : Vector). termOf two x y w (f j)) O Q ∙ ap (λ (x : Float). termOf two o₀ (pointOf ps (b + j)) x (f j)) W)
 
+  -- a row's sums over no point, and over a point more
+  pub row-none : (f : ℕ → Float) → noSums ≡ rowSums two ps g ws m b f 0
+  unfolding rowSums
+  row-none f = sums-none noSums (rowTerm two ps g ws m (pointOf ps b) b f)
+
+  pub row-more : (j : ℕ) {o q : Vector} {w : Float} → o ≡ pointOf ps b → q ≡ pointOf ps (b + j) → w ≡ weightOf g ws m (b + j)
+      → (f : ℕ → Float) (s t r : Sums) → s ≡ rowSums two ps g ws m b f j → t ≡ termOf two o q w (f j) → r ≡ plus s t → r ≡ rowSums two ps g ws m b f (j + 1)
+  unfolding rowSums
+  row-more j {o} {q} {w} O Q W f s t r S T R =
+      sums-more noSums (rowTerm two ps g ws m (pointOf ps b) b f) j s t r S (term-is j f (pointOf ps b) o q w O Q W t T) R
+
   -- the sums depend only on the basis functions that they use
   pub row-cong : (f h : ℕ → Float) (n : ℕ) → ((j : ℕ) → j < n → f j ≡ h j) → rowSums two ps g ws m b f n ≡ rowSums two ps g ws m b h n
   unfolding rowSums rowTerm

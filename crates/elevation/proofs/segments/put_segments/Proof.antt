@@ -160,17 +160,6 @@ within c =
     (c .before .before .before .before .before .before .before .before .before .before .before .loop-test .taken) _
     (c .before .before .before .before .before .before .before .before .before .is-full .ensures)
 
-add-place-2 : tie.Need-add-place-2 Inv-loop μ-loop
-add-place-2 c =
-    let r = within c in
-    let b = c .bit-of .ensures in
-    let u = c .before .before .before .before .before .before .before .before .before .before .before .before .before .before .before .before .before .before .points .given in
-    let l = c .before .before .before .before .before .before .before .before .before .before .before .before .loop .inv .1 .going .long-points in
-    let s = c .before .before .before .before .before .before .before .before .before .before .before .before .before .before .before .before .before .before .before .before .before
-    .before .before .before .before .before in
-    let g = s .good in
-    let f = s .fits in search needs
-
 add-place-3 : tie.Need-add-place-3 Inv-loop μ-loop
 add-place-3 c =
     let r = within c in
@@ -181,6 +170,10 @@ add-place-3 c =
     .before .before .before .before .before in
     let g = s .good in
     let f = s .fits in search needs
+
+-- a part of that sum
+add-place-2 : tie.Need-add-place-2 Inv-loop μ-loop
+add-place-2 c = let h = add-place-3 c in search needs
 
 add-j : tie.Need-add-j Inv-loop μ-loop
 add-j c =

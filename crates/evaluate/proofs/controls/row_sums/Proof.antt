@@ -7,15 +7,14 @@ use native.Mathlib.Omega.{arith}
 use denote.Ref.{now}
 use lib.Ieee.{ofBits}
 use Rattle.basis.specs.Basis.{cell}
-use Rattle.evaluate.specs.Controls.{noSums, sumsFrom, rowTerm, rowSums}
-use Rattle.runs.specs.Point.{pointOf}
-use Rattle.evaluate.proofs.Summed.{sums-none, sums-more, term-is}
+use Rattle.evaluate.specs.Controls.{rowSums}
+use Rattle.evaluate.proofs.Summed.{row-none, row-more}
 use borrow.Author.Needs.{needs}
 use Rattle.evaluate.proofs.controls.row_sums.Statement.{statement}
 use Rattle.evaluate.proofs.controls.row_sums.Tie as tie
 
 abbrev Inv-loop : tie.InvT-loop
-Inv-loop k p first scale points rational weights ders o s₀ j₀ s j = (j ≤ p + 1) × (s ≡ sumsFrom noSums (rowTerm true points rational weights scale (pointOf points first) first (cell ders k)) j)
+Inv-loop k p first scale points rational weights ders o s₀ j₀ s j = (j ≤ p + 1) × (s ≡ rowSums true points rational weights scale first (cell ders k) j)
 
 abbrev μ-loop : tie.MeasureT-loop
 μ-loop k p first scale points rational weights ders o s₀ j₀ s j = p + 1 - j
@@ -27,7 +26,7 @@ loop-holds : tie.Need-loop-holds Inv-loop μ-loop
 unfolding ofBits
 loop-holds c =
     let a = c .before .before .before .args in
-    (omega arith, sums-none noSums (rowTerm true (now (a .points)) (a .rational) (now (a .weights)) (a .scale) (pointOf (now (a .points)) (a .first)) (a .first) (cell (now (a .ders)) (a .k))))
+    (omega arith, row-none true (now (a .points)) (a .rational) (now (a .weights)) (a .scale) (a .first) (cell (now (a .ders)) (a .k)))
 
 add-i : tie.Need-add-i Inv-loop μ-loop
 add-i c = search needs
@@ -66,27 +65,17 @@ loop-again : tie.Need-loop-again Inv-loop μ-loop
 loop-again c =
     let a = c .before .before .before .before .before .before .before .before .before .before .args in
     let l = c .before .before .before .before .before .before .loop in
-    let t =
-    term-is
-    true (now (a .points)) (a .rational) (now (a .weights)) (a .scale) (a .first) (l .j) (cell (now (a .ders)) (a .k)) (pointOf (now (a .points)) (a .first)) _ _ _
-    (c .before .before .before .before .before .before .before .point-at .ensures) (c .before .before .point-at2 .ensures) (c .before .before .before .weight-at .ensures) _
-    (c .before .term-of .ensures) in (
-      omega arith,
-      sums-more
-          noSums (rowTerm true (now (a .points)) (a .rational) (now (a .weights)) (a .scale) (pointOf (now (a .points)) (a .first)) (a .first) (cell (now (a .ders)) (a .k))) (l .j) (l .s) _ _
-          (l .inv .1) t (c .plus-of .ensures),
-    )
+    let more =
+    row-more true (now (a .points)) (a .rational) (now (a .weights)) (a .scale) (a .first) (l .j)
+    (c .before .before .before .before .before .before .before .point-at .ensures) (c .before .before .point-at2 .ensures) (c .before .before .before .weight-at .ensures) in
+    (omega arith, more (cell (now (a .ders)) (a .k)) (l .s) _ _ (l .inv .1) (c .before .term-of .ensures) (c .plus-of .ensures))
 
 returns : tie.Need-returns Inv-loop μ-loop
-unfolding rowSums
 returns c =
     let a = c .before .before .before .before .before .args in
     let l = c .before .loop in
     let e : l .j ≡ a .p + 1 = omega arith in
-    subst
-    (λ (i : ℕ). l .s ≡ sumsFrom noSums (rowTerm true (now (a .points)) (a .rational) (now (a .weights)) (a .scale) (pointOf (now (a .points)) (a .first)) (a .first)
-    (cell (now (a .ders)) (a .k))) i)
-    e (l .inv .1)
+    subst (λ (i : ℕ). l .s ≡ rowSums true (now (a .points)) (a .rational) (now (a .weights)) (a .scale) (a .first) (cell (now (a .ders)) (a .k)) i) e (l .inv .1)
 
 pub row-sums-spec : {M : Type 1} → statement M
 row-sums-spec =

@@ -7,18 +7,16 @@ use native.Mathlib.Omega.{arith}
 use denote.Ref.{now}
 use lib.Ieee.{ofBits}
 use Rattle.basis.specs.Basis.{cell}
-use Rattle.evaluate.specs.Controls.{noSums, sumsFrom, termOf, rowTerm, rowSums}
+use Rattle.evaluate.specs.Controls.{termOf, rowSums}
 use Rattle.doubles.specs.Run.{at}
-use Rattle.runs.specs.Point.{pointOf}
-use Rattle.evaluate.proofs.Summed.{sums-none, sums-more, term-is}
+use Rattle.evaluate.proofs.Summed.{row-none, row-more}
 use borrow.Author.Needs.{needs}
 use Rattle.evaluate.proofs.controls.value_and_slope.Statement.{statement}
 use Rattle.evaluate.proofs.controls.value_and_slope.Tie as tie
 
 abbrev Inv-loop : tie.InvT-loop
 Inv-loop p first scale points rational weights ders o value₀ slope₀ j₀ value slope j = (j ≤ p + 1) ×
-    (value ≡ sumsFrom noSums (rowTerm false points rational weights scale (pointOf points first) first (cell ders 0)) j) ×
-    (slope ≡ sumsFrom noSums (rowTerm false points rational weights scale (pointOf points first) first (cell ders 1)) j)
+    (value ≡ rowSums false points rational weights scale first (cell ders 0) j) × (slope ≡ rowSums false points rational weights scale first (cell ders 1) j)
 
 abbrev μ-loop : tie.MeasureT-loop
 μ-loop p first scale points rational weights ders o value₀ slope₀ j₀ value slope j = p + 1 - j
@@ -28,13 +26,10 @@ point-at-requires c κs = search needs
 
 loop-holds : tie.Need-loop-holds Inv-loop μ-loop
 unfolding ofBits
-loop-holds c = let a = c .before .before .before .args in (
-  omega arith,
-  sums-none noSums (rowTerm false (now (a .points)) (a .rational) (now (a .weights)) (a .scale) (pointOf (now (a .points)) (a .first)) (a .first)
-      (cell (now (a .ders)) 0)),
-  sums-none noSums (rowTerm false (now (a .points)) (a .rational) (now (a .weights)) (a .scale) (pointOf (now (a .points)) (a .first)) (a .first)
-      (cell (now (a .ders)) 1)),
-)
+loop-holds c =
+    let a = c .before .before .before .args in
+    let none = row-none false (now (a .points)) (a .rational) (now (a .weights)) (a .scale) (a .first) in
+    (omega arith, none (cell (now (a .ders)) 0), none (cell (now (a .ders)) 1))
 
 add-i : tie.Need-add-i Inv-loop μ-loop
 add-i c = search needs
@@ -81,31 +76,27 @@ loop-less c = search needs
 
 loop-again : tie.Need-loop-again Inv-loop μ-loop
 loop-again c =
-    let b = c .before .before .before .before .before .before .before .before .before .before .point-at in
+    let o = c .before .before .before .before .before .before .before .before .before .before .point-at in
     let a = c .before .before .before .before .before .before .before .before .before .before .before .before .before .args in
-    let l = c .before .before .before .before .before .before .before .before .before .loop in let z : l .j ≡ 0 + l .j = omega arith in (
+    let l = c .before .before .before .before .before .before .before .before .before .loop in
+    let w = c .before .before .before .before .before .weight-at in
+    let q = c .before .before .before .before .point-at2 in
+    let t = c .before .before .before .term-of in
+    let more = row-more false (now (a .points)) (a .rational) (now (a .weights)) (a .scale) (a .first) (l .j) (o .ensures) (q .ensures) (w .ensures) in
+    let first : l .j ≡ 0 + l .j = omega arith in
+    let term = subst (λ (i : ℕ). t .result ≡ termOf false (o .result) (q .result) (w .result) (at (now (a .ders)) i)) first (t .ensures) in (
       omega (arith, c .before .before .before .before .before .before .before .before .loop-test .taken),
-      sums-more noSums (rowTerm false (now (a .points)) (a .rational) (now (a .weights)) (a .scale) (pointOf (now (a .points)) (a .first)) (a .first)
-          (cell (now (a .ders)) 0)) (l .j) (l .value) _ _ (l .inv .1)
-          (term-is false (now (a .points)) (a .rational) (now (a .weights)) (a .scale) (a .first) (l .j) (cell (now (a .ders)) 0) (pointOf (now (a .points)) (a .first)) _ _ _ (b .ensures)
-          (c .before .before .before .before .point-at2 .ensures) (c .before .before .before .before .before .weight-at .ensures) _
-          (subst (λ (i : ℕ). c .before .before .before .term-of .result ≡ termOf false (b .result) (c .before .before .before .before .point-at2 .result)
-          (c .before .before .before .before .before .weight-at .result) (at (now (a .ders)) i)) z (c .before .before .before .term-of .ensures))) (c .before .before .plus-of .ensures),
-      sums-more noSums (rowTerm false (now (a .points)) (a .rational) (now (a .weights)) (a .scale) (pointOf (now (a .points)) (a .first)) (a .first) (cell (now (a .ders)) 1)) (l .j)
-          (l .slope) _ _ (l .inv .2) (term-is false (now (a .points)) (a .rational) (now (a .weights)) (a .scale) (a .first) (l .j) (cell (now (a .ders)) 1)
-          (pointOf (now (a .points)) (a .first)) _ _ _ (b .ensures) (c .before .before .before .before .point-at2 .ensures) (c .before .before .before .before .before .weight-at .ensures) _
-          (c .before .term-of2 .ensures)) (c .plus-of2 .ensures),
+      more (cell (now (a .ders)) 0) (l .value) _ _ (l .inv .1) term (c .before .before .plus-of .ensures),
+      more (cell (now (a .ders)) 1) (l .slope) _ _ (l .inv .2) (c .before .term-of2 .ensures) (c .plus-of2 .ensures),
     )
 
 returns : tie.Need-returns Inv-loop μ-loop
-unfolding rowSums
-returns c = let a = c .before .before .before .before .before .args in let l = c .before .loop in let e : l .j ≡ a .p + 1 = omega arith in (
-  subst (λ (i : ℕ). l .value ≡ sumsFrom noSums (rowTerm false (now (a .points)) (a .rational) (now (a .weights)) (a .scale) (pointOf (now (a .points)) (a .first)) (a .first)
-      (cell (now (a .ders)) 0)) i) e (l .inv .1),
-  subst
-      (λ (i : ℕ). l .slope ≡ sumsFrom noSums (rowTerm false (now (a .points)) (a .rational) (now (a .weights)) (a .scale) (pointOf (now (a .points)) (a .first)) (a .first)
-      (cell (now (a .ders)) 1)) i) e (l .inv .2),
-)
+returns c =
+    let a = c .before .before .before .before .before .args in
+    let l = c .before .loop in
+    let e : l .j ≡ a .p + 1 = omega arith in
+    let row = rowSums false (now (a .points)) (a .rational) (now (a .weights)) (a .scale) (a .first) in
+    (subst (λ (i : ℕ). l .value ≡ row (cell (now (a .ders)) 0) i) e (l .inv .1), subst (λ (i : ℕ). l .slope ≡ row (cell (now (a .ders)) 1) i) e (l .inv .2))
 
 pub value-and-slope-spec : {M : Type 1} → statement M
 value-and-slope-spec =
