@@ -12,7 +12,7 @@ use lib.Ieee.{Float}
 use lib.Ieee.Scale.{finite}
 use borrow.Author.Tests.{eqb-true, ltb-false, le-ltb, eq-eqb, ne-eqb, not-false}
 use Rattle.doubles.specs.Run.{at}
-use Rattle.knots.specs.Refusal.{refuse, accepted, orElse, point-not-finite, weight-count, weight-bad, length-bad, points-uneven}
+use Rattle.knots.specs.Refusal.{refuse, accepted, placed, orElse, point-not-finite, weight-count, weight-bad, length-bad, points-uneven}
 use Rattle.knots.specs.Knots.{allFinite, knotRefusal, ValidKnots}
 use Rattle.knots.specs.Curve.{longest, overLong, anyLong, isWeight, allWeights, controlRefusal, countOf, formedRefusal, curveRefusal, Short, ValidControls, ValidCurve}
 use Rattle.knots.proofs.Below.{all-at, all-in}
@@ -65,9 +65,9 @@ module _ (n : ℕ) (ps : List Float) (g : Bool) (ws : List Float) where
   pub valid-controls : controlRefusal n ps g ws .number ≡ 0 → ValidControls n ps g ws
   unfolding controlRefusal allFinite allWeights
   valid-controls h =
-      let a = passed (not (allFinite ps)) (refuse point-not-finite) _ (λ e. omega arith) h in
+      let a = passed (not (allFinite ps)) (placed _ (refuse point-not-finite)) _ (λ e. omega arith) h in
       let b = passed (g && not (eqb (length ws) n)) (refuse weight-count) _ (λ e. omega arith) (a .1) in
-      let c = passed (g && not (allWeights ws)) (refuse weight-bad) accepted (λ e. omega arith) (b .1) in
+      let c = passed (g && not (allWeights ws)) (placed _ (refuse weight-bad)) accepted (λ e. omega arith) (b .1) in
       record {
         coordinates = all-at (λ k. finite (at ps k)) (length ps) (not-false _ (a .0));
         weights = λ e. eqb-true (length ws) n (given g (eqb (length ws) n) (b .0) e);
@@ -120,7 +120,7 @@ module _ (p : ℕ) (ks ps : List Float) (g : Bool) (ws : List Float) where
 -- ---- weights that are given, and are none: 9 behind all that refuses the curve without weights
 controls-empty : (n : ℕ) (ps : List Float) → 0 < n → controlRefusal n ps true [] ≡ orElse (controlRefusal n ps false []) (refuse weight-count)
 unfolding controlRefusal
-controls-empty n ps h = row-first (not (allFinite ps)) (refuse point-not-finite) _ _ (refuse weight-count) (λ e. omega arith) (rw (ne-eqb 0 n (λ e. omega arith)))
+controls-empty n ps h = row-first (not (allFinite ps)) (placed _ (refuse point-not-finite)) _ _ (refuse weight-count) (λ e. omega arith) (rw (ne-eqb 0 n (λ e. omega arith)))
 
 pub empty-weights : (p : ℕ) (ks ps : List Float) → curveRefusal p ks ps true [] ≡ orElse (curveRefusal p ks ps false []) (refuse weight-count)
 unfolding curveRefusal formedRefusal anyLong overLong

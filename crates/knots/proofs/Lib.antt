@@ -4,7 +4,9 @@ pub mod Products
 pub mod Classes
 pub mod Refusals
 pub mod Valid
+pub mod FirstPlace
 pub mod Curves
+pub mod ByNumber
 pub mod Shapes
 pub mod Surfaces
 pub mod Fractions

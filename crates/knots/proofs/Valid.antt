@@ -13,11 +13,25 @@ use lib.Ieee.{Float, binary64, sub, lt, le}
 use lib.Ieee.Scale.{finite}
 use borrow.Author.Tests.{eqb-true, eqb-false, leb-false, eq-eqb, ne-eqb, lt-leb, not-true, not-false}
 use Rattle.doubles.specs.Run.{at}
-use Rattle.knots.specs.Refusal.{refuse, accepted, degree-zero, few-points, knot-count, knots-unordered, domain-empty, domain-wide, knot-repeated}
+use Rattle.knots.specs.Refusal.{refuse, accepted, placed, degree-zero, few-points, knot-count, knots-unordered, domain-empty, domain-wide, knot-repeated}
 use Rattle.knots.specs.Knots.{allFinite, inOrder, ordered, apart, orderRefusal, knotRefusal, ValidKnots}
 use Rattle.knots.proofs.Below.{all-at, all-in, and-true, and-left, and-right}
 use Rattle.doubles.proofs.TestedOrder.{le-is, ge-trans, lt-irrefl}
 use Rattle.knots.proofs.Refusals.{passed}
+
+-- ---- finite numbers in order: a later one is not below an earlier one
+module _ (ks : List Float) (F : (k : ℕ) → k < length ks → finite (at ks k) ≡ true) (R : (k : ℕ) → k + 1 < length ks → lt (at ks (k + 1)) (at ks k) ≡ false) where
+  later : (i d : ℕ) → i + d < length ks → lt (at ks (i + d)) (at ks i) ≡ false
+  later i zero l = rw add-zero (lt-irrefl (at ks i))
+  later i (suc d) l =
+      let step : lt (at ks (i + suc d)) (at ks (i + d)) ≡ false =
+      subst (λ (m : ℕ). lt (at ks m) (at ks (i + d)) ≡ false) (add-one (i + d) ∙ sym (add-suc i d)) (R (i + d) (omega arith)) in
+      ge-trans (at ks (i + suc d)) (at ks (i + d)) (at ks i) (F _ (omega arith)) step (later i d (omega arith))
+
+  pub sorted-run : (i j : ℕ) → i ≤ j → j < length ks → lt (at ks j) (at ks i) ≡ false
+  sorted-run i j h l =
+      let e : i + (j - i) ≡ j = omega arith in
+      subst (λ (m : ℕ). lt (at ks m) (at ks i) ≡ false) e (later i (j - i) (omega arith))
 
 module _ (p n : ℕ) (ks : List Float) where
   pub valid : knotRefusal p n ks .number ≡ 0 → ValidKnots p n ks
@@ -26,10 +40,10 @@ module _ (p n : ℕ) (ks : List Float) where
       let a = passed (eqb p 0) (refuse degree-zero) _ (λ e. omega arith) h in
       let b = passed (leb n p) (refuse few-points) _ (λ e. omega arith) (a .1) in
       let c = passed (not (eqb (length ks) (n + p + 1))) (refuse knot-count) _ (λ e. omega arith) (b .1) in
-      let d = passed (not (ordered ks)) (refuse knots-unordered) _ (λ e. omega arith) (c .1) in
+      let d = passed (not (ordered ks)) (placed _ (refuse knots-unordered)) _ (λ e. omega arith) (c .1) in
       let e = passed (le (at ks n) (at ks p)) (refuse domain-empty) _ (λ e. omega arith) (d .1) in
       let f = passed (not (finite (sub binary64 (at ks n) (at ks p)))) (refuse domain-wide) _ (λ e. omega arith) (e .1) in
-      let g = passed (not (apart (p + 1) ks)) (refuse knot-repeated) accepted (λ e. omega arith) (f .1) in
+      let g = passed (not (apart (p + 1) ks)) (placed _ (refuse knot-repeated)) accepted (λ e. omega arith) (f .1) in
       let both = not-false (ordered ks) (d .0) in
       let fins = all-at (λ k. finite (at ks k)) (length ks) (and-left (allFinite ks) (inOrder ks) both) in
       let ups = all-at (λ k. not (lt (at ks (k + 1)) (at ks k))) (length ks - 1) (and-right (allFinite ks) (inOrder ks) both) in
@@ -78,15 +92,5 @@ module _ (p n : ℕ) (ks : List Float) where
           is-apart,
         )
 
-    -- a later knot is not below an earlier one
-    pub later : (i d : ℕ) → i + d < length ks → lt (at ks (i + d)) (at ks i) ≡ false
-    later i zero l = rw add-zero (lt-irrefl (at ks i))
-    later i (suc d) l =
-        let step : lt (at ks (i + suc d)) (at ks (i + d)) ≡ false =
-        subst (λ (m : ℕ). lt (at ks m) (at ks (i + d)) ≡ false) (add-one (i + d) ∙ sym (add-suc i d)) (v .rises (i + d) (omega arith)) in
-        ge-trans (at ks (i + suc d)) (at ks (i + d)) (at ks i) (v .finites _ (omega arith)) step (later i d (omega arith))
-
     pub sorted : (i j : ℕ) → i ≤ j → j < length ks → lt (at ks j) (at ks i) ≡ false
-    sorted i j h l =
-        let e : i + (j - i) ≡ j = omega arith in
-        subst (λ (m : ℕ). lt (at ks m) (at ks i) ≡ false) e (later i (j - i) (omega arith))
+    sorted = sorted-run ks (v .finites) (v .rises)

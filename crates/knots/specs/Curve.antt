@@ -11,9 +11,9 @@ use lib.Ieee.{Float, lt}
 use lib.Ieee.Scale.{finite}
 use Rattle.doubles.specs.Run.{at}
 use Rattle.doubles.specs.Value.{zero+}
-use Rattle.knots.specs.Below.{allBelow}
-use Rattle.knots.specs.Refusal.{refuse, accepted, orElse, point-not-finite, weight-count, weight-bad, length-bad, points-uneven}
-use Rattle.knots.specs.Knots.{allFinite, knotRefusal, ValidKnots}
+use Rattle.knots.specs.Below.{allBelow, offAt}
+use Rattle.knots.specs.Refusal.{refuse, accepted, placed, orElse, point-not-finite, weight-count, weight-bad, length-bad, points-uneven}
+use Rattle.knots.specs.Knots.{allFinite, nonFiniteAt, knotRefusal, ValidKnots}
 use Rattle.knots.specs.declared.refusal.Refusal.{Refusal}
 
 -- the most numbers that a run may have
@@ -31,19 +31,26 @@ anyLong ks ps g ws = overLong true ks || (overLong true ps || overLong g ws)
 unfoldable pub isWeight : Float → Bool
 isWeight x = finite x && lt zero+ x
 
+abbrev pub isWeightAt : List Float → ℕ → Bool
+isWeightAt xs k = isWeight (at xs k)
+
 unfoldable pub allWeights : List Float → Bool
-allWeights xs = allBelow (λ k. isWeight (at xs k)) (length xs)
+allWeights xs = allBelow (isWeightAt xs) (length xs)
+
+-- the first number that is no weight
+abbrev pub badWeightAt : List Float → ℕ
+badWeightAt xs = offAt (isWeightAt xs) (length xs)
 
 -- how many points a run of coordinates has
 abbrev pub countOf : List Float → ℕ
 countOf ps = length ps / 3
 
--- 8 to 10 of n points and their weights
+-- 8 to 10 of n points and their weights; 8 says the point of the first coordinate that is not finite
 unfoldable pub controlRefusal : ℕ → List Float → Bool → List Float → Refusal
 controlRefusal n ps g ws =
-    cond (not (allFinite ps)) (refuse point-not-finite)
+    cond (not (allFinite ps)) (placed (nonFiniteAt ps / 3) (refuse point-not-finite))
     (cond (g && not (eqb (length ws) n)) (refuse weight-count)
-    (cond (g && not (allWeights ws)) (refuse weight-bad) accepted))
+    (cond (g && not (allWeights ws)) (placed (badWeightAt ws) (refuse weight-bad)) accepted))
 
 -- 1 to 10 of a curve of n points
 unfoldable pub formedRefusal : ℕ → ℕ → List Float → List Float → Bool → List Float → Refusal

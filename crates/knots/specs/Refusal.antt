@@ -7,39 +7,12 @@ use lib.Dec.{eqb}
 use Rattle.knots.specs.declared.refusal.Refusal.{Refusal}
 
 pub data Reason : Type 0 where
-  degree-zero : Reason
-  few-points : Reason
-  knot-count : Reason
-  knots-unordered : Reason
-  domain-empty : Reason
-  domain-wide : Reason
-  knot-repeated : Reason
-  point-not-finite : Reason
-  weight-count : Reason
-  weight-bad : Reason
-  net-size : Reason
-  parameter-not-finite : Reason
-  knot-outside : Reason
-  knot-full : Reason
-  trim-bad : Reason
-  degree-lowered : Reason
-  ends-unclamped : Reason
-  elevation-high : Reason
-  control-bad : Reason
-  edit-bad : Reason
-  second-not-finite : Reason
-  iso-outside : Reason
-  iso-weight-bad : Reason
-  range-bad : Reason
-  range-in-no-span : Reason
-  denominator-zero : Reason
-  weight-ratio-low : Reason
-  quotient-none : Reason
-  weights-apart : Reason
-  length-bad : Reason
-  degree-high : Reason
-  points-uneven : Reason
-  record-malformed : Reason
+  degree-zero few-points knot-count knots-unordered domain-empty domain-wide knot-repeated : Reason
+  point-not-finite weight-count weight-bad net-size parameter-not-finite : Reason
+  knot-outside knot-full trim-bad degree-lowered ends-unclamped elevation-high control-bad edit-bad : Reason
+  second-not-finite iso-outside iso-weight-bad : Reason
+  range-bad range-in-no-span denominator-zero weight-ratio-low quotient-none weights-apart : Reason
+  length-bad degree-high points-uneven record-malformed : Reason
 
 -- the classes: invalid, degenerate, unimplemented, capacity, internal; and none, of a number that is no refusal
 abbrev pub I : ℕ
@@ -113,9 +86,9 @@ unfoldable pub classOf : ℕ → ℕ
 classOf n = classIn reasons n
 
 -- ---- what a call answers
--- a refusal by its number, of no direction
+-- a refusal by its number, of no direction and no place
 abbrev pub numbered : ℕ → Refusal
-numbered n = record { number = n; direction = 2 }
+numbered n = record { number = n; direction = 2; place = 0 }
 
 abbrev pub refuse : Reason → Refusal
 refuse r = numbered (row r .0)
@@ -124,9 +97,13 @@ refuse r = numbered (row r .0)
 abbrev pub accepted : Refusal
 accepted = numbered 0
 
+-- the same refusal, with the place of what it is for: of 4 and 7 a knot, of 8 a point, of 10 a weight
+abbrev pub placed : ℕ → Refusal → Refusal
+placed k r = record { number = r .number; direction = r .direction; place = k }
+
 -- the same refusal, of a direction: u 0, v 1
 abbrev pub along : ℕ → Refusal → Refusal
-along d r = record { number = r .number; direction = d }
+along d r = record { number = r .number; direction = d; place = r .place }
 
 -- the first of two refusals
 abbrev pub orElse : Refusal → Refusal → Refusal

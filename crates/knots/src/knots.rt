@@ -1,15 +1,18 @@
 // Validation of a knot run: refusals 1 to 7.
 use crate::limits::is_sum;
 use crate::numbers::all_fine;
+use crate::numbers::is_below;
+use crate::places::repeated_at;
+use crate::places::unordered_at;
 use crate::refusal::Refusal;
 use crate::refusal::refuse;
+use crate::refusal::refuse_at;
 use interval::float::is_finite;
 ghost use mathlib.Core.Path.{_≡_};
-ghost use mathlib.Core.Bool.{not};
 ghost use Prim.Native.Nat.{_+_, _≤_};
 ghost use lib.ListN.{length};
-ghost use lib.Ieee.{le};
 ghost use Rattle.knots.specs.Knots.{allFinite, inOrder, ordered, apart, orderRefusal, knotRefusal};
+ghost use Rattle.knots.specs.Placed.{knotPlaced};
 
 // No number of the run is a NaN or an infinity.
 pub fn all_finite(xs: &[f64]) -> bool
@@ -43,13 +46,6 @@ pub fn is_ordered(xs: &[f64]) -> bool
     if all_finite(xs) { in_order(xs) } else { false }
 }
 
-// a is not at least b, as numbers: -0.0 and 0.0 are one knot. True where one is a NaN.
-fn is_below(a: f64, b: f64) -> bool
-    ensures { λ r. ⌜ r ≡ not (le b a) ⌝ }
-{
-    !(a >= b)
-}
-
 // What refusal 7 asks, with a gap of degree + 1: of two knots so far apart the earlier is below the later.
 fn apart_by(xs: &[f64], gap: usize) -> bool
     requires { ⌜ gap ≤ length (now xs) ⌝ }
@@ -65,41 +61,65 @@ fn apart_by(xs: &[f64], gap: usize) -> bool
     fine
 }
 
-// Refusals 4 to 7, of a run that is as long as it must be.
-fn order_refusal(degree: usize, count: usize, knots: &[f64]) -> Refusal
+// The number 4 to 7, of a run that is as long as it must be, or 0.
+fn order_number(degree: usize, count: usize, knots: &[f64]) -> u32
     requires { ⌜ length (now knots) ≡ count + degree + 1 ⌝ }
-    ensures { λ r. ⌜ r ≡ orderRefusal degree count (now (knots .entry)) ⌝ }
+    ensures { λ r. ⌜ r ≡ orderRefusal degree count (now (knots .entry)) .number ⌝ }
 {
     let ordered = is_ordered(knots);
     let lo = knots[degree];
     let hi = knots[count];
     if !ordered {
-        return refuse(4);
+        return 4;
     }
     if lo >= hi {
-        return refuse(5);
+        return 5;
     }
     if !is_finite(hi - lo) {
-        return refuse(6);
+        return 6;
     }
     if !apart_by(knots, degree + 1) {
-        return refuse(7);
+        return 7;
     }
-    refuse(0)
+    0
+}
+
+// The number of a knot run's refusal, for any degree and count, or 0. It is found without its place, so that a valid run pays nothing for that.
+pub fn knot_number(degree: usize, count: usize, knots: &[f64]) -> u32
+    ensures { λ r. ⌜ r ≡ knotRefusal degree count (now (knots .entry)) .number ⌝ }
+{
+    if degree == 0 {
+        return 1;
+    }
+    if count <= degree {
+        return 2;
+    }
+    if !is_sum(knots.len(), count, degree) {
+        return 3;
+    }
+    order_number(degree, count, knots)
+}
+
+// The refusal of a knot run by its number, with the place of 4 and 7.
+pub fn knot_placed(number: u32, degree: usize, knots: &[f64]) -> Refusal
+    ensures { λ r. ⌜ r ≡ knotPlaced number degree (now (knots .entry)) ⌝ }
+{
+    if number == 4 {
+        return refuse_at(4, unordered_at(knots));
+    }
+    if number == 7 {
+        return refuse_at(7, repeated_at(knots, degree));
+    }
+    refuse(number)
 }
 
 // The refusal of a knot run, for any degree and count.
 pub fn knot_refusal(degree: usize, count: usize, knots: &[f64]) -> Refusal
     ensures { λ r. ⌜ r ≡ knotRefusal degree count (now (knots .entry)) ⌝ }
 {
-    if degree == 0 {
-        return refuse(1);
+    let number = knot_number(degree, count, knots);
+    if number == 0 {
+        return refuse(0);
     }
-    if count <= degree {
-        return refuse(2);
-    }
-    if !is_sum(knots.len(), count, degree) {
-        return refuse(3);
-    }
-    order_refusal(degree, count, knots)
+    knot_placed(number, degree, knots)
 }

@@ -4,6 +4,7 @@ pub mod curve;
 pub mod knots;
 pub mod limits;
 mod numbers;
+pub mod places;
 pub mod refusal;
 pub mod shape;
 pub mod span;

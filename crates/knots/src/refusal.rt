@@ -1,20 +1,33 @@
 // A refusal, its class, and how one is made. Every call of every crate answers this one type.
 ghost use mathlib.Core.Path.{_≡_};
-ghost use Rattle.knots.specs.Refusal.{numbered, along, classOf};
+ghost use Rattle.knots.specs.Refusal.{numbered, placed, along, classOf};
 
-// The number in the table of refusals, 0 for none; and the direction of 1 to 7 of a surface: 0 for u, 1 for v, else 2.
+// The number in the table of refusals, 0 for none; the direction of 1 to 7 of a surface: 0 for u, 1 for v, else 2; and the place of 4, 7, 8 and 10, else 0.
 pub struct Refusal {
     pub number: u32,
     pub direction: u32,
+    pub place: usize,
 }
 
-// A refusal with no direction.
+// A refusal with no direction and no place.
 pub fn refuse(number: u32) -> Refusal
     ensures { λ r. ⌜ r ≡ numbered number ⌝ }
 {
     Refusal {
         number,
         direction: 2,
+        place: 0,
+    }
+}
+
+// A refusal with the place of what it is for: of 4 and 7 a knot, of 8 a point, of 10 a weight.
+pub fn refuse_at(number: u32, place: usize) -> Refusal
+    ensures { λ r. ⌜ r ≡ placed place (numbered number) ⌝ }
+{
+    Refusal {
+        number,
+        direction: 2,
+        place,
     }
 }
 
@@ -25,6 +38,7 @@ pub fn refuse_along(direction: u32, refusal: Refusal) -> Refusal
     Refusal {
         number: refusal.number,
         direction,
+        place: refusal.place,
     }
 }
 

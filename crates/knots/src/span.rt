@@ -1,8 +1,8 @@
 // The span of a parameter.
-use crate::knots::knot_refusal;
+use crate::knots::knot_number;
+use crate::knots::knot_placed;
 use crate::limits::over_long;
 use crate::refusal::Refusal;
-use crate::refusal::refuse;
 use interval::float::is_finite;
 ghost use mathlib.Core.Path.{_≡_};
 ghost use Prim.Native.Nat.{_-_, _<_};
@@ -86,30 +86,30 @@ pub fn span_of(degree: usize, count: usize, u: f64, knots: &[f64]) -> usize
     last_span(degree, count, knots)
 }
 
-// The refusals of find_span: 30, 1 to 7, 12, in this order.
-fn span_refusal(degree: usize, count: usize, knots: &[f64], u: f64) -> Refusal
-    ensures { λ r. ⌜ r ≡ spanRefusal degree count (now (knots .entry)) u ⌝ }
+// The number by which find_span refuses: 30, 1 to 7, 12, in this order, or 0.
+fn span_number(degree: usize, count: usize, knots: &[f64], u: f64) -> u32
+    ensures { λ r. ⌜ r ≡ spanRefusal degree count (now (knots .entry)) u .number ⌝ }
 {
     if over_long(true, knots) {
-        return refuse(30);
+        return 30;
     }
-    let refusal = knot_refusal(degree, count, knots);
-    if refusal.number != 0 {
-        return refusal;
+    let number = knot_number(degree, count, knots);
+    if number != 0 {
+        return number;
     }
     if !is_finite(u) {
-        return refuse(12);
+        return 12;
     }
-    refuse(0)
+    0
 }
 
 // The span of a parameter, for any input. A parameter outside the domain becomes the nearer end.
 pub fn find_span(degree: usize, count: usize, knots: &[f64], u: f64) -> SpanAnswer
     ensures { λ r. ⌜ SpanMeets degree count (now (knots .entry)) u r ⌝ }
 {
-    let refusal = span_refusal(degree, count, knots, u);
-    if refusal.number != 0 {
-        return SpanAnswer::Refused(refusal);
+    let number = span_number(degree, count, knots, u);
+    if number != 0 {
+        return SpanAnswer::Refused(knot_placed(number, degree, knots));
     }
     SpanAnswer::Span(span_of(degree, count, u, knots))
 }

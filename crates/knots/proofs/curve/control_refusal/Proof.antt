@@ -1,87 +1,40 @@
--- `knots::curve::control_refusal` meets its contract: each return is a row of the table, the tests before it are the rows above that did not apply.
+-- `knots::curve::control_refusal` meets its contract.
 -- Assumes nothing.
-use mathlib.Core.Path.{sym, _∙_}
-use borrow.Author.Tests.{eq-eqb, ne-eqb, not-true, not-false}
+use Prim.Native.Nat.{ℕ}
+use mathlib.Core.Path.{sym, _∙_, ap}
+use denote.Ref.{now}
+use Rattle.knots.specs.Placed.{controlPlaced}
+use Rattle.knots.proofs.Curves.{valid-controls, controls-not-refused}
+use Rattle.knots.proofs.ByNumber.{control-told}
 use borrow.Author.Needs.{needs}
-use Rattle.knots.specs.Curve.{controlRefusal}
 use Rattle.knots.proofs.curve.control_refusal.Statement.{statement}
 use Rattle.knots.proofs.curve.control_refusal.Tie as tie
 
-all-finite-requires : tie.Need-all-finite-requires
-all-finite-requires c κs = search needs
+control-number-requires : tie.Need-control-number-requires
+control-number-requires c κs = search needs
 
 refuse-requires : tie.Need-refuse-requires
 refuse-requires c κs = search needs
 
 returns : tie.Need-returns
-unfolding controlRefusal
-returns c = c .refuse .ensures ∙ simp (sym (c .before .before .all-finite .ensures) ∙ not-true _ (c .before .if1 .taken))
+returns c =
+    let a = c .before .before .before .before .before .args in
+    let ps = now (a .points) in
+    let ws = now (a .weights) in
+    let none = sym (c .before .before .control-number .ensures) ∙ c .before .if1 .taken in
+    c .refuse .ensures ∙ sym (controls-not-refused (a .count) ps (a .rational) ws (valid-controls (a .count) ps (a .rational) ws none))
 
-refuse-requires-2 : tie.Need-refuse-requires-2
-refuse-requires-2 c κs = search needs
+control-placed-requires : tie.Need-control-placed-requires
+control-placed-requires c κs = search needs
 
 returns-2 : tie.Need-returns-2
-unfolding controlRefusal
 returns-2 c =
-    c .refuse2 .ensures ∙ simp (
-      sym (c .before .before .before .all-finite .ensures) ∙ not-false _ (c .before .before .if1 .left),
-      not-true (c .before .before .before .before .before .before .args .rational) (c .before .if2 .taken),
-    )
-
-refuse-requires-3 : tie.Need-refuse-requires-3
-refuse-requires-3 c κs = search needs
-
-returns-3 : tie.Need-returns-3
-unfolding controlRefusal
-returns-3 c =
-    c .refuse3 .ensures ∙ simp (
-      sym (c .before .before .before .before .all-finite .ensures) ∙ not-false _ (c .before .before .before .if1 .left),
-      not-false (c .before .before .before .before .before .before .before .args .rational) (c .before .before .if2 .left),
-      ne-eqb _ _ (c .before .if3 .taken),
-    )
-
-all-weights-requires : tie.Need-all-weights-requires
-all-weights-requires c κs = search needs
-
-refuse-requires-4 : tie.Need-refuse-requires-4
-refuse-requires-4 c κs = search needs
-
-returns-4 : tie.Need-returns-4
-unfolding controlRefusal
-returns-4 c =
-    c .refuse4 .ensures ∙ simp (
-      sym (c .before .before .before .before .before .before .all-finite .ensures) ∙ not-false _ (c .before .before .before .before .before .if1 .left),
-      not-false (c .before .before .before .before .before .before .before .before .before .args .rational) (c .before .before .before .before .if2 .left),
-      eq-eqb _ _ (c .before .before .before .if3 .left),
-      sym (c .before .before .all-weights .ensures) ∙ not-true _ (c .before .if4 .taken),
-    )
-
-refuse-requires-5 : tie.Need-refuse-requires-5
-refuse-requires-5 c κs = search needs
-
-returns-5 : tie.Need-returns-5
-unfolding controlRefusal
-returns-5 c =
-    c .refuse5 .ensures ∙ simp (
-      sym (c .before .before .before .before .before .before .all-finite .ensures) ∙ not-false _ (c .before .before .before .before .before .if1 .left),
-      not-false (c .before .before .before .before .before .before .before .before .before .args .rational) (c .before .before .before .before .if2 .left),
-      eq-eqb _ _ (c .before .before .before .if3 .left),
-      sym (c .before .before .all-weights .ensures) ∙ not-false _ (c .before .if4 .left),
-    )
+    let a = c .before .before .before .before .before .args in
+    let ps = now (a .points) in
+    let ws = now (a .weights) in
+    c .control-placed .ensures ∙ (ap (λ (k : ℕ). controlPlaced k ps ws) (c .before .before .control-number .ensures) ∙ control-told (a .count) ps (a .rational) ws)
 
 pub control-refusal-spec : {M : Type 1} → statement M
 control-refusal-spec =
     tie.close
-    (tie.spec
-    all-finite-requires
-    refuse-requires
-    returns
-    refuse-requires-2
-    returns-2
-    refuse-requires-3
-    returns-3
-    all-weights-requires
-    refuse-requires-4
-    returns-4
-    refuse-requires-5
-    returns-5)
+    (tie.spec control-number-requires refuse-requires returns control-placed-requires returns-2)

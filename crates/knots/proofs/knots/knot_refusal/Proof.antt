@@ -1,63 +1,38 @@
--- `knots::knots::knot_refusal` meets its contract: each return is a row of the table, the tests before it are the rows above that did not apply.
+-- `knots::knots::knot_refusal` meets its contract.
 -- Assumes nothing.
-use mathlib.Core.Path.{sym, _∙_}
-use borrow.Author.Tests.{eq-eqb, ne-eqb, le-leb, lt-leb, not-true, not-false, eqb-true}
+use Prim.Native.Nat.{ℕ}
+use mathlib.Core.Path.{sym, _∙_, ap}
+use denote.Ref.{now}
+use Rattle.knots.specs.Placed.{knotPlaced}
+use Rattle.knots.proofs.Valid.{valid, not-refused}
+use Rattle.knots.proofs.ByNumber.{knot-told}
 use borrow.Author.Needs.{needs}
-use Rattle.knots.specs.Knots.{knotRefusal}
 use Rattle.knots.proofs.knots.knot_refusal.Statement.{statement}
 use Rattle.knots.proofs.knots.knot_refusal.Tie as tie
+
+knot-number-requires : tie.Need-knot-number-requires
+knot-number-requires c κs = search needs
 
 refuse-requires : tie.Need-refuse-requires
 refuse-requires c κs = search needs
 
 returns : tie.Need-returns
-unfolding knotRefusal
-returns c = c .refuse .ensures ∙ simp (eq-eqb _ 0 (c .before .if1 .taken))
+returns c =
+    let a = c .before .before .before .before .args in
+    let none = sym (c .before .before .knot-number .ensures) ∙ c .before .if1 .taken in
+    c .refuse .ensures ∙ sym (not-refused (a .degree) (a .count) (now (a .knots)) (valid (a .degree) (a .count) (now (a .knots)) none))
 
-refuse-requires-2 : tie.Need-refuse-requires-2
-refuse-requires-2 c κs = search needs
+knot-placed-requires : tie.Need-knot-placed-requires
+knot-placed-requires c κs = search needs
 
 returns-2 : tie.Need-returns-2
-unfolding knotRefusal
-returns-2 c = c .refuse2 .ensures ∙ simp (ne-eqb _ 0 (c .before .before .if1 .left), le-leb _ _ (c .before .if2 .taken))
-
-is-sum-requires : tie.Need-is-sum-requires
-is-sum-requires c κs = search needs
-
-refuse-requires-3 : tie.Need-refuse-requires-3
-refuse-requires-3 c κs = search needs
-
-returns-3 : tie.Need-returns-3
-unfolding knotRefusal
-returns-3 c =
-    c .refuse3 .ensures ∙ simp (
-      ne-eqb _ 0 (c .before .before .before .before .if1 .left),
-      lt-leb _ _ (c .before .before .before .if2 .left),
-      sym (c .before .before .is-sum .ensures) ∙ not-true _ (c .before .if3 .taken),
-    )
-
-order-refusal-requires : tie.Need-order-refusal-requires
-order-refusal-requires c κs = eqb-true _ _ (sym (c .before .is-sum .ensures) ∙ not-false _ (c .if3 .left))
-
-returns-4 : tie.Need-returns-4
-unfolding knotRefusal
-returns-4 c =
-    simp (
-      ne-eqb _ 0 (c .before .before .before .before .if1 .left),
-      lt-leb _ _ (c .before .before .before .if2 .left),
-      sym (c .before .before .is-sum .ensures) ∙ not-false _ (c .before .if3 .left),
-    ) (c .order-refusal .ensures)
+returns-2 c =
+    let a = c .before .before .before .before .args in
+    let p = a .degree in
+    let ks = now (a .knots) in
+    c .knot-placed .ensures ∙ (ap (λ (k : ℕ). knotPlaced k p ks) (c .before .before .knot-number .ensures) ∙ knot-told p (a .count) ks)
 
 pub knot-refusal-spec : {M : Type 1} → statement M
 knot-refusal-spec =
     tie.close
-    (tie.spec
-    refuse-requires
-    returns
-    refuse-requires-2
-    returns-2
-    is-sum-requires
-    refuse-requires-3
-    returns-3
-    order-refusal-requires
-    returns-4)
+    (tie.spec knot-number-requires refuse-requires returns knot-placed-requires returns-2)

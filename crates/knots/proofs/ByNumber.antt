@@ -1,0 +1,47 @@
+-- A refusal is known by its number: with the place that the number asks for it is the whole.
+-- Assumes nothing.
+use Prim.Native.Nat.{ℕ, _+_}
+use mathlib.Core.Bool.{Bool, true, false, not, _&&_, cond}
+use mathlib.Core.Path.{_≡_, refl}
+use mathlib.Core.List.{List}
+use lib.ListN.{length}
+use lib.Dec.{leb, eqb}
+use lib.Ieee.{Float, binary64, sub, le}
+use lib.Ieee.Scale.{finite}
+use Rattle.doubles.specs.Run.{at}
+use Rattle.knots.specs.Knots.{allFinite, ordered, apart, orderRefusal, knotRefusal}
+use Rattle.knots.specs.Curve.{overLong, allWeights, controlRefusal}
+use Rattle.knots.specs.Span.{spanRefusal}
+use Rattle.knots.specs.Placed.{knotPlaced, controlPlaced}
+use Rattle.knots.specs.declared.refusal.Refusal.{Refusal}
+
+-- a row before the others
+row-told : (f : ℕ → Refusal) (b : Bool) (x y : Refusal) → f (x .number) ≡ x → f (y .number) ≡ y → f (cond b x y .number) ≡ cond b x y
+row-told f true x y X Y = X
+row-told f false x y X Y = Y
+
+pub knot-told : (p n : ℕ) (ks : List Float) → knotPlaced (knotRefusal p n ks .number) p ks ≡ knotRefusal p n ks
+unfolding knotRefusal orderRefusal knotPlaced
+knot-told p n ks =
+    let f : ℕ → Refusal = λ k. knotPlaced k p ks in
+    row-told f (eqb p 0) _ _ refl
+    (row-told f (leb n p) _ _ refl
+    (row-told f (not (eqb (length ks) (n + p + 1))) _ _ refl
+    (row-told f (not (ordered ks)) _ _ refl
+    (row-told f (le (at ks n) (at ks p)) _ _ refl
+    (row-told f (not (finite (sub binary64 (at ks n) (at ks p)))) _ _ refl
+    (row-told f (not (apart (p + 1) ks)) _ _ refl refl))))))
+
+pub span-told : (p n : ℕ) (ks : List Float) (u : Float) → knotPlaced (spanRefusal p n ks u .number) p ks ≡ spanRefusal p n ks u
+unfolding spanRefusal knotPlaced
+span-told p n ks u =
+    let f : ℕ → Refusal = λ k. knotPlaced k p ks in
+    row-told f (overLong true ks) _ _ refl
+    (row-told f (eqb (knotRefusal p n ks .number) 0) _ _ (row-told f (not (finite u)) _ _ refl refl) (knot-told p n ks))
+
+pub control-told : (n : ℕ) (ps : List Float) (g : Bool) (ws : List Float) → controlPlaced (controlRefusal n ps g ws .number) ps ws ≡ controlRefusal n ps g ws
+unfolding controlRefusal controlPlaced
+control-told n ps g ws =
+    let f : ℕ → Refusal = λ k. controlPlaced k ps ws in
+    row-told f (not (allFinite ps)) _ _ refl
+    (row-told f (g && not (eqb (length ws) n)) _ _ refl (row-told f (g && not (allWeights ws)) _ _ refl refl))
