@@ -25,7 +25,7 @@ use Rattle.interval.specs.Inside.{Inside}
 use Rattle.interval.specs.Ops.{pointOf}
 use Rattle.interval.proofs.Contain.{point-inside}
 use Rattle.knots.specs.Below.{allBelow}
-use Rattle.knots.specs.Refusal.{refuse, accepted, orElse, knots-unordered, point-not-finite, weight-bad, length-bad}
+use Rattle.knots.specs.Refusal.{refuse, accepted, placed, orElse, knots-unordered, point-not-finite, weight-bad, length-bad}
 use Rattle.knots.specs.Knots.{allFinite, inOrder, ordered}
 use Rattle.knots.specs.Curve.{countOf, isWeight, allWeights, anyLong, Short, ValidCurve}
 use Rattle.knots.specs.Shape.{curveShape}
@@ -147,9 +147,9 @@ module _ (p s : ℕ) (ks ps : List Float) (r : Bool) (ws : List Float) where
         let d = Sh .knots .degree in
         let L = Sh .knots .long in
         let t = Sh .triples in
-        let a = passed (not (ordered (part (s - p + 1) (s + p + 1) ks))) (refuse knots-unordered) _ (λ e. omega arith) k in
-        let b = passed (not (allFinite (part ((s - p) * 3) (s * 3 + 3) ps))) (refuse point-not-finite) _ (λ e. omega arith) (a .1) in
-        let c = passed (r && not (allWeights (part (s - p) (s + 1) ws))) (refuse weight-bad) accepted (λ e. omega arith) (b .1) in
+        let a = passed (not (ordered (part (s - p + 1) (s + p + 1) ks))) (placed _ (refuse knots-unordered)) _ (λ e. omega arith) k in
+        let b = passed (not (allFinite (part ((s - p) * 3) (s * 3 + 3) ps))) (placed _ (refuse point-not-finite)) _ (λ e. omega arith) (a .1) in
+        let c = passed (r && not (allWeights (part (s - p) (s + 1) ws))) (placed _ (refuse weight-bad)) accepted (λ e. omega arith) (b .1) in
         let o = part-ordered ks (s - p + 1) (s + p + 1) (omega arith) (not-false _ (a .0)) in
         let f = part-all ps ((s - p) * 3) (s * 3 + 3) (omega arith) finite (not-false _ (b .0)) in
         record {

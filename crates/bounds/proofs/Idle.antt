@@ -12,7 +12,7 @@ use borrow.Author.Tests.{eqb-true}
 use Rattle.exact.proofs.Field.{≤-refl}
 use Rattle.doubles.specs.Run.{at}
 use Rattle.doubles.specs.Value.{val}
-use Rattle.knots.specs.Refusal.{refuse, accepted, orElse, along, degree-zero, few-points, knot-count, knots-unordered, domain-empty, domain-wide, knot-repeated, point-not-finite}
+use Rattle.knots.specs.Refusal.{refuse, accepted, placed, orElse, along, degree-zero, few-points, knot-count, knots-unordered, domain-empty, domain-wide, knot-repeated, point-not-finite}
 use Rattle.knots.specs.Refusal.{weight-count, weight-bad, net-size, range-bad, range-in-no-span, length-bad, degree-high, points-uneven}
 use Rattle.knots.specs.Knots.{allFinite, ordered, apart, orderRefusal, knotRefusal}
 use Rattle.knots.specs.Curve.{countOf, overLong, anyLong, allWeights, controlRefusal, formedRefusal, curveRefusal}
@@ -76,9 +76,9 @@ shape-other p ks ps g ws =
 read-other : (p s : ℕ) (ks ps : List Float) (g : Bool) (ws : List Float) → Other (readRefusal p s ks ps g ws)
 unfolding readRefusal
 read-other p s ks ps g ws =
-    cond-other (not (ordered _)) (refuse knots-unordered) _ tt
-    (cond-other (not (allFinite _)) (refuse point-not-finite) _ tt
-    (cond-other (g && not (allWeights _)) (refuse weight-bad) accepted tt tt))
+    cond-other (not (ordered _)) (placed _ (refuse knots-unordered)) _ tt
+    (cond-other (not (allFinite _)) (placed _ (refuse point-not-finite)) _ tt
+    (cond-other (g && not (allWeights _)) (placed _ (refuse weight-bad)) accepted tt tt))
 
 start-other : (p s : ℕ) (ks ps : List Float) (g : Bool) (ws : List Float) (lo hi : Float) → Other (startRefusal p s ks ps g ws lo hi)
 unfolding startRefusal placeRefusal
@@ -97,17 +97,17 @@ knots-other p n ks =
     cond-other (eqb p 0) (refuse degree-zero) _ tt
     (cond-other (leb n p) (refuse few-points) _ tt
     (cond-other (not (eqb (length ks) (n + p + 1))) (refuse knot-count) _ tt
-    (cond-other (not (ordered ks)) (refuse knots-unordered) _ tt
+    (cond-other (not (ordered ks)) (placed _ (refuse knots-unordered)) _ tt
     (cond-other (le (at ks n) (at ks p)) (refuse domain-empty) _ tt
     (cond-other (not (finite (sub binary64 (at ks n) (at ks p)))) (refuse domain-wide) _ tt
-    (cond-other (not (apart (p + 1) ks)) (refuse knot-repeated) accepted tt tt))))))
+    (cond-other (not (apart (p + 1) ks)) (placed _ (refuse knot-repeated)) accepted tt tt))))))
 
 controls-other : (n : ℕ) (ps : List Float) (g : Bool) (ws : List Float) → Other (controlRefusal n ps g ws)
 unfolding controlRefusal
 controls-other n ps g ws =
-    cond-other (not (allFinite ps)) (refuse point-not-finite) _ tt
+    cond-other (not (allFinite ps)) (placed _ (refuse point-not-finite)) _ tt
     (cond-other (g && not (eqb (length ws) n)) (refuse weight-count) _ tt
-    (cond-other (g && not (allWeights ws)) (refuse weight-bad) accepted tt tt))
+    (cond-other (g && not (allWeights ws)) (placed _ (refuse weight-bad)) accepted tt tt))
 
 curve-other : (p : ℕ) (ks ps : List Float) (g : Bool) (ws : List Float) → Other (curveRefusal p ks ps g ws)
 unfolding curveRefusal formedRefusal

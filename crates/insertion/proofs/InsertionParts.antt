@@ -1,6 +1,6 @@
--- The parts of one insertion: controls that are equal, refusals one after the other, finite points, a knot put among others.
+-- The parts of one insertion: controls that are equal, refusals one after the other, a knot put among others.
 -- Assumes nothing.
-use Prim.Native.Nat.{ℕ, zero, suc, _+_, _-_, _*_, _/_, _%_, _≤_, _<_}
+use Prim.Native.Nat.{ℕ, zero, suc, _+_, _-_, _/_, _≤_, _<_}
 use mathlib.Core.Bool.{Bool, true, false, not, cond, _&&_}
 use mathlib.Core.Path.{_≡_, refl, sym, _∙_, ap, ap₂}
 use mathlib.Core.Logic.{_⊎_, ⊎-elim}
@@ -15,19 +15,19 @@ use lib.Ieee.Scale.{finite}
 use Rattle.doubles.specs.Run.{at}
 use Rattle.doubles.specs.Value.{zero+}
 use Rattle.doubles.proofs.TestedOrder.{le-fails}
-use Rattle.knots.specs.Below.{allBelow}
-use Rattle.knots.specs.Refusal.{refuse, accepted, edit-bad, point-not-finite}
-use Rattle.knots.specs.Knots.{allFinite}
+use Rattle.knots.specs.Below.{allBelow, offAt}
+use Rattle.knots.specs.Refusal.{refuse, accepted, placed, edit-bad, point-not-finite}
+use Rattle.knots.specs.Knots.{allFinite, nonFiniteAt}
 use Rattle.knots.specs.Curve.{isWeight, allWeights, controlRefusal}
 use Rattle.knots.specs.declared.refusal.Refusal.{Refusal}
-use Rattle.knots.proofs.Below.{and-true, and-left, and-right, all-at, all-in}
+use Rattle.knots.proofs.Below.{all-cong, off-cong, and-true, and-left, and-right, all-at, all-in}
 use Rattle.runs.specs.Tabulate.{tabulate}
 use Rattle.runs.proofs.Tabulated.{length-tabulate, at-tabulate}
 use Rattle.runs.proofs.Cases.{lt-or-ge}
 use Rattle.runs.specs.Point.{finiteVector}
 use Rattle.runs.specs.declared.vector.Vector.{Vector}
 use Rattle.edits.specs.Control.{isLifted, isBlended, shareOf, blendOf, lowerOf}
-use Rattle.edits.specs.Rows.{axis, lowerAt, weightIn, given}
+use Rattle.edits.specs.Rows.{weightIn, given}
 use Rattle.insertion.specs.Insert.{blendAt, knotAt, moreKnots}
 use Rattle.edits.specs.Work.{knotsFrom}
 use Rattle.edits.specs.Passes.{keptRow, stored}
@@ -36,13 +36,7 @@ use Rattle.edits.specs.declared.control.Control.{Control}
 use Rattle.edits.proofs.RowReads.{knot-from}
 use Rattle.insertion.proofs.Storing.{knot-low, knot-here, knot-high}
 
--- ---- how many weights
 -- ---- what is equal place by place
-all-cong : (f h : ℕ → Bool) (n : ℕ) → ((i : ℕ) → i < n → f i ≡ h i) → allBelow f n ≡ allBelow h n
-unfolding allBelow
-all-cong f h zero e = refl
-all-cong f h (suc n) e = ap₂ (λ (x y : Bool). x && y) (all-cong f h n (λ i l. e i (omega arith))) (e n (omega arith))
-
 module _ (p k s : ℕ) (t : Float) (ks : List Float) (f h : ℕ → Control) (n : ℕ) (S : s ≤ p) (P : p ≤ k) (K : k < n) (e : (i : ℕ) → i < n → f i ≡ h i) where
   pub blend-cong : (i : ℕ) → i < n + 1 → blendAt p k s t ks f i ≡ blendAt p k s t ks h i
   unfolding blendAt
@@ -58,16 +52,20 @@ module _ (p k s : ℕ) (t : Float) (ks : List Float) (f h : ℕ → Control) (n 
 pub lower-cong : (o : Vector) (g : Bool) (f h : ℕ → Control) (m : ℕ) (r₀ r₁ : List Float) (r : Refusal) → ((i : ℕ) → i < m → f i ≡ h i) → LowerDone o g f m r₀ r₁ r → LowerDone o g h m r₀ r₁ r
 unfolding lowerRefusal
 lower-cong o g f h m r₀ r₁ r e D = record {
-  answer = D .answer ∙ ap₂ (λ (x y : Bool). cond (not x) (refuse edit-bad) (cond (not y) (refuse point-not-finite) accepted))
+  answer = D .answer ∙ same
       (all-cong (λ i. isBlended (f i)) (λ i. isBlended (h i)) m (λ i l. ap isBlended (e i l)))
-      (all-cong (λ i. finiteVector (lowerOf o (f i))) (λ i. finiteVector (lowerOf o (h i))) m (λ i l. ap (λ (q : Control). finiteVector (lowerOf o q)) (e i l)));
+      (all-cong (λ i. finiteVector (lowerOf o (f i))) (λ i. finiteVector (lowerOf o (h i))) m sound)
+      (off-cong (λ i. finiteVector (lowerOf o (f i))) (λ i. finiteVector (lowerOf o (h i))) m sound);
   rows = λ z i l. D .rows z i l ∙ ap (λ (q : Control). stored g (keptRow (lowerOf o q) (q .w))) (e i l);
   rest = D .rest;
 }
+  where
+    sound : (i : ℕ) → i < m → finiteVector (lowerOf o (f i)) ≡ finiteVector (lowerOf o (h i))
+    sound i l = ap (λ (q : Control). finiteVector (lowerOf o q)) (e i l)
 
-pub lower-is : (o : Vector) (h : ℕ → Control) (k r i : ℕ) → i / 3 ≡ k → i % 3 ≡ r → axis r (lowerOf o (h k)) ≡ lowerAt o h i
-unfolding lowerAt
-lower-is o h k r i K R = ap₂ (λ (x y : ℕ). axis y (lowerOf o (h x))) (sym K) (sym R)
+    same : {x y u v : Bool} {i j : ℕ} → x ≡ y → u ≡ v → i ≡ j
+        → cond (not x) (refuse edit-bad) (cond (not u) (placed i (refuse point-not-finite)) accepted) ≡ cond (not y) (refuse edit-bad) (cond (not v) (placed j (refuse point-not-finite)) accepted)
+    same X U I = rw (X, U, I)
 
 -- ---- one refusal after the other
 pub first-of : (a b : Bool) (x y z r : Refusal) → a ≡ false → r ≡ x → r ≡ cond (not a) x (cond (not b) y z)
@@ -77,45 +75,6 @@ pub joined : (a b c : Bool) (x y u z r : Refusal) → a ≡ true → (b ≡ true
 joined true true c x y u z r A h e = e ∙ h refl
 joined true false c x y u z r A h e = e
 joined false b c x y u z r A h e = let q : _≡_ {A = ℕ} 0 1 = cc in absurd (omega arith)
-
--- ---- points are finite where their coordinates are
-agree : (a b : Bool) → (a ≡ true → b ≡ true) → (b ≡ true → a ≡ true) → a ≡ b
-agree true b f h = sym (f refl)
-agree false true f h = h refl
-agree false false f h = refl
-
-axis-finite : (v : Vector) (r : ℕ) → finiteVector v ≡ true → finite (axis r v) ≡ true
-unfolding finiteVector
-axis-finite v zero h = and-left (finite (v .x)) _ h
-axis-finite v (suc zero) h = and-left (finite (v .y)) _ (and-right (finite (v .x)) _ h)
-axis-finite v (suc (suc r)) h = and-right (finite (v .y)) _ (and-right (finite (v .x)) _ h)
-
-pub points-finite : (o : Vector) (h : ℕ → Control) (m : ℕ) → allFinite (tabulate (m * 3) (lowerAt o h)) ≡ allBelow (λ i. finiteVector (lowerOf o (h i))) m
-unfolding allFinite finiteVector lowerAt
-points-finite o h m = agree _ _ (λ e. all-in (λ i. finiteVector (lowerOf o (h i))) m (λ i l. rows e i l)) (λ e. all-in places (length run) (λ j l. coordinates e j l))
-  where
-    run : List Float
-    run = tabulate (m * 3) (lowerAt o h)
-
-    long : length run ≡ m * 3
-    long = length-tabulate (m * 3) (lowerAt o h)
-
-    places : ℕ → Bool
-    places j = finite (at run j)
-
-    one : allBelow places (length run) ≡ true → (i : ℕ) → i < m → (r : ℕ) → r < 3 → (j : ℕ) → j ≡ i * 3 + r → finite (axis r (lowerOf o (h i))) ≡ true
-    one e i l r b j J =
-        let a : j < m * 3 = omega arith in
-        ap finite (lower-is o h i r j (omega arith) (omega arith) ∙ sym (at-tabulate (m * 3) (lowerAt o h) j a)) ∙ all-at places (length run) e j (omega (arith, long))
-
-    rows : allBelow places (length run) ≡ true → (i : ℕ) → i < m → finiteVector (lowerOf o (h i)) ≡ true
-    rows e i l =
-        and-true _ _ (one e i l 0 (omega arith) (i * 3 + 0) refl) (and-true _ _ (one e i l 1 (omega arith) (i * 3 + 1) refl) (one e i l 2 (omega arith) (i * 3 + 2) refl))
-
-    coordinates : allBelow (λ i. finiteVector (lowerOf o (h i))) m ≡ true → (j : ℕ) → j < length run → places j ≡ true
-    coordinates e j l =
-        let a : j < m * 3 = omega (arith, long) in
-        ap finite (at-tabulate (m * 3) (lowerAt o h) j a) ∙ axis-finite (lowerOf o (h (j / 3))) (j % 3) (all-at (λ i. finiteVector (lowerOf o (h i))) m e (j / 3) (omega arith))
 
 -- ---- what 20 lets pass has a weight: 9 and 10 are never given
 weight-is : (q : Control) → isBlended q ≡ true → isWeight (q .w) ≡ true
@@ -128,7 +87,7 @@ weight-is q h =
     and-true (finite (q .w)) _ f (le-fails (q .w) zero+ f refl (not-true _ c))
 
 pub points-left : (n : ℕ) (ps : List Float) (g : Bool) (h : ℕ → Control) → allBelow (λ i. isBlended (h i)) n ≡ true
-    → cond (not (allFinite ps)) (refuse point-not-finite) accepted ≡ controlRefusal n ps g (tabulate (given g n) (weightIn h))
+    → cond (not (allFinite ps)) (placed (nonFiniteAt ps / 3) (refuse point-not-finite)) accepted ≡ controlRefusal n ps g (tabulate (given g n) (weightIn h))
 unfolding controlRefusal allWeights
 points-left n ps true h B =
     let l = length-tabulate n (weightIn h) in

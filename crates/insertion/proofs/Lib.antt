@@ -3,6 +3,7 @@ pub mod LowerLoop
 pub mod Grown
 pub mod KnotCounts
 pub mod EqualKnots
+pub mod FinitePoints
 pub mod InsertionParts
 pub mod OneInsertion
 pub mod Folds

@@ -11,13 +11,13 @@ use lib.ListN.{length}
 use lib.Dec.{leb}
 use lib.Ieee.{Float}
 use Rattle.doubles.specs.Run.{at}
-use Rattle.knots.specs.Below.{allBelow}
-use Rattle.knots.specs.Refusal.{refuse, accepted, edit-bad, point-not-finite}
+use Rattle.knots.specs.Below.{allBelow, offAt}
+use Rattle.knots.specs.Refusal.{refuse, accepted, placed, edit-bad, point-not-finite}
 use Rattle.knots.specs.declared.refusal.Refusal.{Refusal}
-use Rattle.knots.proofs.Below.{all-none, all-more, all-step, all-fails, all-end}
+use Rattle.knots.proofs.Below.{all-none, all-more, all-step, all-fails, all-end, off-cong}
 use Rattle.runs.specs.Point.{finiteVector}
 use Rattle.runs.specs.declared.vector.Vector.{Vector}
-use Rattle.edits.specs.Control.{isBlended, shareOf, blendOf, lowerOf}
+use Rattle.edits.specs.Control.{isBlended, shareOf, blendOf, lowerOf, vectorOf}
 use Rattle.insertion.specs.Insert.{blendAt}
 use Rattle.edits.specs.Work.{knotsFrom}
 use Rattle.edits.specs.Passes.{rowOf, keptRow, stored, Untouched, RowPut}
@@ -113,9 +113,20 @@ module _ (p k s : ℕ) (t : Float) (n a : ℕ) (o : Vector) (g : Bool) (r₀ : L
     others : (j : ℕ) → Untouched g (n + 1) j → at r₁ j ≡ at r₀ j
     others = subst (λ (m : ℕ). (j : ℕ) → Untouched g m j → at r₁ j ≡ at r₀ j) done-at (I .done .rest)
 
-    pub lower-bad : fine ≡ false → (r : Refusal) → r ≡ refuse point-not-finite → LowerDone o g blends (n + 1) r₀ r₁ r
+    -- the rows hold the points: the first that is not finite is the first point that is not
+    odd-is : offAt (λ j. finiteVector (vectorOf (rowOf g r₁ j))) (n + 1) ≡ offAt (λ j. finiteVector (lowerOf o (blends j))) (n + 1)
+    odd-is =
+        off-cong (λ j. finiteVector (vectorOf (rowOf g r₁ j))) (λ j. finiteVector (lowerOf o (blends j))) (n + 1)
+        (λ j l. ap (λ (q : Control). finiteVector (vectorOf q)) (I .done .rows j (omega (arith, done-at))))
+
+    pub lower-bad : fine ≡ false → (r : Refusal) (k : ℕ) → k ≡ offAt (λ j. finiteVector (vectorOf (rowOf g r₁ j))) (n + 1) → r ≡ placed k (refuse point-not-finite)
+        → LowerDone o g blends (n + 1) r₀ r₁ r
     unfolding lowerRefusal
-    lower-bad e r R = record { answer = simp (blended, sym whole ∙ e) R; rows = λ z. absurd (no z); rest = others }
+    lower-bad e r k O R = record {
+      answer = simp (blended, sym whole ∙ e) (R ∙ ap (λ (i : ℕ). placed i (refuse point-not-finite)) (O ∙ odd-is));
+      rows = λ z. absurd (no z);
+      rest = others;
+    }
       where
         no : r .number ≡ 0 → ⊥
         no z = let y : _≡_ {A = ℕ} 8 0 = sym (ap (λ (x : Refusal). x .number) R) ∙ z in omega arith

@@ -1,6 +1,6 @@
 -- 13 and 14 are never given where every knot of a list lies inside the domain and has room.
 -- Assumes nothing.
-use Prim.Native.Nat.{ℕ, _+_, _≤_, _<_}
+use Prim.Native.Nat.{ℕ, _+_, _/_, _≤_, _<_}
 use mathlib.Core.Bool.{Bool, true, false, not, cond}
 use mathlib.Core.Path.{_≡_, refl, sym, _∙_, ap, ap₂, subst}
 use mathlib.Core.List.{List, [], _∷_}
@@ -10,8 +10,8 @@ use lib.Ieee.{Float, eq}
 use lib.Ieee.Scale.{finite}
 use Rattle.doubles.specs.Run.{at}
 use Rattle.knots.specs.Below.{allBelow}
-use Rattle.knots.specs.Refusal.{refuse, accepted, orElse, control-bad, edit-bad, point-not-finite}
-use Rattle.knots.specs.Knots.{allFinite, ValidKnots}
+use Rattle.knots.specs.Refusal.{refuse, accepted, placed, orElse, control-bad, edit-bad, point-not-finite}
+use Rattle.knots.specs.Knots.{allFinite, nonFiniteAt, ValidKnots}
 use Rattle.knots.specs.Curve.{formedRefusal}
 use Rattle.knots.specs.Span.{SpanAt, spanOf}
 use Rattle.knots.specs.declared.refusal.Refusal.{Refusal}
@@ -45,12 +45,12 @@ module _ (r : Refusal) (l : Late r) where
 late-is : (m : ℕ) → 8 ≤ m → (8 < m → 19 ≤ m) → m ≤ 20 → (r : Refusal) → r .number ≡ m → Late r
 late-is m a b c r e = record { some = omega arith; gap = λ l. omega (arith, b (omega arith)); last = omega arith }
 
-late-formed : (a b c : Bool) (y r : Refusal) → (b ≡ true → cond (not c) (refuse point-not-finite) accepted ≡ y) → r ≡ cond (not a) (refuse control-bad) (cond (not b) (refuse edit-bad) y)
-    → (r .number ≡ 0 → ⊥) → Late r
-late-formed false b c y r k e h = late-is 19 (omega arith) (λ l. omega arith) (omega arith) r (ap (λ (x : Refusal). x .number) e)
-late-formed true false c y r k e h = late-is 20 (omega arith) (λ l. omega arith) (omega arith) r (ap (λ (x : Refusal). x .number) e)
-late-formed true true false y r k e h = late-is 8 (omega arith) (λ l. omega arith) (omega arith) r (ap (λ (x : Refusal). x .number) (e ∙ sym (k refl)))
-late-formed true true true y r k e h = absurd (h (ap (λ (x : Refusal). x .number) (e ∙ sym (k refl))))
+late-formed : (a b c : Bool) (i : ℕ) (y r : Refusal) → (b ≡ true → cond (not c) (placed i (refuse point-not-finite)) accepted ≡ y)
+    → r ≡ cond (not a) (refuse control-bad) (cond (not b) (refuse edit-bad) y) → (r .number ≡ 0 → ⊥) → Late r
+late-formed false b c i y r k e h = late-is 19 (omega arith) (λ l. omega arith) (omega arith) r (ap (λ (x : Refusal). x .number) e)
+late-formed true false c i y r k e h = late-is 20 (omega arith) (λ l. omega arith) (omega arith) r (ap (λ (x : Refusal). x .number) e)
+late-formed true true false i y r k e h = late-is 8 (omega arith) (λ l. omega arith) (omega arith) r (ap (λ (x : Refusal). x .number) (e ∙ sym (k refl)))
+late-formed true true true i y r k e h = absurd (h (ap (λ (x : Refusal). x .number) (e ∙ sym (k refl))))
 
 pub inside-finite : (lo hi t : Float) → inside lo hi t ≡ true → finite t ≡ true
 unfolding inside
@@ -82,7 +82,7 @@ module _ (p n : ℕ) (ks ps : List Float) (g : Bool) (ws : List Float) (t : Floa
       let P = morePoints p n k s t ks ps g ws in
       let W = moreWeights p n k s t ks ps g ws in
       late-formed
-      (allBelow (λ i. isLifted (lifted p n k s t ks ps g ws i)) n) (allBelow (λ i. isBlended (h i)) (n + 1)) (allFinite P) (formedRefusal p (n + 1) (moreKnots k t ks) P g W)
+      (allBelow (λ i. isLifted (lifted p n k s t ks ps g ws i)) n) (allBelow (λ i. isBlended (h i)) (n + 1)) (allFinite P) (nonFiniteAt P / 3) (formedRefusal p (n + 1) (moreKnots k t ks) P g W)
       (insertRefusal p n ks ps g ws t)
       (λ B. points-left (n + 1) P g h B ∙ controls-left p (n + 1) (moreKnots k t ks) P g W valid-next) form-left
 

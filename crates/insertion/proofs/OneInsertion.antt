@@ -2,7 +2,7 @@
 -- Assumes nothing.
 use Prim.Native.Nat.{ℕ, _+_, _*_, _/_, _%_, _≤_, _<_}
 use mathlib.Core.Bool.{Bool, true, false, not, cond}
-use mathlib.Core.Path.{_≡_, refl, sym, _∙_, ap, subst}
+use mathlib.Core.Path.{_≡_, refl, sym, _∙_, ap, ap₂, subst}
 use mathlib.Core.Logic.{inl, inr}
 use mathlib.Core.List.{List, _++_}
 use native.Mathlib.Omega.{arith}
@@ -15,8 +15,8 @@ use lib.Ieee.Scale.{finite}
 use Rattle.doubles.specs.Run.{at}
 use Rattle.doubles.specs.Value.{one+}
 use Rattle.doubles.proofs.TestedOrder.{le-fails, lt-asym}
-use Rattle.knots.specs.Below.{allBelow}
-use Rattle.knots.specs.Refusal.{refuse, accepted, knot-outside, knot-full, control-bad, edit-bad, point-not-finite}
+use Rattle.knots.specs.Below.{allBelow, offAt}
+use Rattle.knots.specs.Refusal.{refuse, accepted, placed, knot-outside, knot-full, control-bad, edit-bad, point-not-finite}
 use Rattle.knots.specs.Knots.{ValidKnots}
 use Rattle.knots.specs.Curve.{formedRefusal}
 use Rattle.knots.specs.Span.{SpanAt, SpanFound, spanOf}
@@ -40,7 +40,8 @@ use Rattle.edits.specs.declared.control.Control.{Control}
 use Rattle.insertion.proofs.Grown.{grown-valid, controls-left}
 use Rattle.edits.proofs.RowReads.{row-axis, row-point, knot-from}
 use Rattle.edits.proofs.RowStores.{rows-same}
-use Rattle.insertion.proofs.InsertionParts.{blend-cong, lower-cong, lower-is, first-of, joined, points-finite, points-left, put-low, put-high, put-knots}
+use Rattle.insertion.proofs.FinitePoints.{lower-is, points-finite, points-place}
+use Rattle.insertion.proofs.InsertionParts.{blend-cong, lower-cong, first-of, joined, points-left, put-low, put-high, put-knots}
 
 -- ---- 19, 20, and the curve that is formed
 fewer : (g : Bool) (m n j : ℕ) → n ≤ m → Untouched g m j → Untouched g n j
@@ -109,16 +110,20 @@ module _ (a p n k s : ℕ) (t : Float) (g : Bool) (w₀ : List Float) where
       abbrev all-fine : Bool
       all-fine = allBelow (λ i. finiteVector (lowerOf (pointOf PS 0) (blended p n k s t KS PS g WS i))) (n + 1)
 
-      left : all-blended ≡ true → cond (not all-fine) (refuse point-not-finite) accepted ≡ checked
+      abbrev first-odd : Refusal
+      first-odd = placed (offAt (λ i. finiteVector (lowerOf (pointOf PS 0) (blended p n k s t KS PS g WS i))) (n + 1)) (refuse point-not-finite)
+
+      left : all-blended ≡ true → cond (not all-fine) first-odd accepted ≡ checked
       unfolding morePoints moreWeights
       left h =
-          ap (λ (y : Bool). cond (not y) (refuse point-not-finite) accepted) (sym (points-finite (pointOf PS 0) (blended p n k s t KS PS g WS) (n + 1)))
+          ap₂ (λ (y : Bool) (i : ℕ). cond (not y) (placed i (refuse point-not-finite)) accepted)
+          (sym (points-finite (pointOf PS 0) (blended p n k s t KS PS g WS) (n + 1))) (sym (points-place (pointOf PS 0) (blended p n k s t KS PS g WS) (n + 1)))
           ∙ (points-left (n + 1) (morePoints p n k s t KS PS g WS) g (blended p n k s t KS PS g WS) h
           ∙ controls-left p (n + 1) (moreKnots k t KS) (morePoints p n k s t KS PS g WS) g (moreWeights p n k s t KS PS g WS) v)
 
       refusal-is : r ≡ formRefusal p n k s t KS PS g WS
       unfolding formRefusal lowerRefusal
-      refusal-is = joined all-lifted all-blended all-fine (refuse control-bad) (refuse edit-bad) (refuse point-not-finite) checked r (sym (A .answer)) left (lower-done .answer)
+      refusal-is = joined all-lifted all-blended all-fine (refuse control-bad) (refuse edit-bad) first-odd checked r (sym (A .answer)) left (lower-done .answer)
 
       pub form-late : (r .number ≡ 0 → ⊥) → Formed a p n k s t KS PS g WS w₀ w₂ r
       form-late h = record { refusal = refusal-is; holds = λ z. absurd (h z) }

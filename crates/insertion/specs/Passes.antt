@@ -7,8 +7,8 @@ use mathlib.Core.List.{List}
 use lib.Dec.{leb}
 use lib.Ieee.{Float}
 use Rattle.doubles.specs.Run.{at}
-use Rattle.knots.specs.Below.{allBelow}
-use Rattle.knots.specs.Refusal.{refuse, accepted, edit-bad, point-not-finite}
+use Rattle.knots.specs.Below.{allBelow, offAt}
+use Rattle.knots.specs.Refusal.{refuse, accepted, placed, edit-bad, point-not-finite}
 use Rattle.knots.specs.declared.refusal.Refusal.{Refusal}
 use Rattle.runs.specs.Point.{finiteVector}
 use Rattle.runs.specs.declared.vector.Vector.{Vector}
@@ -22,11 +22,11 @@ use Rattle.insertion.specs.Insert.{moreKnots, morePoints, moreWeights, f
 unfoldable pub blendOne : ℕ → ℕ → ℕ → Float → (ℕ → Float) → Control → Control → ℕ → Control
 blendOne p k s t U before here i = cond (leb i (k - p)) here (cond (leb i (k - s)) (blendOf before here (shareOf t (U i) (U (i + p)))) before)
 
--- 20 where a control of m is one for it, else 8 where a coordinate of a point is not finite
+-- 20 where a control of m is one for it, else 8 at the first point with a coordinate that is not finite
 unfoldable pub lowerRefusal : Vector → (ℕ → Control) → ℕ → Refusal
 lowerRefusal o h m =
     cond (not (allBelow (λ i. isBlended (h i)) m)) (refuse edit-bad)
-    (cond (not (allBelow (λ i. finiteVector (lowerOf o (h i))) m)) (refuse point-not-finite) accepted)
+    (cond (not (allBelow (λ i. finiteVector (lowerOf o (h i))) m)) (placed (offAt (λ i. finiteVector (lowerOf o (h i))) m) (refuse point-not-finite)) accepted)
 
 -- r is that refusal. Where it is none, the points and weights stand in the run
 pub record LowerDone (o : Vector) (g : Bool) (h : ℕ → Control) (m : ℕ) (r₀ r₁ : List Float) (r : Refusal) : Type 0 where

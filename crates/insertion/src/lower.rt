@@ -7,14 +7,19 @@ use edits::control::share_of;
 use edits::rows::kept_row;
 use edits::rows::put_row;
 use edits::rows::row_at;
+use edits::rows::vector_of;
 use knots::refusal::Refusal;
 use knots::refusal::refuse;
+use knots::refusal::refuse_at;
 use runs::vector::Vector;
 use runs::vector::finite_vector;
 ghost use mathlib.Core.Path.{_≡_};
 ghost use Prim.Native.Nat.{_+_, _*_, _<_, _≤_};
 ghost use lib.ListN.{length};
 ghost use Rattle.doubles.specs.Run.{at};
+ghost use Rattle.knots.specs.Below.{offAt};
+ghost use Rattle.runs.specs.Point.{finiteVector};
+ghost use Rattle.edits.specs.Control.{vectorOf};
 ghost use Rattle.edits.specs.Work.{knotsFrom};
 ghost use Rattle.edits.specs.Passes.{rowOf};
 ghost use Rattle.insertion.specs.Insert.{blendAt};
@@ -46,7 +51,21 @@ fn blend_at(spot: Spot, a: usize, rows: &[f64], i: usize, before: Control, here:
     before
 }
 
-// The rows of n controls become those of the n + 1 points with a knot more: 20 at the first control that it is for, else 8 where a coordinate is not finite. A row is lent alone, so that the compiler sees that it is whole.
+// The first of m points in rows with a coordinate that is not finite, or m: asked only where there is one.
+fn odd_row(rational: bool, m: usize, rows: &[f64]) -> usize
+    ensures { λ r. ⌜ r ≡ offAt (λ i. finiteVector (vectorOf (rowOf rational (now (rows .entry)) i))) m ⌝ }
+{
+    let mut i = 0usize;
+    while i < m {
+        if !finite_vector(vector_of(row_at(rational, rows, i))) {
+            return i;
+        }
+        i += 1;
+    }
+    i
+}
+
+// The rows of n controls become those of the n + 1 points with a knot more: 20 at the first control that it is for, else 8 at the first point with a coordinate that is not finite. A row is lent alone, so that the compiler sees that it is whole.
 pub fn lower_rows(
     spot: Spot,
     n: usize,
@@ -78,7 +97,8 @@ pub fn lower_rows(
         i += 1;
     }
     if !fine {
-        return refuse(8);
+        let odd = odd_row(rational, n + 1, rows);
+        return refuse_at(8, odd);
     }
     refuse(0)
 }

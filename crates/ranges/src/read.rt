@@ -5,8 +5,12 @@ use knots::curve::all_weights;
 use knots::curve::any_long;
 use knots::knots::all_finite;
 use knots::knots::is_ordered;
+use knots::places::bad_weight_at;
+use knots::places::non_finite_at;
+use knots::places::unordered_at;
 use knots::refusal::Refusal;
 use knots::refusal::refuse;
+use knots::refusal::refuse_at;
 use knots::shape::curve_shape;
 ghost use mathlib.Core.Path.{_≡_};
 ghost use mathlib.Core.Bool.{true};
@@ -14,7 +18,7 @@ ghost use Prim.Native.Nat.{_+_, _*_, _/_, _≤_, _<_};
 ghost use lib.ListN.{length};
 ghost use Rattle.ranges.specs.Read.{readRefusal, placeRefusal, startRefusal};
 
-// Refusals 4, 8, 10 of the numbers that a bound on span s reads: 2 degree knots, degree + 1 points and, where they are given, their weights.
+// Refusals 4, 8, 10 of the numbers that a bound on span s reads: 2 degree knots, degree + 1 points and, where they are given, their weights; with the place in the whole run.
 fn read_refusal(
     degree: usize,
     s: usize,
@@ -33,20 +37,23 @@ fn read_refusal(
     let first = s - degree;
     let from = first + 1;
     let upto = s + degree + 1;
-    if !is_ordered(&knots[from..upto]) {
-        return refuse(4);
+    let ks = &knots[from..upto];
+    if !is_ordered(ks) {
+        return refuse_at(4, from + unordered_at(ks));
     }
     let at = first * 3;
     let end = s * 3 + 3;
-    if !all_finite(&points[at..end]) {
-        return refuse(8);
+    let ps = &points[at..end];
+    if !all_finite(ps) {
+        return refuse_at(8, first + non_finite_at(ps) / 3);
     }
     if !rational {
         return refuse(0);
     }
     let next = s + 1;
-    if !all_weights(&weights[first..next]) {
-        return refuse(10);
+    let ws = &weights[first..next];
+    if !all_weights(ws) {
+        return refuse_at(10, first + bad_weight_at(ws));
     }
     refuse(0)
 }

@@ -129,19 +129,26 @@ loop-again c = let a = c .before .before .before .before .before .before .before
     (c .before .before .before .kept-row .ensures) _ (row-part-long (l .i) _ _ room (a .rational) _ (c .before .before .put-row .ensures))
     (row-put-part (l .i) _ _ room (a .rational) _ _ (c .before .before .put-row .ensures) refl)
 
-refuse-requires-2 : tie.Need-refuse-requires-2 Inv-loop μ-loop
-refuse-requires-2 c κs = search needs
+add-odd-row : tie.Need-add-odd-row Inv-loop μ-loop
+add-odd-row c = search needs
+
+odd-row-requires : tie.Need-odd-row-requires Inv-loop μ-loop
+odd-row-requires c κs = search needs
+
+refuse-at-requires : tie.Need-refuse-at-requires Inv-loop μ-loop
+refuse-at-requires c κs = search needs
 
 same-length-2 : tie.Need-same-length-2 Inv-loop μ-loop
-same-length-2 c = c .before .before .before .loop .inv .done .long
+same-length-2 c = c .before .before .before .before .before .loop .inv .done .long
 
 returns-2 : tie.Need-returns-2 Inv-loop μ-loop
-returns-2 c = let a = c .before .before .before .before .before .before .before .args in let l = c .before .before .before .loop in let t = c .before .before .loop-test .left in
+returns-2 c = let a = c .before .before .before .before .before .before .before .before .before .args in let l = c .before .before .before .before .before .loop in
+    let t = c .before .before .before .before .loop-test .left in
     lower-bad (a .spot .p) (a .spot .k) (a .spot .s) (a .spot .t) (a .n) (a .a) (a .o) (a .rational) (now (a .rows)) _ _ _ (l .i) (l .inv) (omega arith)
-    (not-true _ (c .before .if2 .taken)) _ (c .refuse2 .ensures)
+    (not-true _ (c .before .before .before .if2 .taken)) _ _ (c .before .odd-row .ensures) (c .refuse-at .ensures)
 
-refuse-requires-3 : tie.Need-refuse-requires-3 Inv-loop μ-loop
-refuse-requires-3 c κs = search needs
+refuse-requires-2 : tie.Need-refuse-requires-2 Inv-loop μ-loop
+refuse-requires-2 c κs = search needs
 
 same-length-3 : tie.Need-same-length-3 Inv-loop μ-loop
 same-length-3 c = c .before .before .before .loop .inv .done .long
@@ -149,7 +156,7 @@ same-length-3 c = c .before .before .before .loop .inv .done .long
 returns-3 : tie.Need-returns-3 Inv-loop μ-loop
 returns-3 c = let a = c .before .before .before .before .before .before .before .args in let l = c .before .before .before .loop in let t = c .before .before .loop-test .left in
     lower-end (a .spot .p) (a .spot .k) (a .spot .s) (a .spot .t) (a .n) (a .a) (a .o) (a .rational) (now (a .rows)) _ _ _ (l .i) (l .inv) (omega arith)
-    (not-false _ (c .before .if2 .left)) _ (c .refuse3 .ensures)
+    (not-false _ (c .before .if2 .left)) _ (c .refuse2 .ensures)
 
 pub lower-rows-spec : {M : Type 1} → statement M
 lower-rows-spec =
@@ -182,9 +189,11 @@ lower-rows-spec =
     add-i
     loop-less
     loop-again
-    refuse-requires-2
+    add-odd-row
+    odd-row-requires
+    refuse-at-requires
     same-length-2
     returns-2
-    refuse-requires-3
+    refuse-requires-2
     same-length-3
     returns-3)

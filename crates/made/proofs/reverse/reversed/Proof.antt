@@ -82,7 +82,11 @@ same-length-4 c =
     .before .before .before .before .before .before .out-knots .given)
 
 same-length-5 : tie.Need-same-length-5
-same-length-5 c = search needs
+same-length-5 c =
+    c .before .before .before .out-points3 .given
+    ∙ (c .before .before .before .before .before .before .before .before .before .before .before .before .before .before .before .out-points2 .given
+    ∙ c .before .before .before .before .before .before .before .before .before .before .before .before .before .before .before .before .before .before .before .before .before .before .before .before
+    .before .before .before .before .out-points .given)
 
 same-length-6 : tie.Need-same-length-6
 same-length-6 c = search needs
