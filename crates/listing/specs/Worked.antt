@@ -4,9 +4,9 @@ use Prim.Native.Nat.{ℕ}
 use mathlib.Core.Path.{_≡_, refl}
 use mathlib.Core.List.{List, [], _∷_, _++_}
 use lib.Ieee.{Float, binary64, ofBits, toBits, lt}
-use Rattle.knots.specs.Refusal.{refuse, record-malformed}
+use Rattle.knots.specs.Refusal.{refuse, placed, knots-unordered, record-malformed}
 use Rattle.decimals.specs.Text.{digit, digits, width, decimal, spacedBits}
-use Rattle.listing.specs.Text.{spanLine, refusalLine}
+use Rattle.listing.specs.Text.{spanLine, saysPlace, placeText, refusalLine}
 use Rattle.listing.specs.Listing.{lineOf, linesOf, listing}
 
 abbrev double : ℕ → Float
@@ -39,8 +39,9 @@ bits2 = 52 ∷ 48 ∷ 48 ∷ zeros
 
 pub record Worked : Type 0 where
   pub table-a : listing (lineOf knotsA) 2 4 knotsA ≡ (50 ∷ 32 ∷ bits0) ++ (32 ∷ bits1) ++ (10 ∷ 51 ∷ 32 ∷ bits1) ++ (32 ∷ bits2) ++ (10 ∷ [])
+  pub unordered : refusalLine (placed 3 (refuse knots-unordered)) ≡ 114 ∷ 101 ∷ 102 ∷ 117 ∷ 115 ∷ 101 ∷ 100 ∷ 32 ∷ 52 ∷ 32 ∷ 51 ∷ 10 ∷ []
   pub malformed : refusalLine (refuse record-malformed) ≡ 114 ∷ 101 ∷ 102 ∷ 117 ∷ 115 ∷ 101 ∷ 100 ∷ 32 ∷ 51 ∷ 51 ∷ 10 ∷ []
 
 pub worked : Worked
-unfolding digit digits width decimal spacedBits spanLine refusalLine lineOf linesOf listing ofBits toBits lt
-worked = record { table-a = refl; malformed = refl }
+unfolding digit digits width decimal spacedBits spanLine saysPlace placeText refusalLine lineOf linesOf listing ofBits toBits lt
+worked = record { table-a = refl; unordered = refl; malformed = refl }

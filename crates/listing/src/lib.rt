@@ -1,11 +1,13 @@
 // The listers' lines.
 pub mod boxes;
+mod places;
 mod starts;
 
 use decimals::pieces::put_label;
 use knots::refusal::Refusal;
 use knots::walk::NextSpan;
 use knots::walk::next_span;
+use places::put_place;
 use record::clear::clear_bytes;
 use starts::put_start;
 ghost use mathlib.Core.Path.{_≡_};
@@ -57,8 +59,9 @@ pub fn refusal_line(refusal: Refusal, out: &mut [u8; 2304]) -> usize
 {
     clear_bytes(out);
     let a = put_label(out, 0, b"refused ", refusal.number as u64);
-    out[a] = b'\n';
-    a + 1
+    let b = put_place(out, a, refusal);
+    out[b] = b'\n';
+    b + 1
 }
 
 // The line of the first nonempty span from a place on, for any input; where there is none, nothing but 0.
