@@ -11,7 +11,7 @@ use Rattle.knots.specs.Refusal.{row, length-bad}
 use Rattle.knots.specs.declared.refusal.Refusal.{Refusal}
 use Rattle.exports.specs.Tables.{packedOf}
 
--- a refusal with its number, or doubles for the front of the lent run
+-- a refusal by the number returned, or doubles for the front of the lent run
 pub data Answer : Type 0 where
   refused : ℕ → Answer
   values : List Float → Answer

@@ -9,6 +9,6 @@ use Rattle.exports.specs.Tables.{packedOf}
 abbrev pub pointsOf : EditAnswer → ℕ
 pointsOf a = getD (editAnswerValues a) 1 0
 
--- the refusal, packed, in the low half, and the count of points in the high one
+-- the refusal, packed; where there is none, the count of points in the high half
 abbrev pub editNumber : EditAnswer → ℕ
 editNumber a = pointsOf a * 4294967296 + packedOf (editAnswerRefusal a)

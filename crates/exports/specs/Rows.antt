@@ -9,6 +9,6 @@ use Rattle.exports.specs.Tables.{packedOf, highOf}
 abbrev pub rowsNumber : ManyAnswer → ℕ
 rowsNumber a = packedOf (manyAnswerRefusal a)
 
--- how many, or a refusal's number times 2^32
+-- how many, or the refusal with its number in the high half
 abbrev pub rowsCount : ManyAnswer → ℕ
 rowsCount a = highOf (manyAnswerRefusal a) + getD (manyAnswerValues a) 0 0

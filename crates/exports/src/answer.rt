@@ -16,10 +16,11 @@ pub fn refuse(out: &mut [f64], number: u32) -> u32
 }
 
 // The refusal of an answer, packed.
-pub fn put_refusal(out: &mut [f64], r: Refusal) -> u32
+pub fn put_refusal(out: &mut [f64], r: Refusal) -> u64
     ensures { λ n. ⌜ Leaves (told r []) (now (out .entry)) (now (out .exit)) n ⌝ }
 {
-    refuse(out, packed(r))
+    clear(out);
+    packed(r)
 }
 
 // One double, then +0.0; 30 where the run is empty.

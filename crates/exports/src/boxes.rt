@@ -13,7 +13,7 @@ ghost use Rattle.exports.specs.Answer.{Leaves, values};
 ghost use Rattle.exports.specs.Boxes.{boundedAnswer};
 
 // The box, then +0.0; 30 where the run has no room for it.
-fn put_box(out: &mut [f64], b: NurbsBounds) -> u32
+fn put_box(out: &mut [f64], b: NurbsBounds) -> u64
     ensures { λ r. ⌜ Leaves (values (boundedValues (Bounded.Are b))) (now (out .entry)) (now (out .exit)) r ⌝ }
 {
     clear(out);
@@ -26,7 +26,7 @@ fn put_box(out: &mut [f64], b: NurbsBounds) -> u32
     0
 }
 
-fn put_bounded(out: &mut [f64], a: Bounded) -> u32
+fn put_bounded(out: &mut [f64], a: Bounded) -> u64
     ensures { λ r. ⌜ Leaves (boundedAnswer a) (now (out .entry)) (now (out .exit)) r ⌝ }
 {
     match a {
@@ -46,7 +46,7 @@ pub extern "C" fn tasulogi_bound_curve(
     lo: f64,
     hi: f64,
     out: &mut [f64],
-) -> u32
+) -> u64
     ensures { λ r. ⌜ Leaves (boundedAnswer (boundOf degree (now (knots .entry)) (now (points .entry)) rational (now (weights .entry)) lo hi)) (now (out .entry)) (now (out .exit)) r ⌝ }
 {
     put_bounded(
@@ -72,7 +72,7 @@ pub extern "C" fn tasulogi_bound_surface(
     v_lo: f64,
     v_hi: f64,
     out: &mut [f64],
-) -> u32
+) -> u64
     ensures { λ r. ⌜ Leaves (boundedAnswer (surfaceOf p q (now (uk .entry)) (now (vk .entry)) un vn (now (points .entry)) rational (now (weights .entry)) «u_lo» «u_hi» «v_lo» «v_hi»)) (now (out .entry)) (now (out .exit)) r ⌝ }
 {
     put_bounded(

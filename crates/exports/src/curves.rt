@@ -19,7 +19,7 @@ pub extern "C" fn tasulogi_reversed(
     out_knots: &mut [f64],
     out_points: &mut [f64],
     out_weights: &mut [f64],
-) -> u32
+) -> u64
     ensures { λ n. ⌜ n ≡ packedOf (reverseRefusal degree (now (knots .entry)) (now (points .entry)) rational (now (weights .entry)) (length (now («out_knots» .entry))) (length (now («out_points» .entry))) (length (now («out_weights» .entry)))) ⌝ }
     ensures { λ n. ⌜ ReverseMeets degree (now (knots .entry)) (now (points .entry)) rational (now (weights .entry)) (length (now («out_knots» .entry))) (length (now («out_points» .entry))) (length (now («out_weights» .entry))) (now («out_knots» .exit)) (now («out_points» .exit)) (now («out_weights» .exit)) (reverseRefusal degree (now (knots .entry)) (now (points .entry)) rational (now (weights .entry)) (length (now («out_knots» .entry))) (length (now («out_points» .entry))) (length (now («out_weights» .entry)))) ⌝ }
 {
@@ -51,7 +51,7 @@ pub extern "C" fn tasulogi_iso_curve(
     t: f64,
     op: &mut [f64],
     ow: &mut [f64],
-) -> u32
+) -> u64
     ensures { λ n. ⌜ n ≡ packedOf (isoRefusal p q (now (uk .entry)) (now (vk .entry)) un vn (now (points .entry)) rational (now (weights .entry)) «constant_u» t (length (now (op .entry))) (length (now (ow .entry)))) ⌝ }
     ensures { λ n. ⌜ IsoMeets p q (now (uk .entry)) (now (vk .entry)) un vn (now (points .entry)) rational (now (weights .entry)) «constant_u» t (length (now (op .entry))) (length (now (ow .entry))) (now (op .exit)) (now (ow .exit)) (isoRefusal p q (now (uk .entry)) (now (vk .entry)) un vn (now (points .entry)) rational (now (weights .entry)) «constant_u» t (length (now (op .entry))) (length (now (ow .entry)))) ⌝ }
 {

@@ -1,4 +1,4 @@
-// Edits of a curve. The output runs hold the curve that is formed, or +0.0; scratch is left +0.0. The number returned has the refusal in its low half and the count of points in its high half.
+// Edits of a curve. The output runs hold the curve that is formed, or +0.0; scratch is left +0.0. The number returned has the refusal in its low half, and in its high half the count of points or the refusal's place.
 use crate::tables::packed;
 use edits::answer::EditAnswer;
 use elevation::elevate::elevate_degree;
@@ -20,7 +20,7 @@ fn edit_number(a: EditAnswer) -> u64
 {
     match a {
         EditAnswer::Formed { degree, count } => count as u64 * 0x1_0000_0000,
-        EditAnswer::Refused(r) => packed(r) as u64,
+        EditAnswer::Refused(r) => packed(r),
     }
 }
 

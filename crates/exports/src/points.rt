@@ -18,7 +18,7 @@ ghost use Rattle.exports.specs.Answer.{Leaves, values};
 ghost use Rattle.exports.specs.Points.{curveAnswer, curve2Answer, surfaceAnswer};
 
 // Two vectors, then +0.0; 30 where the run has no room for them.
-fn put_vectors(out: &mut [f64], a: Vector, b: Vector) -> u32
+fn put_vectors(out: &mut [f64], a: Vector, b: Vector) -> u64
     ensures { λ r. ⌜ Leaves (values (onto a (onto b []))) (now (out .entry)) (now (out .exit)) r ⌝ }
 {
     clear(out);
@@ -31,7 +31,7 @@ fn put_vectors(out: &mut [f64], a: Vector, b: Vector) -> u32
 }
 
 // Three vectors, then +0.0; 30 where the run has no room for them.
-fn put_three_vectors(out: &mut [f64], a: Vector, b: Vector, c: Vector) -> u32
+fn put_three_vectors(out: &mut [f64], a: Vector, b: Vector, c: Vector) -> u64
     ensures { λ r. ⌜ Leaves (values (onto a (onto b (onto c [])))) (now (out .entry)) (now (out .exit)) r ⌝ }
 {
     clear(out);
@@ -45,7 +45,7 @@ fn put_three_vectors(out: &mut [f64], a: Vector, b: Vector, c: Vector) -> u32
 }
 
 // A curve's point and first derivative, or the refusal.
-pub fn put_curve(out: &mut [f64], a: CurveAnswer) -> u32
+pub fn put_curve(out: &mut [f64], a: CurveAnswer) -> u64
     ensures { λ r. ⌜ Leaves (curveAnswer a) (now (out .entry)) (now (out .exit)) r ⌝ }
 {
     match a {
@@ -64,7 +64,7 @@ pub extern "C" fn tasulogi_eval(
     weights: &[f64],
     t: f64,
     out: &mut [f64],
-) -> u32
+) -> u64
     ensures { λ r. ⌜ Leaves (curveAnswer (evalOf degree (now (knots .entry)) (now (points .entry)) rational (now (weights .entry)) t)) (now (out .entry)) (now (out .exit)) r ⌝ }
 {
     put_curve(out, eval(degree, knots, points, rational, weights, t))
@@ -80,7 +80,7 @@ pub extern "C" fn tasulogi_eval2(
     weights: &[f64],
     t: f64,
     out: &mut [f64],
-) -> u32
+) -> u64
     ensures { λ r. ⌜ Leaves (curve2Answer (eval2Of degree (now (knots .entry)) (now (points .entry)) rational (now (weights .entry)) t)) (now (out .entry)) (now (out .exit)) r ⌝ }
 {
     match eval2(degree, knots, points, rational, weights, t) {
@@ -104,7 +104,7 @@ pub extern "C" fn tasulogi_eval_surface(
     u: f64,
     v: f64,
     out: &mut [f64],
-) -> u32
+) -> u64
     ensures { λ r. ⌜ Leaves (surfaceAnswer (evalSurfaceOf p q (now (uk .entry)) (now (vk .entry)) un vn (now (points .entry)) rational (now (weights .entry)) u v)) (now (out .entry)) (now (out .exit)) r ⌝ }
 {
     match eval_surface(p, q, uk, vk, un, vn, points, rational, weights, u, v) {

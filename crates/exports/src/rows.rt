@@ -12,8 +12,8 @@ ghost use Rattle.many.specs.Points.{pointsStart, PointsMeet, Points2Meet};
 ghost use Rattle.many.specs.Spans.{spansOf, spansStart, SpansMeet};
 ghost use Rattle.exports.specs.Rows.{rowsNumber, rowsCount};
 
-// 0, or the number of the refusal.
-fn rows_number(a: ManyAnswer) -> u32
+// 0, or the refusal, packed.
+fn rows_number(a: ManyAnswer) -> u64
     ensures { λ n. ⌜ n ≡ rowsNumber a ⌝ }
 {
     match a {
@@ -22,7 +22,7 @@ fn rows_number(a: ManyAnswer) -> u32
     }
 }
 
-// How many rows there are, or a refusal's number in the upper half, where no count reaches.
+// How many rows there are, or a refusal with its number in the high half, where no count reaches.
 fn rows_count(a: ManyAnswer) -> u64
     ensures { λ n. ⌜ n ≡ rowsCount a ⌝ }
 {
@@ -43,7 +43,7 @@ pub extern "C" fn tasulogi_eval_many(
     ts: &[f64],
     numbers: &mut [u32],
     rows: &mut [f64],
-) -> u32
+) -> u64
     ensures { λ n. ⌜ n ≡ rowsNumber (answer (pointsStart degree (now (knots .entry)) (now (points .entry)) rational (now (weights .entry)) (now (ts .entry)) 6 (length (now (numbers .entry))) (length (now (rows .entry)))) (length (now (ts .entry)))) ⌝ }
     ensures { λ n. ⌜ PointsMeet degree (now (knots .entry)) (now (points .entry)) rational (now (weights .entry)) (now (ts .entry)) (length (now (numbers .entry))) (length (now (rows .entry))) (now (numbers .exit)) (now (rows .exit)) (answer (pointsStart degree (now (knots .entry)) (now (points .entry)) rational (now (weights .entry)) (now (ts .entry)) 6 (length (now (numbers .entry))) (length (now (rows .entry)))) (length (now (ts .entry)))) ⌝ }
 {
@@ -61,7 +61,7 @@ pub extern "C" fn tasulogi_eval2_many(
     ts: &[f64],
     numbers: &mut [u32],
     rows: &mut [f64],
-) -> u32
+) -> u64
     ensures { λ n. ⌜ n ≡ rowsNumber (answer (pointsStart degree (now (knots .entry)) (now (points .entry)) rational (now (weights .entry)) (now (ts .entry)) 9 (length (now (numbers .entry))) (length (now (rows .entry)))) (length (now (ts .entry)))) ⌝ }
     ensures { λ n. ⌜ Points2Meet degree (now (knots .entry)) (now (points .entry)) rational (now (weights .entry)) (now (ts .entry)) (length (now (numbers .entry))) (length (now (rows .entry))) (now (numbers .exit)) (now (rows .exit)) (answer (pointsStart degree (now (knots .entry)) (now (points .entry)) rational (now (weights .entry)) (now (ts .entry)) 9 (length (now (numbers .entry))) (length (now (rows .entry)))) (length (now (ts .entry)))) ⌝ }
 {

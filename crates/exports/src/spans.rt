@@ -10,7 +10,7 @@ ghost use Rattle.knots.specs.Span.{clamped, spanAnswer};
 ghost use Rattle.knots.specs.Walk.{nextSpan};
 ghost use Rattle.exports.specs.Tables.{spanNumber, nextNumber};
 
-// The span of a parameter in the low half, or a refusal's number in the high one.
+// The span of a parameter, or a refusal with its number in the high half.
 #[no_mangle]
 pub extern "C" fn tasulogi_find_span(degree: usize, count: usize, knots: &[f64], u: f64) -> u64
     ensures { λ r. ⌜ r ≡ spanNumber (spanAnswer degree count (now (knots .entry)) u) ⌝ }

@@ -3,15 +3,16 @@ use knots::curve::curve_refusal;
 use knots::refusal::Refusal;
 use knots::refusal::class_of;
 use knots::surface::surface_refusal;
+ghost use Prim.Native.Nat.{_<_};
 ghost use mathlib.Core.Path.{_≡_};
 ghost use Rattle.knots.specs.Refusal.{classOf};
 ghost use Rattle.knots.specs.Curve.{curveRefusal};
 ghost use Rattle.knots.specs.Surface.{surfaceRefusal};
-ghost use Rattle.exports.specs.Tables.{packedOf, highOf};
+ghost use Rattle.exports.specs.Tables.{directedOf, halfOf, packedOf, highOf};
 
 // The number alone, but for 1 to 7 of a surface: 100 more along u, 200 more along v.
-pub fn packed(r: Refusal) -> u32
-    ensures { λ n. ⌜ n ≡ packedOf r ⌝ }
+fn directed(r: Refusal) -> u32
+    ensures { λ n. ⌜ n ≡ directedOf r ⌝ }
 {
     let number = r.number;
     if number > 7 {
@@ -26,11 +27,29 @@ pub fn packed(r: Refusal) -> u32
     number
 }
 
-// A refusal's number in the upper half, where no span reaches.
+// A place in half of a number: one that has no room there becomes 2^32 - 1.
+fn half(place: usize) -> u64
+    ensures { λ n. ⌜ n ≡ halfOf place ⌝ }
+    ensures { λ n. ⌜ n < 4294967296 ⌝ }
+{
+    if place > 0xffff_ffff {
+        return 0xffff_ffff;
+    }
+    place as u64
+}
+
+// The place in the high half, where a reader of 32 bits does not look.
+pub fn packed(r: Refusal) -> u64
+    ensures { λ n. ⌜ n ≡ packedOf r ⌝ }
+{
+    half(r.place) * 0x1_0000_0000 + directed(r) as u64
+}
+
+// The number in the high half, where no span reaches, and the place in the low one.
 pub fn high(r: Refusal) -> u64
     ensures { λ n. ⌜ n ≡ highOf r ⌝ }
 {
-    r.number as u64 * 0x1_0000_0000
+    r.number as u64 * 0x1_0000_0000 + half(r.place)
 }
 
 // Invalid 0, degenerate 1, unimplemented 2, capacity 3, internal 4; 5 for what is no refusal number.
@@ -41,7 +60,7 @@ pub extern "C" fn tasulogi_class_of(number: u32) -> u8
     class_of(number)
 }
 
-// 0 for a valid curve, else the number of its refusal.
+// 0 for a valid curve, else its refusal, packed.
 #[no_mangle]
 pub extern "C" fn tasulogi_curve_refusal(
     degree: usize,
@@ -49,11 +68,14 @@ pub extern "C" fn tasulogi_curve_refusal(
     points: &[f64],
     rational: bool,
     weights: &[f64],
-) -> u32
-    ensures { λ r. ⌜ r ≡ curveRefusal degree (now (knots .entry)) (now (points .entry)) rational (now (weights .entry)) .number ⌝ }
+) -> u64
+    ensures { λ r. ⌜ r ≡ packedOf (curveRefusal degree (now (knots .entry)) (now (points .entry)) rational (now (weights .entry))) ⌝ }
 {
     let r = curve_refusal(degree, knots, points, rational, weights);
-    r.number
+    if r.number == 0 {
+        return 0;
+    }
+    packed(r)
 }
 
 // 0 for a valid surface, else its refusal, packed.
@@ -68,7 +90,7 @@ pub extern "C" fn tasulogi_surface_refusal(
     points: &[f64],
     rational: bool,
     weights: &[f64],
-) -> u32
+) -> u64
     ensures { λ r. ⌜ r ≡ packedOf (surfaceRefusal p q (now (uk .entry)) (now (vk .entry)) un vn (now (points .entry)) rational (now (weights .entry))) ⌝ }
 {
     packed(surface_refusal(p, q, uk, vk, un, vn, points, rational, weights))

@@ -44,7 +44,7 @@ pub extern "C" fn tasulogi_step_eval_at(
     weights: &[f64],
     t: f64,
     out: &mut [f64],
-) -> u32
+) -> u64
     ensures { λ r. ⌜ Leaves (curveAnswer (evalAtOf degree (now (knots .entry)) (now (points .entry)) rational (now (weights .entry)) t)) (now (out .entry)) (now (out .exit)) r ⌝ }
 {
     put_curve(out, eval_at(degree, knots, points, rational, weights, t))

@@ -21,9 +21,6 @@ enum-known-a-2 c = search needs
 packed-requires : tie.Need-packed-requires
 packed-requires c κs = search needs
 
-cast-result : tie.Need-cast-result
-cast-result c = search needs
-
 returns : tie.Need-returns
 unfolding packedOf
 returns c = rw (c .before .a .given .1) (omega arith)
@@ -34,4 +31,4 @@ returns-2 c = rw (c .before .before .a2 .given .1) (c .packed .ensures ∙ sym (
 pub edit-number-spec : {M : Type 1} → statement M
 edit-number-spec =
     tie.close
-    (tie.spec enum-known-a mul-result enum-known-a-2 packed-requires cast-result returns returns-2)
+    (tie.spec enum-known-a mul-result enum-known-a-2 packed-requires returns returns-2)
