@@ -114,8 +114,8 @@ module _ (p k s : ℕ) (t : Float) (n a : ℕ) (o : Vector) (g : Bool) (r₀ : L
     others = subst (λ (m : ℕ). (j : ℕ) → Untouched g m j → at r₁ j ≡ at r₀ j) done-at (I .done .rest)
 
     -- the rows hold the points: the first that is not finite is the first point that is not
-    odd-is : offAt (λ j. finiteVector (vectorOf (rowOf g r₁ j))) (n + 1) ≡ offAt (λ j. finiteVector (lowerOf o (blends j))) (n + 1)
-    odd-is =
+    place-is : offAt (λ j. finiteVector (vectorOf (rowOf g r₁ j))) (n + 1) ≡ offAt (λ j. finiteVector (lowerOf o (blends j))) (n + 1)
+    place-is =
         off-cong (λ j. finiteVector (vectorOf (rowOf g r₁ j))) (λ j. finiteVector (lowerOf o (blends j))) (n + 1)
         (λ j l. ap (λ (q : Control). finiteVector (vectorOf q)) (I .done .rows j (omega (arith, done-at))))
 
@@ -123,7 +123,7 @@ module _ (p k s : ℕ) (t : Float) (n a : ℕ) (o : Vector) (g : Bool) (r₀ : L
         → LowerDone o g blends (n + 1) r₀ r₁ r
     unfolding lowerRefusal
     lower-bad e r k O R = record {
-      answer = simp (blended, sym whole ∙ e) (R ∙ ap (λ (i : ℕ). placed i (refuse point-not-finite)) (O ∙ odd-is));
+      answer = simp (blended, sym whole ∙ e) (R ∙ ap (λ (i : ℕ). placed i (refuse point-not-finite)) (O ∙ place-is));
       rows = λ z. absurd (no z);
       rest = others;
     }

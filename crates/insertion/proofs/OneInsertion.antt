@@ -110,10 +110,10 @@ module _ (a p n k s : ℕ) (t : Float) (g : Bool) (w₀ : List Float) where
       abbrev all-fine : Bool
       all-fine = allBelow (λ i. finiteVector (lowerOf (pointOf PS 0) (blended p n k s t KS PS g WS i))) (n + 1)
 
-      abbrev first-odd : Refusal
-      first-odd = placed (offAt (λ i. finiteVector (lowerOf (pointOf PS 0) (blended p n k s t KS PS g WS i))) (n + 1)) (refuse point-not-finite)
+      abbrev first-bad : Refusal
+      first-bad = placed (offAt (λ i. finiteVector (lowerOf (pointOf PS 0) (blended p n k s t KS PS g WS i))) (n + 1)) (refuse point-not-finite)
 
-      left : all-blended ≡ true → cond (not all-fine) first-odd accepted ≡ checked
+      left : all-blended ≡ true → cond (not all-fine) first-bad accepted ≡ checked
       unfolding morePoints moreWeights
       left h =
           ap₂ (λ (y : Bool) (i : ℕ). cond (not y) (placed i (refuse point-not-finite)) accepted)
@@ -123,7 +123,7 @@ module _ (a p n k s : ℕ) (t : Float) (g : Bool) (w₀ : List Float) where
 
       refusal-is : r ≡ formRefusal p n k s t KS PS g WS
       unfolding formRefusal lowerRefusal
-      refusal-is = joined all-lifted all-blended all-fine (refuse control-bad) (refuse edit-bad) first-odd checked r (sym (A .answer)) left (lower-done .answer)
+      refusal-is = joined all-lifted all-blended all-fine (refuse control-bad) (refuse edit-bad) first-bad checked r (sym (A .answer)) left (lower-done .answer)
 
       pub form-late : (r .number ≡ 0 → ⊥) → Formed a p n k s t KS PS g WS w₀ w₂ r
       form-late h = record { refusal = refusal-is; holds = λ z. absurd (h z) }

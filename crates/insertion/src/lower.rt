@@ -52,7 +52,7 @@ fn blend_at(spot: Spot, a: usize, rows: &[f64], i: usize, before: Control, here:
 }
 
 // The first of m points in rows with a coordinate that is not finite, or m: asked only where there is one.
-fn odd_row(rational: bool, m: usize, rows: &[f64]) -> usize
+fn non_finite_row(rational: bool, m: usize, rows: &[f64]) -> usize
     ensures { λ r. ⌜ r ≡ offAt (λ i. finiteVector (vectorOf (rowOf rational (now (rows .entry)) i))) m ⌝ }
 {
     let mut i = 0usize;
@@ -97,8 +97,8 @@ pub fn lower_rows(
         i += 1;
     }
     if !fine {
-        let odd = odd_row(rational, n + 1, rows);
-        return refuse_at(8, odd);
+        let first = non_finite_row(rational, n + 1, rows);
+        return refuse_at(8, first);
     }
     refuse(0)
 }

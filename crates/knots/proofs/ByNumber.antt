@@ -1,7 +1,7 @@
 -- A refusal is known by its number: with the place that the number asks for it is the whole.
 -- Assumes nothing.
-use Prim.Native.Nat.{ℕ, _+_}
-use mathlib.Core.Bool.{Bool, true, false, not, _&&_, cond}
+use Prim.Native.Nat.{ℕ, _+_, _*_, _%_}
+use mathlib.Core.Bool.{Bool, true, false, not, _&&_, _||_, cond}
 use mathlib.Core.Path.{_≡_, refl}
 use mathlib.Core.List.{List}
 use lib.ListN.{length}
@@ -9,8 +9,10 @@ use lib.Dec.{leb, eqb}
 use lib.Ieee.{Float, binary64, sub, le}
 use lib.Ieee.Scale.{finite}
 use Rattle.doubles.specs.Run.{at}
+use Rattle.knots.specs.Refusal.{numbered}
 use Rattle.knots.specs.Knots.{allFinite, ordered, apart, orderRefusal, knotRefusal}
-use Rattle.knots.specs.Curve.{overLong, allWeights, controlRefusal}
+use Rattle.knots.specs.Curve.{overLong, anyLong, allWeights, countOf, controlRefusal}
+use Rattle.knots.specs.Surface.{netRefusal}
 use Rattle.knots.specs.Span.{spanRefusal}
 use Rattle.knots.specs.Placed.{knotPlaced, controlPlaced}
 use Rattle.knots.specs.declared.refusal.Refusal.{Refusal}
@@ -31,6 +33,12 @@ knot-told p n ks =
     (row-told f (le (at ks n) (at ks p)) _ _ refl
     (row-told f (not (finite (sub binary64 (at ks n) (at ks p)))) _ _ refl
     (row-told f (not (apart (p + 1) ks)) _ _ refl refl))))))
+
+pub net-told : (us vs : List Float) (m n : ℕ) (ps : List Float) (g : Bool) (ws : List Float) → numbered (netRefusal us vs m n ps g ws .number) ≡ netRefusal us vs m n ps g ws
+unfolding netRefusal
+net-told us vs m n ps g ws =
+    row-told numbered (overLong true us || anyLong vs ps g ws) _ _ refl
+    (row-told numbered (not (eqb (length ps % 3) 0)) _ _ refl (row-told numbered (not (eqb (countOf ps) (m * n))) _ _ refl refl))
 
 pub span-told : (p n : ℕ) (ks : List Float) (u : Float) → knotPlaced (spanRefusal p n ks u .number) p ks ≡ spanRefusal p n ks u
 unfolding spanRefusal knotPlaced

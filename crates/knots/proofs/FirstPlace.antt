@@ -22,7 +22,7 @@ use Rattle.knots.proofs.Below.{first-off, off-below, all-at, and-left, 
 use Rattle.knots.proofs.Valid.{sorted-run}
 
 -- ---- 4: the knot at i is the first that is not finite
-pub record FirstOdd (ks : List Float) (i : ℕ) : Type 0 where
+pub record FirstNonFinite (ks : List Float) (i : ℕ) : Type 0 where
   pub within : i < length ks
   pub here : finite (at ks i) ≡ false
   pub before : (k : ℕ) → k < i → finite (at ks k) ≡ true
@@ -34,9 +34,9 @@ pub record FirstFall (ks : List Float) (i : ℕ) : Type 0 where
   pub here : lt (at ks (i + 1)) (at ks i) ≡ true
   pub before : (k : ℕ) → k < i → lt (at ks (k + 1)) (at ks k) ≡ false
 
-pub odd-first : (xs : List Float) → allFinite xs ≡ false → FirstOdd xs (nonFiniteAt xs)
+pub non-finite-first : (xs : List Float) → allFinite xs ≡ false → FirstNonFinite xs (nonFiniteAt xs)
 unfolding allFinite
-odd-first xs h = let r = first-off (λ k. finite (at xs k)) (length xs) h in record { within = r .0; here = r .1; before = r .2 }
+non-finite-first xs h = let r = first-off (λ k. finite (at xs k)) (length xs) h in record { within = r .0; here = r .1; before = r .2 }
 
 fall-first : (xs : List Float) → allFinite xs ≡ true → inOrder xs ≡ false → FirstFall xs (offAt (λ k. not (lt (at xs (k + 1)) (at xs k))) (length xs - 1))
 unfolding allFinite inOrder
@@ -49,13 +49,13 @@ fall-first xs f h =
       before = λ k l. not-true _ (r .2 k l);
     }
 
-pub unordered-first : (ks : List Float) → ordered ks ≡ false → FirstOdd ks (unorderedAt ks) ⊎ FirstFall ks (unorderedAt ks)
+pub unordered-first : (ks : List Float) → ordered ks ≡ false → FirstNonFinite ks (unorderedAt ks) ⊎ FirstFall ks (unorderedAt ks)
 unfolding ordered unorderedAt
 unordered-first ks h = go (allFinite ks) refl
   where
-    go : (t : Bool) → allFinite ks ≡ t → FirstOdd ks (unorderedAt ks) ⊎ FirstFall ks (unorderedAt ks)
+    go : (t : Bool) → allFinite ks ≡ t → FirstNonFinite ks (unorderedAt ks) ⊎ FirstFall ks (unorderedAt ks)
     go true e = rw e (inr (fall-first ks e (and-rest (allFinite ks) (inOrder ks) e h)))
-    go false e = rw e (inl (odd-first ks e))
+    go false e = rw e (inl (non-finite-first ks e))
 
 -- ---- 7: the p + 2 knots from i on are equal as numbers, the knot before them is below, and no p + 2 knots that start before are equal
 pub record FirstRepeated (p : ℕ) (ks : List Float) (i : ℕ) : Type 0 where
@@ -114,7 +114,7 @@ pub record FirstPoint (ps : List Float) (i : ℕ) : Type 0 where
 
 pub point-first : (ps : List Float) → allFinite ps ≡ false → FirstPoint ps (nonFiniteAt ps / 3)
 point-first ps h =
-    let r = odd-first ps h in
+    let r = non-finite-first ps h in
     record { coordinate = nonFiniteAt ps; within = r .within; own = refl; here = r .here; before = λ k l. r .before k (omega arith) }
 
 -- ---- 10: the weight at i is the first that is none
@@ -129,7 +129,7 @@ weight-first ws h = let r = first-off (λ k. isWeight (at ws k)) (length ws) h i
 
 -- ---- of a curve's refusal: what is at the place, by its number
 pub record PlaceFirst (p : ℕ) (ks ps ws : List Float) (r : Refusal) : Type 0 where
-  pub knot : r .number ≡ 4 → FirstOdd ks (r .place) ⊎ FirstFall ks (r .place)
+  pub knot : r .number ≡ 4 → FirstNonFinite ks (r .place) ⊎ FirstFall ks (r .place)
   pub run : r .number ≡ 7 → FirstRepeated p ks (r .place)
   pub point : r .number ≡ 8 → FirstPoint ps (r .place)
   pub weight : r .number ≡ 10 → FirstWeight ws (r .place)
@@ -197,8 +197,8 @@ module _ (p : ℕ) (ks ps ws : List Float) where
       (λ _. row-place (not (eqb (length ps % 3) 0)) _ _ (λ _. other 32 refl refl refl refl) (λ _. formed-place (countOf ps) g))
 
 -- ---- a place is within the run, or at its end
-pub odd-below : (xs : List Float) → nonFiniteAt xs ≤ length xs
-odd-below xs = off-below (λ k. finite (at xs k)) (length xs)
+pub non-finite-below : (xs : List Float) → nonFiniteAt xs ≤ length xs
+non-finite-below xs = off-below (λ k. finite (at xs k)) (length xs)
 
 pub bad-below : (xs : List Float) → badWeightAt xs ≤ length xs
 bad-below xs = off-below (λ k. isWeight (at xs k)) (length xs)
@@ -209,4 +209,4 @@ unordered-below xs = go (allFinite xs)
   where
     go : (t : Bool) → cond t (offAt (λ k. not (lt (at xs (k + 1)) (at xs k))) (length xs - 1)) (nonFiniteAt xs) ≤ length xs
     go true = omega (arith, off-below (λ k. not (lt (at xs (k + 1)) (at xs k))) (length xs - 1))
-    go false = odd-below xs
+    go false = non-finite-below xs

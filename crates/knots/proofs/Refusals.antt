@@ -1,5 +1,6 @@
 -- Refusals one after the other: the first that is given is the answer.
 -- Assumes nothing.
+use Prim.Native.Nat.{ℕ}
 use mathlib.Core.Bool.{Bool, true, false, cond}
 use mathlib.Core.Path.{_≡_, refl, sym, _∙_, ap}
 use lib.Dec.{eqb}
@@ -12,12 +13,19 @@ pub passed : (b : Bool) (r x : Refusal) → (r .number ≡ 0 → ⊥) → cond b
 passed true r x n h = absurd (n h)
 passed false r x n h = (refl, h)
 
--- a call's answer r that is the refusal a: it is handed on, or the next is asked
+-- a call's answer k that is the number m: it is handed on, or the next is asked
+pub number-stop : {k m : ℕ} → k ≡ m → (k ≡ 0 → ⊥) → eqb m 0 ≡ false
+number-stop {m} e h = ne-eqb m 0 (λ z. h (e ∙ z))
+
+pub number-skip : {k m : ℕ} → k ≡ m → k ≡ 0 → eqb m 0 ≡ true
+number-skip {m} e h = eq-eqb m 0 (sym e ∙ h)
+
+-- and an answer r that is the refusal a
 pub stop : {r a : Refusal} → r ≡ a → (r .number ≡ 0 → ⊥) → eqb (a .number) 0 ≡ false
-stop {a} e h = ne-eqb (a .number) 0 (λ z. h (ap (λ (x : Refusal). x .number) e ∙ z))
+stop e = number-stop (ap (λ (x : Refusal). x .number) e)
 
 pub skip : {r a : Refusal} → r ≡ a → r .number ≡ 0 → eqb (a .number) 0 ≡ true
-skip {a} e h = eq-eqb (a .number) 0 (sym (ap (λ (x : Refusal). x .number) e) ∙ h)
+skip e = number-skip (ap (λ (x : Refusal). x .number) e)
 
 -- a row above stands before what is asked last
 pub row-first : (b : Bool) (r x y z : Refusal) → (r .number ≡ 0 → ⊥) → x ≡ orElse y z → cond b r x ≡ orElse (cond b r y) z

@@ -70,10 +70,10 @@ pub fn bad_weight_at(xs: &[f64]) -> usize
 pub fn unordered_at(xs: &[f64]) -> usize
     ensures { λ r. ⌜ r ≡ unorderedAt (now (xs .entry)) ⌝ }
 {
-    let odd = non_finite_at(xs);
+    let non_finite = non_finite_at(xs);
     let fall = first_pair(xs, 1, false);
-    if odd < xs.len() {
-        return odd;
+    if non_finite < xs.len() {
+        return non_finite;
     }
     fall
 }

@@ -1,7 +1,8 @@
 // Validation of a surface: refusals 30, 32, 11, 1 to 7 of u, 1 to 7 of v, 8 to 10, in this order.
 use crate::curve::any_long;
 use crate::curve::control_refusal;
-use crate::knots::knot_refusal;
+use crate::knots::knot_number;
+use crate::knots::knot_placed;
 use crate::limits::is_product;
 use crate::limits::over_long;
 use crate::refusal::Refusal;
@@ -10,8 +11,8 @@ use crate::refusal::refuse_along;
 ghost use mathlib.Core.Path.{_≡_};
 ghost use Rattle.knots.specs.Surface.{netRefusal, surfaceRefusal};
 
-// Refusals 30, 32, 11 of a surface's runs. Counts whose product overflows are 11.
-pub fn net_refusal(
+// The number 30, 32 or 11 of a surface's runs, or 0. Counts whose product overflows are 11.
+pub fn net_number(
     u_knots: &[f64],
     v_knots: &[f64],
     u_count: usize,
@@ -19,22 +20,22 @@ pub fn net_refusal(
     points: &[f64],
     rational: bool,
     weights: &[f64],
-) -> Refusal
-    ensures { λ r. ⌜ r ≡ netRefusal (now («u_knots» .entry)) (now («v_knots» .entry)) «u_count» «v_count» (now (points .entry)) rational (now (weights .entry)) ⌝ }
+) -> u32
+    ensures { λ r. ⌜ r ≡ netRefusal (now («u_knots» .entry)) (now («v_knots» .entry)) «u_count» «v_count» (now (points .entry)) rational (now (weights .entry)) .number ⌝ }
 {
     if over_long(true, u_knots) {
-        return refuse(30);
+        return 30;
     }
     if any_long(v_knots, points, rational, weights) {
-        return refuse(30);
+        return 30;
     }
     if points.len() % 3 != 0 {
-        return refuse(32);
+        return 32;
     }
     if !is_product(points.len() / 3, u_count, v_count) {
-        return refuse(11);
+        return 11;
     }
-    refuse(0)
+    0
 }
 
 // The refusal of a surface.
@@ -51,7 +52,7 @@ pub fn surface_refusal(
 ) -> Refusal
     ensures { λ r. ⌜ r ≡ surfaceRefusal «u_degree» «v_degree» (now («u_knots» .entry)) (now («v_knots» .entry)) «u_count» «v_count» (now (points .entry)) rational (now (weights .entry)) ⌝ }
 {
-    let net = net_refusal(
+    let net = net_number(
         u_knots,
         v_knots,
         u_count,
@@ -60,16 +61,16 @@ pub fn surface_refusal(
         rational,
         weights,
     );
-    if net.number != 0 {
-        return net;
+    if net != 0 {
+        return refuse(net);
     }
-    let u = knot_refusal(u_degree, u_count, u_knots);
-    if u.number != 0 {
-        return refuse_along(0, u);
+    let u = knot_number(u_degree, u_count, u_knots);
+    if u != 0 {
+        return refuse_along(0, knot_placed(u, u_degree, u_knots));
     }
-    let v = knot_refusal(v_degree, v_count, v_knots);
-    if v.number != 0 {
-        return refuse_along(1, v);
+    let v = knot_number(v_degree, v_count, v_knots);
+    if v != 0 {
+        return refuse_along(1, knot_placed(v, v_degree, v_knots));
     }
     let count = points.len() / 3;
     control_refusal(count, points, rational, weights)

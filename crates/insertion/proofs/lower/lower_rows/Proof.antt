@@ -129,11 +129,11 @@ loop-again c = let a = c .before .before .before .before .before .before .before
     (c .before .before .before .kept-row .ensures) _ (row-part-long (l .i) _ _ room (a .rational) _ (c .before .before .put-row .ensures))
     (row-put-part (l .i) _ _ room (a .rational) _ _ (c .before .before .put-row .ensures) refl)
 
-add-odd-row : tie.Need-add-odd-row Inv-loop μ-loop
-add-odd-row c = search needs
+add-non-finite-row : tie.Need-add-non-finite-row Inv-loop μ-loop
+add-non-finite-row c = search needs
 
-odd-row-requires : tie.Need-odd-row-requires Inv-loop μ-loop
-odd-row-requires c κs = search needs
+non-finite-row-requires : tie.Need-non-finite-row-requires Inv-loop μ-loop
+non-finite-row-requires c κs = search needs
 
 refuse-at-requires : tie.Need-refuse-at-requires Inv-loop μ-loop
 refuse-at-requires c κs = search needs
@@ -145,7 +145,7 @@ returns-2 : tie.Need-returns-2 Inv-loop μ-loop
 returns-2 c = let a = c .before .before .before .before .before .before .before .before .before .args in let l = c .before .before .before .before .before .loop in
     let t = c .before .before .before .before .loop-test .left in
     lower-bad (a .spot .p) (a .spot .k) (a .spot .s) (a .spot .t) (a .n) (a .a) (a .o) (a .rational) (now (a .rows)) _ _ _ (l .i) (l .inv) (omega arith)
-    (not-true _ (c .before .before .before .if2 .taken)) _ _ (c .before .odd-row .ensures) (c .refuse-at .ensures)
+    (not-true _ (c .before .before .before .if2 .taken)) _ _ (c .before .non-finite-row .ensures) (c .refuse-at .ensures)
 
 refuse-requires-2 : tie.Need-refuse-requires-2 Inv-loop μ-loop
 refuse-requires-2 c κs = search needs
@@ -189,8 +189,8 @@ lower-rows-spec =
     add-i
     loop-less
     loop-again
-    add-odd-row
-    odd-row-requires
+    add-non-finite-row
+    non-finite-row-requires
     refuse-at-requires
     same-length-2
     returns-2

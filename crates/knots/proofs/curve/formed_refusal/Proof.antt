@@ -1,12 +1,11 @@
 -- `knots::curve::formed_refusal` meets its contract.
 -- Assumes nothing.
 use Prim.Native.Nat.{ℕ}
-use mathlib.Core.Path.{sym, _∙_, ap}
+use mathlib.Core.Path.{_∙_, ap}
 use denote.Ref.{now}
-use borrow.Author.Tests.{eq-eqb, ne-eqb}
-use Rattle.knots.specs.Knots.{knotRefusal}
 use Rattle.knots.specs.Curve.{formedRefusal}
 use Rattle.knots.specs.Placed.{knotPlaced}
+use Rattle.knots.proofs.Refusals.{number-stop, number-skip}
 use Rattle.knots.proofs.ByNumber.{knot-told}
 use borrow.Author.Needs.{needs}
 use Rattle.knots.proofs.curve.formed_refusal.Statement.{statement}
@@ -24,15 +23,15 @@ returns c =
     let a = c .before .before .before .before .before .before .args in
     let p = a .degree in
     let ks = now (a .knots) in
-    let some = ne-eqb (knotRefusal p (a .count) ks .number) 0 (λ z. c .before .if1 .taken (c .before .before .knot-number .ensures ∙ z)) in
-    simp some (c .knot-placed .ensures ∙ (ap (λ (k : ℕ). knotPlaced k p ks) (c .before .before .knot-number .ensures) ∙ knot-told p (a .count) ks))
+    let number = c .before .before .knot-number .ensures in
+    simp (number-stop number (c .before .if1 .taken)) (c .knot-placed .ensures ∙ (ap (λ (k : ℕ). knotPlaced k p ks) number ∙ knot-told p (a .count) ks))
 
 control-refusal-requires : tie.Need-control-refusal-requires
 control-refusal-requires c κs = search needs
 
 returns-2 : tie.Need-returns-2
 unfolding formedRefusal
-returns-2 c = simp (eq-eqb _ 0 (sym (c .before .before .knot-number .ensures) ∙ c .before .if1 .left)) (c .control-refusal .ensures)
+returns-2 c = simp (number-skip (c .before .before .knot-number .ensures) (c .before .if1 .left)) (c .control-refusal .ensures)
 
 pub formed-refusal-spec : {M : Type 1} → statement M
 formed-refusal-spec =

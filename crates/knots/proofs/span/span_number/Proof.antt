@@ -1,10 +1,9 @@
 -- `knots::span::span_number` meets its contract.
 -- Assumes nothing.
 use mathlib.Core.Path.{sym, _∙_}
-use denote.Ref.{now}
-use borrow.Author.Tests.{eq-eqb, ne-eqb, not-true, not-false}
-use Rattle.knots.specs.Knots.{knotRefusal}
+use borrow.Author.Tests.{not-true, not-false}
 use Rattle.knots.specs.Span.{spanRefusal}
+use Rattle.knots.proofs.Refusals.{number-stop, number-skip}
 use borrow.Author.Needs.{needs}
 use Rattle.knots.proofs.span.span_number.Statement.{statement}
 use Rattle.knots.proofs.span.span_number.Tie as tie
@@ -22,10 +21,9 @@ knot-number-requires c κs = search needs
 returns-2 : tie.Need-returns-2
 unfolding spanRefusal
 returns-2 c =
-    let a = c .before .before .before .before .before .args in
     simp (
       sym (c .before .before .before .over-long .ensures) ∙ c .before .before .if1 .left,
-      ne-eqb (knotRefusal (a .degree) (a .count) (now (a .knots)) .number) 0 (λ z. c .if2 .taken (c .before .knot-number .ensures ∙ z)),
+      number-stop (c .before .knot-number .ensures) (c .if2 .taken),
     ) (c .before .knot-number .ensures)
 
 is-finite-requires : tie.Need-is-finite-requires
@@ -36,7 +34,7 @@ unfolding spanRefusal
 returns-3 c =
     simp (
       sym (c .before .before .before .before .before .over-long .ensures) ∙ c .before .before .before .before .if1 .left,
-      eq-eqb _ 0 (sym (c .before .before .before .knot-number .ensures) ∙ c .before .before .if2 .left),
+      number-skip (c .before .before .before .knot-number .ensures) (c .before .before .if2 .left),
       sym (c .before .is-finite .ensures) ∙ not-true _ (c .if3 .taken),
     )
 
@@ -45,7 +43,7 @@ unfolding spanRefusal
 returns-4 c =
     simp (
       sym (c .before .before .before .before .before .over-long .ensures) ∙ c .before .before .before .before .if1 .left,
-      eq-eqb _ 0 (sym (c .before .before .before .knot-number .ensures) ∙ c .before .before .if2 .left),
+      number-skip (c .before .before .before .knot-number .ensures) (c .before .before .if2 .left),
       sym (c .before .is-finite .ensures) ∙ not-false _ (c .if3 .left),
     )
 

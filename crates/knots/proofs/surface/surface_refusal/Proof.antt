@@ -1,22 +1,34 @@
--- `knots::surface::surface_refusal` meets its contract: the first refusal is handed on, or the next asked.
+-- `knots::surface::surface_refusal` meets its contract: the first number that is not 0 is handed on with its place, or the next asked.
 -- Assumes nothing.
+use Prim.Native.Nat.{ℕ}
 use mathlib.Core.Path.{_∙_, ap}
-use borrow.Author.Needs.{needs}
+use denote.Ref.{now}
+use Rattle.knots.specs.Refusal.{numbered, along}
 use Rattle.knots.specs.Surface.{surfaceRefusal}
-use Rattle.knots.specs.Refusal.{along}
-use Rattle.knots.proofs.Refusals.{stop, skip}
+use Rattle.knots.specs.Placed.{knotPlaced}
+use Rattle.knots.proofs.Refusals.{number-stop, number-skip}
+use Rattle.knots.proofs.ByNumber.{net-told, knot-told}
+use borrow.Author.Needs.{needs}
 use Rattle.knots.proofs.surface.surface_refusal.Statement.{statement}
 use Rattle.knots.proofs.surface.surface_refusal.Tie as tie
 
-net-refusal-requires : tie.Need-net-refusal-requires
-net-refusal-requires c κs = search needs
+net-number-requires : tie.Need-net-number-requires
+net-number-requires c κs = search needs
+
+refuse-requires : tie.Need-refuse-requires
+refuse-requires c κs = search needs
 
 returns : tie.Need-returns
 unfolding surfaceRefusal
-returns c = simp (stop (c .before .before .net-refusal .ensures) (c .if1 .taken)) (c .before .before .net-refusal .ensures)
+returns c =
+    let net = c .before .before .net-number .ensures in
+    simp (number-stop net (c .before .if1 .taken)) (c .refuse .ensures ∙ (ap numbered net ∙ net-told _ _ _ _ _ _ _))
 
-knot-refusal-requires : tie.Need-knot-refusal-requires
-knot-refusal-requires c κs = search needs
+knot-number-requires : tie.Need-knot-number-requires
+knot-number-requires c κs = search needs
+
+knot-placed-requires : tie.Need-knot-placed-requires
+knot-placed-requires c κs = search needs
 
 refuse-along-requires : tie.Need-refuse-along-requires
 refuse-along-requires c κs = search needs
@@ -24,13 +36,18 @@ refuse-along-requires c κs = search needs
 returns-2 : tie.Need-returns-2
 unfolding surfaceRefusal
 returns-2 c =
-    simp (
-      skip (c .before .before .before .before .before .before .net-refusal .ensures) (c .before .before .before .before .if1 .left),
-      stop (c .before .before .before .knot-refusal .ensures) (c .before .if2 .taken),
-    ) (c .refuse-along .ensures ∙ ap (along 0) (c .before .before .before .knot-refusal .ensures))
+    let a = c .before .before .before .before .before .before .before .before .before .before .args in
+    let p = a .u-degree in
+    let ks = now (a .u-knots) in
+    let u = c .before .before .before .knot-number .ensures in
+    simp (number-skip (c .before .before .before .before .before .net-number .ensures) (c .before .before .before .before .if1 .left), number-stop u (c .before .before .if2 .taken))
+    (c .refuse-along .ensures ∙ ap (along 0) (c .before .knot-placed .ensures ∙ (ap (λ (k : ℕ). knotPlaced k p ks) u ∙ knot-told p (a .u-count) ks)))
 
-knot-refusal-requires-2 : tie.Need-knot-refusal-requires-2
-knot-refusal-requires-2 c κs = search needs
+knot-number-requires-2 : tie.Need-knot-number-requires-2
+knot-number-requires-2 c κs = search needs
+
+knot-placed-requires-2 : tie.Need-knot-placed-requires-2
+knot-placed-requires-2 c κs = search needs
 
 refuse-along-requires-2 : tie.Need-refuse-along-requires-2
 refuse-along-requires-2 c κs = search needs
@@ -38,11 +55,15 @@ refuse-along-requires-2 c κs = search needs
 returns-3 : tie.Need-returns-3
 unfolding surfaceRefusal
 returns-3 c =
+    let a = c .before .before .before .before .before .before .before .before .before .before .before .before .args in
+    let p = a .v-degree in
+    let ks = now (a .v-knots) in
+    let v = c .before .before .before .knot-number2 .ensures in
     simp (
-      skip (c .before .before .before .before .before .before .before .before .before .net-refusal .ensures) (c .before .before .before .before .before .before .before .if1 .left),
-      skip (c .before .before .before .before .before .before .knot-refusal .ensures) (c .before .before .before .before .if2 .left),
-      stop (c .before .before .before .knot-refusal2 .ensures) (c .before .if3 .taken),
-    ) (c .refuse-along2 .ensures ∙ ap (along 1) (c .before .before .before .knot-refusal2 .ensures))
+      number-skip (c .before .before .before .before .before .before .before .net-number .ensures) (c .before .before .before .before .before .before .if1 .left),
+      number-skip (c .before .before .before .before .before .knot-number .ensures) (c .before .before .before .before .if2 .left),
+      number-stop v (c .before .before .if3 .taken),
+    ) (c .refuse-along2 .ensures ∙ ap (along 1) (c .before .knot-placed2 .ensures ∙ (ap (λ (k : ℕ). knotPlaced k p ks) v ∙ knot-told p (a .v-count) ks)))
 
 control-refusal-requires : tie.Need-control-refusal-requires
 control-refusal-requires c κs = search needs
@@ -51,21 +72,24 @@ returns-4 : tie.Need-returns-4
 unfolding surfaceRefusal
 returns-4 c =
     simp (
-      skip (c .before .before .before .before .before .before .before .before .before .net-refusal .ensures) (c .before .before .before .before .before .before .before .if1 .left),
-      skip (c .before .before .before .before .before .before .knot-refusal .ensures) (c .before .before .before .before .if2 .left),
-      skip (c .before .before .before .knot-refusal2 .ensures) (c .before .if3 .left),
+      number-skip (c .before .before .before .before .before .before .net-number .ensures) (c .before .before .before .before .before .if1 .left),
+      number-skip (c .before .before .before .before .knot-number .ensures) (c .before .before .before .if2 .left),
+      number-skip (c .before .before .knot-number2 .ensures) (c .before .if3 .left),
     ) (c .control-refusal .ensures)
 
 pub surface-refusal-spec : {M : Type 1} → statement M
 surface-refusal-spec =
     tie.close
     (tie.spec
-    net-refusal-requires
+    net-number-requires
+    refuse-requires
     returns
-    knot-refusal-requires
+    knot-number-requires
+    knot-placed-requires
     refuse-along-requires
     returns-2
-    knot-refusal-requires-2
+    knot-number-requires-2
+    knot-placed-requires-2
     refuse-along-requires-2
     returns-3
     control-refusal-requires

@@ -1,4 +1,4 @@
--- `insertion::lower::odd_row` meets its contract: all points before the place reached are finite.
+-- `insertion::lower::non_finite_row` meets its contract: all points before the place reached are finite.
 -- Assumes nothing.
 use Prim.Native.Nat.{ℕ, _-_, _≤_}
 use mathlib.Core.Path.{_≡_, sym, _∙_, ap, subst}
@@ -12,8 +12,8 @@ use Rattle.knots.proofs.Below.{all-none, all-more, off-all, off-stops}
 use Rattle.runs.specs.Point.{finiteVector}
 use Rattle.edits.specs.Control.{vectorOf}
 use Rattle.edits.specs.Passes.{rowOf}
-use Rattle.insertion.proofs.lower.odd_row.Statement.{statement}
-use Rattle.insertion.proofs.lower.odd_row.Tie as tie
+use Rattle.insertion.proofs.lower.non_finite_row.Statement.{statement}
+use Rattle.insertion.proofs.lower.non_finite_row.Tie as tie
 
 abbrev Inv-loop : tie.InvT-loop
 Inv-loop rational m rows i₀ i = (i ≤ m) × (allBelow (λ k. finiteVector (vectorOf (rowOf rational rows k))) i ≡ true)
@@ -58,8 +58,8 @@ returns-2 c =
     let e : l .i ≡ a .m = omega (arith, l .inv .0) in
     e ∙ sym (off-all _ _ (subst (λ (n : ℕ). allBelow (λ k. finiteVector (vectorOf (rowOf (a .rational) (now (a .rows)) k))) n ≡ true) e (l .inv .1)))
 
-pub odd-row-spec : {M : Type 1} → statement M
-odd-row-spec =
+pub non-finite-row-spec : {M : Type 1} → statement M
+non-finite-row-spec =
     tie.close
     (tie.spec
     Inv-loop
