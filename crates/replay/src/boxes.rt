@@ -37,7 +37,7 @@ fn boxed(b: NurbsBounds) -> bool {
 fn judged(a: Bounded) -> bool {
     match a {
         Bounded::Are(b) => if accepted() { boxed(b) } else { false },
-        Bounded::Refused(r) => refused(r.number, r.direction),
+        Bounded::Refused(r) => refused(r.number, r.direction, r.place),
     }
 }
 

@@ -82,7 +82,7 @@ pub fn eval_agrees(
         } else {
             false
         },
-        CurveAnswer::Refused(r) => refused(r.number, r.direction),
+        CurveAnswer::Refused(r) => refused(r.number, r.direction, r.place),
     }
 }
 
@@ -100,7 +100,7 @@ pub fn eval2_agrees(
         } else {
             false
         },
-        CurveAnswer2::Refused(r) => refused(r.number, r.direction),
+        CurveAnswer2::Refused(r) => refused(r.number, r.direction, r.place),
     }
 }
 
@@ -112,7 +112,7 @@ fn surface_agrees(a: SurfaceAnswer) -> bool {
         } else {
             false
         },
-        SurfaceAnswer::Refused(r) => refused(r.number, r.direction),
+        SurfaceAnswer::Refused(r) => refused(r.number, r.direction, r.place),
     }
 }
 
@@ -164,7 +164,7 @@ pub fn reversal(
         &mut out_points,
         &mut out_weights,
     );
-    let number = refused(r.number, r.direction);
+    let number = refused(r.number, r.direction, r.place);
     let a = held(&out_knots);
     let b = held(&out_points);
     let c = held(&out_weights);
@@ -202,7 +202,7 @@ pub fn along<'a>(
         &mut out_points,
         &mut out_weights,
     );
-    let number = refused(r.number, r.direction);
+    let number = refused(r.number, r.direction, r.place);
     let a = held(&out_points);
     let b = held(&out_weights);
     let c = held(iso_knots(constant_u, u_knots, v_knots));

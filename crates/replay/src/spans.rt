@@ -21,7 +21,7 @@ pub fn curve(
     weights: &[f64],
 ) -> bool {
     let r = curve_refusal(degree, knots, points, rational, weights);
-    refused(r.number, r.direction)
+    refused(r.number, r.direction, r.place)
 }
 
 pub fn surface(
@@ -46,17 +46,21 @@ pub fn surface(
         rational,
         weights,
     );
-    refused(r.number, r.direction)
+    refused(r.number, r.direction, r.place)
 }
 
-// The number of a refusal and 0, or 0 and the span.
+// The number of a refusal and its place, or 0 and the span.
 pub fn found(degree: usize, count: usize, knots: &[f64]) -> bool {
     let u = double();
     let number = word();
-    let span = size();
+    let at = size();
     match find_span(degree, count, knots, u) {
-        SpanAnswer::Span(s) => if number == 0 { s == span } else { false },
-        SpanAnswer::Refused(r) => r.number as u64 == number,
+        SpanAnswer::Span(s) => if number == 0 { s == at } else { false },
+        SpanAnswer::Refused(r) => if r.number as u64 == number {
+            r.place == at
+        } else {
+            false
+        },
     }
 }
 

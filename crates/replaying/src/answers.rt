@@ -36,20 +36,22 @@ pub fn ends(i: Interval, either: bool) -> bool {
     are_ends(i, lo, hi, either)
 }
 
-// Reads a number and a direction: the refusal has them.
-pub fn refused(number: u32, direction: u32) -> bool {
+// Reads a number, a direction and a place: the refusal has them.
+pub fn refused(number: u32, direction: u32, place: usize) -> bool {
     let want = word();
     let along = word();
+    let at = word();
     if number as u64 == want {
-        direction as u64 == along
-    } else {
-        false
+        if direction as u64 == along {
+            return place as u64 == at;
+        }
     }
+    false
 }
 
-// Reads two words, which say that nothing is refused.
+// Reads three words, which say that nothing is refused.
 pub fn accepted() -> bool {
-    refused(0, 2)
+    refused(0, 2, 0)
 }
 
 // Writes the outcome of one call behind its heading, as `add       300 cases, 0 differ`.
