@@ -7,7 +7,7 @@
  *   neither one that is read nor another that is lent: it may be cleared before the others are read. Runs that are only
  *   read may overlap.
  * - A function with a lent run `out` returns 0 and writes its answer to the front of the run; every number behind the
- *   answer is then +0.0. Otherwise it returns a refusal number, and every number of the run is +0.0.
+ *   answer is then +0.0. Otherwise it returns a refusal, and every number of the run is +0.0.
  * - Refusal numbers are those of document 01; tasulogi_refusals.h has the class and the text of each. 99 is no refusal
  *   number: two doubles that were passed as the ends of an interval are none, since the low end is above the high one or
  *   an end is NaN.
@@ -16,6 +16,13 @@
  *   it comes before what is refused while the curve is formed (13, 14, 19, 20, 23) and before 1 to 10 of the curve that
  *   was formed. Each function on curves and surfaces says its order; an interval function looks for 99, then 26, then 30.
  * - Refusals 1 to 7 of a surface say their direction: 101 to 107 along u, 201 to 207 along v.
+ * - Refusals 4, 7, 8 and 10 say a place, from 0. 4: the first knot that is not finite, wherever it stands; where all are
+ *   finite, the first that exceeds the next. 7: the first of the equal knots. Of a surface both count in the knots of their
+ *   direction. 8: the point. 10: the weight. Where a call refuses the curve that it has formed, the place is in that curve.
+ * - What a call on curves or surfaces returns has the refusal in its low half, which a uint32_t keeps, and the place in
+ *   its high half: at most 2^32 - 1, and 0 where there is none; of an edit that forms a curve the high half is the count of
+ *   its points. tasulogi_find_span and tasulogi_bound_spans answer in the low half: they have the number in the high half
+ *   and the place in the low one.
  * - A function with no lent run returns its answer.
  * - An interval is passed by its ends, low before high, and answered as two doubles, low before high. Infinite ends
  *   are allowed.
@@ -44,12 +51,16 @@ enum {
     TASULOGI_NO_INTERVAL = 99
 };
 
-/* A returned number without its direction, and the direction: 0 none, 1 u, 2 v. */
-#define TASULOGI_REFUSAL(r) ((r) % 100)
-#define TASULOGI_DIRECTION(r) ((r) / 100)
+/* Of what a call returns, but tasulogi_find_span and tasulogi_bound_spans: the number without its direction; the direction:
+ * 0 none, 1 u, 2 v; and the place of 4, 7, 8 and 10. Compare these, and not the whole that was returned. */
+#define TASULOGI_REFUSAL(r) ((uint32_t)(r) % 100)
+#define TASULOGI_DIRECTION(r) ((uint32_t)(r) / 100)
+#define TASULOGI_PLACE(r) ((size_t)((uint64_t)(r) >> 32))
 
-/* The refusal of tasulogi_find_span and tasulogi_bound_spans; where it is 0, what was returned is the span or the count. */
+/* The refusal of tasulogi_find_span and tasulogi_bound_spans, and its place; where the refusal is 0, what was returned is
+ * the span or the count. */
 #define TASULOGI_SPAN_REFUSAL(r) ((uint32_t)((r) >> 32))
+#define TASULOGI_SPAN_PLACE(r) ((size_t)(uint32_t)(r))
 
 /* The refusal of an edit, and where it is 0 how many points the curve has that was formed. */
 #define TASULOGI_EDIT_REFUSAL(r) ((uint32_t)(r))
@@ -141,17 +152,17 @@ uint32_t tasulogi_interval_divide(double al, double ah, double bl, double bh, do
 uint8_t tasulogi_class_of(uint32_t number);
 
 /* 0 for a valid curve, else 30, 32, 1 to 10, the first in this order. */
-uint32_t tasulogi_curve_refusal(size_t degree, const double *knots, size_t knots_n, const double *points,
+uint64_t tasulogi_curve_refusal(size_t degree, const double *knots, size_t knots_n, const double *points,
                                 size_t points_n, bool rational, const double *weights, size_t weights_n);
 
 /* 0 for a valid surface, else 30, 32, 11, 101 to 107, 201 to 207, 8 to 10, the first in this order. */
-uint32_t tasulogi_surface_refusal(size_t u_degree, size_t v_degree, const double *u_knots, size_t u_knots_n,
+uint64_t tasulogi_surface_refusal(size_t u_degree, size_t v_degree, const double *u_knots, size_t u_knots_n,
                                   const double *v_knots, size_t v_knots_n, size_t u_count, size_t v_count,
                                   const double *points, size_t points_n, bool rational, const double *weights,
                                   size_t weights_n);
 
-/* The span of u for `count` points: a parameter outside the domain becomes the nearer end. Else a refusal's number
- * times 2^32: 30, 1 to 7, 12, the first in this order. */
+/* The span of u for `count` points: a parameter outside the domain becomes the nearer end. Else a refusal:
+ * 30, 1 to 7, 12, the first in this order. */
 uint64_t tasulogi_find_span(size_t degree, size_t count, const double *knots, size_t knots_n, double u);
 
 /* The first nonempty span from `from` on, in degree..=count-1, or `count` where there is none. Any knots are taken. */
@@ -162,13 +173,13 @@ double tasulogi_clamp(size_t degree, size_t count, double u, const double *knots
 
 /* The box of a curve over the closed range [lo, hi], on the first nonempty span that contains it. Refusals in this
  * order: those of the curve, 31, 24, 25, 27, 26, then 30 for the lent run. 28 and 29 are given for no input. */
-uint32_t tasulogi_bound_curve(size_t degree, const double *knots, size_t knots_n, const double *points,
+uint64_t tasulogi_bound_curve(size_t degree, const double *knots, size_t knots_n, const double *points,
                               size_t points_n, bool rational, const double *weights, size_t weights_n, double lo,
                               double hi, double *out, size_t n);
 
 /* The box of a surface over a closed rectangle. Refusals in this order: those of the surface, 31, 24 and 25 for u,
  * 24 and 25 for v, 27, 26, then 30 for the lent run. */
-uint32_t tasulogi_bound_surface(size_t u_degree, size_t v_degree, const double *u_knots, size_t u_knots_n,
+uint64_t tasulogi_bound_surface(size_t u_degree, size_t v_degree, const double *u_knots, size_t u_knots_n,
                                 const double *v_knots, size_t v_knots_n, size_t u_count, size_t v_count,
                                 const double *points, size_t points_n, bool rational, const double *weights,
                                 size_t weights_n, double u_lo, double u_hi, double v_lo, double v_hi, double *out,
@@ -178,45 +189,45 @@ uint32_t tasulogi_bound_surface(size_t u_degree, size_t v_degree, const double *
 
 /* The point and the first derivative: 6 numbers. A parameter outside the domain becomes the nearer end. Refusals in
  * this order: those of the curve, 31, 12, then 30 for the lent run. */
-uint32_t tasulogi_eval(
+uint64_t tasulogi_eval(
     size_t degree, const double *knots, size_t knots_n, const double *points, size_t points_n, bool rational,
     const double *weights, size_t weights_n,
     double t, double *out, size_t n);
 
 /* The point and two derivatives: 9 numbers. 21 after 12 where one of them is not finite. */
-uint32_t tasulogi_eval2(
+uint64_t tasulogi_eval2(
     size_t degree, const double *knots, size_t knots_n, const double *points, size_t points_n, bool rational,
     const double *weights, size_t weights_n,
     double t, double *out, size_t n);
 
 /* The point and the derivatives along u and v: 9 numbers. Parameters outside the domain become the nearer ends. Refusals in
  * this order: those of the surface, 31, 12, then 30 for the lent run. */
-uint32_t tasulogi_eval_surface(
+uint64_t tasulogi_eval_surface(
     size_t u_degree, size_t v_degree, const double *u_knots, size_t u_knots_n, const double *v_knots, size_t v_knots_n,
     size_t u_count, size_t v_count, const double *points, size_t points_n, bool rational, const double *weights,
     size_t weights_n,
     double u, double v, double *out, size_t n);
 
 /* Many at once: the table is checked once. A row is the answer of the single call, with its bits, and +0.0 throughout
- * where that is refused; what stands behind the rows is 0 and +0.0. After a refusal of the whole call both runs are 0
- * and +0.0. */
+ * where that is refused: those refusals have no place. What stands behind the rows is 0 and +0.0. After a refusal of the
+ * whole call both runs are 0 and +0.0. */
 
 /* The point and the first derivative at each of ts_n parameters: `numbers` gets the refusal of each, or 0, and `rows` 6
  * numbers of each. Refusals: 30 for more than 1,048,576 parameters, those of the curve, 31, 30 for a lent run. */
-uint32_t tasulogi_eval_many(
+uint64_t tasulogi_eval_many(
     size_t degree, const double *knots, size_t knots_n, const double *points, size_t points_n, bool rational,
     const double *weights, size_t weights_n, const double *ts, size_t ts_n,
     uint32_t *numbers, size_t numbers_n, double *rows, size_t rows_n);
 
 /* The same with two derivatives: 9 numbers of each. */
-uint32_t tasulogi_eval2_many(
+uint64_t tasulogi_eval2_many(
     size_t degree, const double *knots, size_t knots_n, const double *points, size_t points_n, bool rational,
     const double *weights, size_t weights_n, const double *ts, size_t ts_n,
     uint32_t *numbers, size_t numbers_n, double *rows, size_t rows_n);
 
 /* The box of each nonempty span over its own closed range, in order: `marks` gets the span and its refusal, or 0, and
- * `boxes` 18 numbers of each. Returns how many rows there are, which is never more than count - degree; else a refusal's
- * number times 2^32, as tasulogi_find_span: those of the curve, 31, 30 for a lent run. */
+ * `boxes` 18 numbers of each. Returns how many rows there are, which is never more than count - degree; else a refusal:
+ * those of the curve, 31, 30 for a lent run. */
 uint64_t tasulogi_bound_spans(
     size_t degree, const double *knots, size_t knots_n, const double *points, size_t points_n, bool rational,
     const double *weights, size_t weights_n,
@@ -225,7 +236,7 @@ uint64_t tasulogi_bound_spans(
 /* Curves made of others. Each run starts with the made numbers and ends with +0.0; after a refusal all is +0.0. */
 
 /* The curve run backwards. Refusals: those of the curve, 30 for a lent run, 1 to 10 of the curve that is made. */
-uint32_t tasulogi_reversed(
+uint64_t tasulogi_reversed(
     size_t degree, const double *knots, size_t knots_n, const double *points, size_t points_n, bool rational,
     const double *weights, size_t weights_n,
     double *out_knots, size_t out_knots_n, double *out_points, size_t out_points_n, double *out_weights,
@@ -234,7 +245,7 @@ uint32_t tasulogi_reversed(
 /* The curve at u = t where constant_u, else at v = t; its knots are the surface's other ones. Refusals: those of the
  * surface, 31, 22, 30 for a lent run, 23, 1 to 10 of the curve that is made. Its points are as many as the surface has
  * along the other direction, and it has a weight for each also where the surface has none: lend room for both, or it is 30. */
-uint32_t tasulogi_iso_curve(
+uint64_t tasulogi_iso_curve(
     size_t u_degree, size_t v_degree, const double *u_knots, size_t u_knots_n, const double *v_knots, size_t v_knots_n,
     size_t u_count, size_t v_count, const double *points, size_t points_n, bool rational, const double *weights,
     size_t weights_n,
@@ -242,9 +253,9 @@ uint32_t tasulogi_iso_curve(
 
 /* Edits: the curve that is formed goes to the front of the three output runs, +0.0 behind it, and scratch is left
  * +0.0. After a refusal all four are +0.0. What is returned has the refusal in its low half and, where that is 0, the
- * count of points of the curve in its high half: TASULOGI_EDIT_REFUSAL, TASULOGI_EDIT_COUNT. So runs may be lent that are
- * longer than needed; a count has count + degree + 1 knots, 3 count coordinates and, where the curve is rational, count
- * weights. */
+ * count of points of the curve in its high half, else the place: TASULOGI_EDIT_REFUSAL, TASULOGI_EDIT_COUNT,
+ * TASULOGI_PLACE. So runs may be lent that are longer than needed; a count has count + degree + 1 knots, 3 count
+ * coordinates and, where the curve is rational, count weights. */
 
 /* Knots inserted one after the other, into runs for count + inserted_n points, with scratch of
  * 10 (count + inserted_n) + 2 (degree + 1) numbers. Refusals: 30 for a run that is too long, those of the curve, 17,

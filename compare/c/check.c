@@ -2,6 +2,7 @@
 #include "../tasulogi.h"
 #include "../tasulogi_refusals.h"
 
+#include <float.h>
 #include <math.h>
 #include <stdio.h>
 #include <string.h>
@@ -88,7 +89,7 @@ static const double knots[] = { 0, 0, 0, 1, 2, 2, 2 };
 static const double points[] = { 0, 0, 0, 2, 0, 0, 4, 0, 0, 6, 0, 0 };
 static const double none[1];
 
-static uint32_t curve(size_t degree, size_t knots_n, size_t points_n)
+static uint64_t curve(size_t degree, size_t knots_n, size_t points_n)
 {
     return tasulogi_curve_refusal(degree, knots, knots_n, points, points_n, false, none, 0);
 }
@@ -100,7 +101,7 @@ static void tables(void)
     expect(curve(2, 7, 12) == 0, "table A");
     expect(curve(0, 7, 12) == 1 && curve(4, 7, 12) == 2 && curve(2, 6, 12) == 3 && curve(2, 7, 11) == 32, "refusals of a curve");
     static const double ends[] = { 0, 0, 1, 1 };
-    uint32_t r = tasulogi_surface_refusal(2, 1, knots, 7, ends, 4, 2, 2, points, 12, false, none, 0);
+    uint64_t r = tasulogi_surface_refusal(2, 1, knots, 7, ends, 4, 2, 2, points, 12, false, none, 0);
     expect(TASULOGI_REFUSAL(r) == 2 && TASULOGI_DIRECTION(r) == 1, "a refusal along u");
     r = tasulogi_surface_refusal(1, 0, ends, 4, ends, 4, 2, 2, points, 12, false, none, 0);
     expect(TASULOGI_REFUSAL(r) == 1 && TASULOGI_DIRECTION(r) == 2, "a refusal along v");
@@ -204,7 +205,7 @@ static bool formed(uint64_t returned, size_t count)
 
 static bool refused(uint64_t returned, uint32_t number)
 {
-    return TASULOGI_EDIT_REFUSAL(returned) == number && TASULOGI_EDIT_COUNT(returned) == 0;
+    return TASULOGI_EDIT_REFUSAL(returned) == number && TASULOGI_PLACE(returned) == 0;
 }
 
 /* Document 01: inserting 1 into A gives x = 0 2 3 4 6, knots 0 0 0 1 1 2 2 2; trimming A to [0, 1] gives x = 0 2 3,
@@ -241,6 +242,7 @@ static void edits(void)
 }
 
 #include "check_nulls.h"
+#include "check_places.h"
 
 int main(void)
 {
@@ -259,6 +261,15 @@ int main(void)
     nulls_of_tables();
     nulls_of_many();
     nulls_of_curves();
+    places_of_knots();
+    places_of_points();
+    places_of_surfaces();
+    places_of_spans();
+    places_of_calls();
+    places_of_edits();
+    places_of_formed_curves();
+    places_of_edited_curves();
+    places_beside_numbers();
     printf("C: %d passed, %d failed\n", passed, failed);
     return failed != 0;
 }

@@ -13,13 +13,23 @@ static const double points[3 * COUNT] = { 0, 0, 0, 30, 0, 0, 100, 0, 0, 220, 12,
 /* The table as each call takes it. It has no weights: a run of no numbers. */
 #define CAM DEGREE, knots, KNOTS, points, 3 * COUNT, false, NULL, 0
 
-static bool done(const char *call, uint32_t returned)
+/* What a refusal's place counts; most refusals have none. */
+static const char *part(uint32_t number)
+{
+    return number == 4 || number == 7 ? "knot" : number == 8 ? "point" : number == 10 ? "weight" : NULL;
+}
+
+static bool done(const char *call, uint64_t returned)
 {
     uint32_t number = TASULOGI_REFUSAL(returned);
-    if (returned == TASULOGI_DONE) {
+    if (number == TASULOGI_DONE) {
         return true;
     }
-    printf("%s: refusal %u, class %c: %s\n", call, (unsigned)number, "IDUCN?"[tasulogi_class_of(number)], tasulogi_refusal_text(number));
+    printf("%s: refusal %u", call, (unsigned)number);
+    if (part(number) != NULL) {
+        printf(" at %s %zu", part(number), TASULOGI_PLACE(returned));
+    }
+    printf(", class %c: %s\n", "IDUCN?"[tasulogi_class_of(number)], tasulogi_refusal_text(number));
     return false;
 }
 
@@ -38,7 +48,7 @@ static void insert(double knot)
     enum { N = COUNT + 1 };
     double more[N + DEGREE + 1], moved[3 * N], scratch[10 * N + 2 * (DEGREE + 1)];
     uint64_t returned = tasulogi_insert_knots(CAM, &knot, 1, more, N + DEGREE + 1, moved, 3 * N, NULL, 0, scratch, 10 * N + 2 * (DEGREE + 1));
-    if (!done("insert", TASULOGI_EDIT_REFUSAL(returned))) {
+    if (!done("insert", returned)) {
         return;
     }
     printf("with a knot at %.17g there are %zu points:\n", knot, TASULOGI_EDIT_COUNT(returned));
@@ -49,14 +59,17 @@ static void insert(double knot)
 
 int main(void)
 {
-    /* A point was forgotten; then the whole table. */
+    /* A point was forgotten; a knot has a digit too many; then the table as it should be. */
+    static const double mistyped[KNOTS] = { 0, 0, 0, 0, 90, 2100, 360, 360, 360, 360 };
     done("check", tasulogi_curve_refusal(DEGREE, knots, KNOTS, points, 3 * (COUNT - 1), false, NULL, 0));
+    done("check", tasulogi_curve_refusal(DEGREE, mistyped, KNOTS, points, 3 * COUNT, false, NULL, 0));
     if (!done("check", tasulogi_curve_refusal(CAM))) {
         return 1;
     }
     uint64_t span = tasulogi_find_span(DEGREE, COUNT, knots, KNOTS, 120.0);
     double at[6];
-    if (!done("find_span", TASULOGI_SPAN_REFUSAL(span)) || !done("eval", tasulogi_eval(CAM, 120.0, at, 6))) {
+    /* find_span has number and place the other way round. */
+    if (!done("find_span", span >> 32 | span << 32) || !done("eval", tasulogi_eval(CAM, 120.0, at, 6))) {
         return 1;
     }
     printf("at 120 degrees, span %u: lift %.17g mm, rising %.17g mm per degree\n", (unsigned)span, at[1], at[4]);

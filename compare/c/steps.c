@@ -30,6 +30,7 @@ int main(void)
         basis[0] == 0.25 && basis[65] == -1.0 && basis[3] == 0.0,
         tasulogi_step_span_of(2, 4, 0.5, knots, 7) == 2 && tasulogi_step_span_of(2, 4, 2.0, knots, 7) == 3,
         tasulogi_step_eval_at(2, knots, 7, points, 12, false, NULL, 0, 0.5, at, 6) == 0 && at[0] == 1.75 && at[3] == 3.0,
+        tasulogi_step_eval_at(2, knots, 7, points, 12, false, NULL, 0, NAN, at, 6) == 12 && at[0] == 0.0,
         /* What docs/DIFFERENCES.md says of a span of degree - 1 and of an order above 2. */
         cleared(0, 0, knots + 2, 2) && !cleared(1, 2, ends, 4) && cleared(1, 3, ends, 4),
     };

@@ -1,4 +1,4 @@
-use crate::refusal::done;
+use crate::refusal::{answered, done};
 use crate::{Interval, Refusal, face, point_of, room};
 use std::iter::FusedIterator;
 
@@ -54,11 +54,12 @@ pub struct SpanBound {
 /// A row of N vectors for each of n parameters, or its own refusal.
 fn rows<const N: usize>(
     n: usize,
-    call: impl FnOnce(&mut [u32], &mut [f64]) -> u32,
+    call: impl FnOnce(&mut [u32], &mut [f64]) -> u64,
 ) -> Result<Vec<Result<[[f64; 3]; N], Refusal>>, Refusal> {
     let (mut numbers, mut rows) = (room(n)?, room(3 * N * n)?);
     done(call(&mut numbers, &mut rows))?;
-    let row = |(number, row): (&u32, &[f64])| done(*number).map(|()| std::array::from_fn(|i| [0, 1, 2].map(|k| row[3 * i + k])));
+    let vectors = |row: &[f64]| std::array::from_fn(|i| [0, 1, 2].map(|k| row[3 * i + k]));
+    let row = |(number, row): (&u32, &[f64])| done(u64::from(*number)).map(|()| vectors(row));
     Ok(numbers.iter().zip(rows.chunks(3 * N)).map(row).collect())
 }
 
@@ -71,6 +72,8 @@ impl<'a> Curve<'a> {
     /// let refusal = Curve { knots: &[0.0, 0.0, 1.0, 1.0], ..TABLE_A }.validate().unwrap_err();
     /// assert_eq!((refusal.number, refusal.class()), (3, Class::Invalid));
     /// assert_eq!(refusal.text(), "knots are not count + degree + 1");
+    /// let refusal = Curve { weights: Some(&[1.0, 1.0, 0.0, 1.0]), ..TABLE_A }.validate().unwrap_err();
+    /// assert_eq!(refusal.to_string(), "refusal 10 at weight 2: a weight is not finite and above 0");
     /// ```
     pub fn validate(&self) -> Result<(), Refusal> {
         done(face::curve_refusal(self))
@@ -88,9 +91,7 @@ impl<'a> Curve<'a> {
             // There is no count; the curve is refused by 30 or 32.
             self.validate()?;
         }
-        let found = face::find_span(self.degree, self.count(), self.knots, t);
-        done((found >> 32) as u32)?;
-        Ok(found as usize)
+        answered(face::find_span(self.degree, self.count(), self.knots, t))
     }
 
     /// The nonempty spans in order, of a curve that is valid: a table that is none must not look like one without spans.
@@ -194,14 +195,13 @@ impl<'a> Curve<'a> {
     pub fn bound_spans(&self) -> Result<Vec<SpanBound>, Refusal> {
         let most = self.count().saturating_sub(self.degree);
         let (mut marks, mut boxes) = (room(2 * most)?, room(18 * most)?);
-        let count = face::bound_spans(self, &mut marks, &mut boxes);
-        done((count >> 32) as u32)?;
+        let count = answered(face::bound_spans(self, &mut marks, &mut boxes))?;
         let row = |(mark, numbers): (&[u32], &[f64])| {
             let index = mark[0] as usize;
             let span = Span { index, lo: self.knots[index], hi: self.knots[index + 1] };
-            SpanBound { span, point: done(mark[1]).map(|()| point_of(numbers)) }
+            SpanBound { span, point: done(u64::from(mark[1])).map(|()| point_of(numbers)) }
         };
-        Ok(marks.chunks(2).zip(boxes.chunks(18)).take(count as usize).map(row).collect())
+        Ok(marks.chunks(2).zip(boxes.chunks(18)).take(count).map(row).collect())
     }
 
     pub(crate) fn count(&self) -> usize {

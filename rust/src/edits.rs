@@ -26,6 +26,9 @@ impl Curve<'_> {
     /// assert_eq!(back.knots, TABLE_A.knots);
     /// assert_eq!(back.points, [6.0, 0.0, 0.0, 4.0, 0.0, 0.0, 2.0, 0.0, 0.0, 0.0, 0.0, 0.0]);
     /// assert_eq!(Curve { degree: 0, ..TABLE_A }.reversed().unwrap_err().text(), "degree 0");
+    /// // Two knots so near to each other that backwards they are equal: the place is in the curve just formed.
+    /// let near = Curve { degree: 1, knots: &[0.0, 0.0, 2f64.powi(-60), 1.0, 1.0], points: &[0.0; 9], weights: None };
+    /// assert_eq!(near.reversed().unwrap_err().to_string(), "refusal 7 at knot 2: degree + 2 knots are equal");
     /// # Ok::<(), tasulogi::Refusal>(())
     /// ```
     pub fn reversed(&self) -> Result<CurveBuf, Refusal> {
@@ -111,7 +114,8 @@ impl Curve<'_> {
         };
         let weights = out.weights.as_deref_mut().unwrap_or_default();
         let returned = call(&mut out.knots, &mut out.points, weights, &mut scratch);
-        done(returned as u32)?;
+        done(returned)?;
+        // With nothing refused the high half is the count.
         out.keep((returned >> 32) as usize);
         Ok(out)
     }

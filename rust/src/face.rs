@@ -9,7 +9,7 @@ unsafe extern "C" {
     fn tasulogi_next_span(degree: usize, count: usize, knots: *const f64, knots_n: usize, from: usize) -> usize;
 }
 
-/// The span, or a refusal's number times 2^32.
+/// The span, or a refusal with its number in the high half.
 pub fn find_span(degree: usize, count: usize, knots: &[f64], u: f64) -> u64 {
     // SAFETY: pointer and length are those of a slice.
     unsafe { tasulogi_find_span(degree, count, knots.as_ptr(), knots.len(), u) }
@@ -21,34 +21,24 @@ pub fn next_span(degree: usize, count: usize, knots: &[f64], from: usize) -> usi
     unsafe { tasulogi_next_span(degree, count, knots.as_ptr(), knots.len(), from) }
 }
 
-/// What a function answers where it does not say.
-macro_rules! answer {
-    () => {
-        u32
-    };
-    ($kind:ty) => {
-        $kind
-    };
-}
-
 /// Functions that take a table in the parts named, or none, then numbers, a run that is read, a lent run of whole
-/// numbers, and lent runs of doubles.
+/// numbers, and lent runs of doubles. All of one table return the same kind of number.
 macro_rules! calls {
-    ($table:tt $(fn $name:ident = $symbol:literal $takes:tt $(reads $read:ident)? $(marks $mark:ident)?
-        $(lends $($out:ident),+)? $(-> $kind:ty)?;)*) => {
-        $(calls! { @one $table $name $symbol $takes ($($read)?) ($($mark)?) ($($kind)?) $($($out)+)? })*
+    ($table:tt -> $answer:ident; $(fn $name:ident = $symbol:literal $takes:tt $(reads $read:ident)? $(marks $mark:ident)?
+        $(lends $($out:ident),+)?;)*) => {
+        $(calls! { @one $table $answer $name $symbol $takes ($($read)?) ($($mark)?) $($($out)+)? })*
     };
-    (@one ($($t:ident: $table:ty => $($part:expr, $kind:ty;)*)?) $name:ident $symbol:literal ($($x:ident: $number:ty),*)
-        ($($read:ident)?) ($($mark:ident)?) ($($answer:ty)?) $($out:ident)*) => {
+    (@one ($($t:ident: $table:ty => $($part:expr, $kind:ty;)*)?) $answer:ident $name:ident $symbol:literal
+        ($($x:ident: $number:ty),*) ($($read:ident)?) ($($mark:ident)?) $($out:ident)*) => {
         pub fn $name(
             $($t: &$table,)? $($x: $number,)* $($read: &[f64],)? $($mark: &mut [u32],)? $($out: &mut [f64],)*
-        ) -> answer!($($answer)?) {
+        ) -> $answer {
             unsafe extern "C" {
                 #[link_name = $symbol]
                 fn call(
                     $($(_: $kind,)*)? $($x: $number,)* $($read: *const f64, _: usize,)? $($mark: *mut u32, _: usize,)?
                     $($out: *mut f64, _: usize,)*
-                ) -> answer!($($answer)?);
+                ) -> $answer;
             }
             // SAFETY: each pointer and length are those of a slice, and the lent ones overlap no other.
             unsafe {
@@ -62,7 +52,7 @@ macro_rules! calls {
 }
 
 calls! {
-    ()
+    () -> u32;
     fn interval_new = "tasulogi_interval_new"(lo: f64, hi: f64) lends out;
     fn interval_point = "tasulogi_interval_point"(x: f64) lends out;
     fn interval_width = "tasulogi_interval_width"(lo: f64, hi: f64) lends out;
@@ -82,18 +72,18 @@ calls! {
         c.points.as_ptr(), *const f64; c.points.len(), usize;
         c.weights.is_some(), bool;
         c.weights.unwrap_or(&[]).as_ptr(), *const f64; c.weights.unwrap_or(&[]).len(), usize;
-    )
+    ) -> u64;
     fn curve_refusal = "tasulogi_curve_refusal"();
     fn bound_curve = "tasulogi_bound_curve"(lo: f64, hi: f64) lends out;
     fn eval = "tasulogi_eval"(t: f64) lends out;
     fn eval2 = "tasulogi_eval2"(t: f64) lends out;
     fn eval_many = "tasulogi_eval_many"() reads ts marks numbers lends rows;
     fn eval2_many = "tasulogi_eval2_many"() reads ts marks numbers lends rows;
-    fn bound_spans = "tasulogi_bound_spans"() marks spans lends boxes -> u64;
+    fn bound_spans = "tasulogi_bound_spans"() marks spans lends boxes;
     fn reversed = "tasulogi_reversed"() lends knots, points, weights;
-    fn insert_knots = "tasulogi_insert_knots"() reads inserted lends knots, points, weights, scratch -> u64;
-    fn trim = "tasulogi_trim"(lo: f64, hi: f64) lends knots, points, weights, scratch -> u64;
-    fn elevate_degree = "tasulogi_elevate_degree"(raised: usize) lends knots, points, weights, scratch -> u64;
+    fn insert_knots = "tasulogi_insert_knots"() reads inserted lends knots, points, weights, scratch;
+    fn trim = "tasulogi_trim"(lo: f64, hi: f64) lends knots, points, weights, scratch;
+    fn elevate_degree = "tasulogi_elevate_degree"(raised: usize) lends knots, points, weights, scratch;
 }
 
 calls! {
@@ -105,7 +95,7 @@ calls! {
         s.points.as_ptr(), *const f64; s.points.len(), usize;
         s.weights.is_some(), bool;
         s.weights.unwrap_or(&[]).as_ptr(), *const f64; s.weights.unwrap_or(&[]).len(), usize;
-    )
+    ) -> u64;
     fn surface_refusal = "tasulogi_surface_refusal"();
     fn bound_surface = "tasulogi_bound_surface"(u_lo: f64, u_hi: f64, v_lo: f64, v_hi: f64) lends out;
     fn eval_surface = "tasulogi_eval_surface"(u: f64, v: f64) lends out;

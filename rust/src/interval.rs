@@ -196,7 +196,7 @@ impl Div for Interval {
     type Output = Result<Self, Refusal>;
     fn div(self, other: Self) -> Result<Self, Refusal> {
         let mut out = [0.0; 2];
-        done(face::interval_divide(self.lo, self.hi, other.lo, other.hi, &mut out))?;
+        done(u64::from(face::interval_divide(self.lo, self.hi, other.lo, other.hi, &mut out)))?;
         Ok(Self::of(out))
     }
 }

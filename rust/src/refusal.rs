@@ -21,21 +21,28 @@ pub enum Class {
     Internal,
 }
 
-/// Why there is no answer: a number of document 01.
+/// Why there is no answer: a number of document 01, and the place of what 4, 7, 8 and 10 are for.
 ///
 /// ```
-/// use tasulogi::{Class, TABLE_A};
+/// use tasulogi::{Class, Curve, TABLE_A};
 /// let refusal = TABLE_A.bound(0.5, 1.5).unwrap_err();
-/// assert_eq!((refusal.number, refusal.direction), (25, None));
+/// assert_eq!((refusal.number, refusal.direction, refusal.place), (25, None, None));
 /// assert_eq!(refusal.class(), Class::Invalid);
 /// assert_eq!(refusal.text(), "no nonempty span contains the bound range");
 /// assert_eq!(refusal.to_string(), "refusal 25: no nonempty span contains the bound range");
+/// let refusal = Curve { knots: &[0.0, 0.0, 0.0, 2.5, 2.0, 2.0, 2.0], ..TABLE_A }.validate().unwrap_err();
+/// assert_eq!((refusal.number, refusal.place), (4, Some(3)));
+/// assert_eq!(refusal.to_string(), "refusal 4 at knot 3: a knot is not finite, or one exceeds the next");
 /// ```
 #[derive(Clone, Copy, Debug, PartialEq, Eq, Hash)]
 #[non_exhaustive]
 pub struct Refusal {
     pub number: u8,
     pub direction: Option<Direction>,
+    /// From 0. Of 4 the first knot that is not finite, else the first that exceeds the next; of 7 the first of the equal
+    /// knots; of 8 the point; of 10 the weight. Of a surface a knot counts along its direction, a point and a weight is
+    /// i · v_count + j. Where a call refuses the curve that it has formed, the place is in that curve.
+    pub place: Option<usize>,
 }
 
 impl Refusal {
@@ -72,28 +79,50 @@ impl Refusal {
 
 impl fmt::Display for Refusal {
     fn fmt(&self, f: &mut fmt::Formatter<'_>) -> fmt::Result {
-        let along = match self.direction {
-            None => "",
-            Some(Direction::U) => " along u",
-            Some(Direction::V) => " along v",
+        let (along, at) = match self.direction {
+            None => ("", ""),
+            Some(Direction::U) => (" along u", "u "),
+            Some(Direction::V) => (" along v", "v "),
         };
-        write!(f, "refusal {}{along}: {}", self.number, self.text())
+        match (part(self.number), self.place) {
+            (Some(part), Some(place)) => write!(f, "refusal {} at {at}{part} {place}: {}", self.number, self.text()),
+            _ => write!(f, "refusal {}{along}: {}", self.number, self.text()),
+        }
     }
 }
 
 impl std::error::Error for Refusal {}
 
-/// What a C function returned: 0, or a number with its direction in the hundreds.
-pub(crate) fn done(returned: u32) -> Result<(), Refusal> {
-    let direction = match returned / 100 {
+/// What the place of a refusal counts.
+fn part(number: u8) -> Option<&'static str> {
+    match number {
+        4 | 7 => Some("knot"),
+        8 => Some("point"),
+        10 => Some("weight"),
+        _ => None,
+    }
+}
+
+/// What a C function returned: 0 in the low half, or a number with its direction in the hundreds and its place in the
+/// high half.
+pub(crate) fn done(returned: u64) -> Result<(), Refusal> {
+    let (low, place) = (returned as u32, (returned >> 32) as usize);
+    let direction = match low / 100 {
         1 => Some(Direction::U),
         2 => Some(Direction::V),
         _ => None,
     };
-    match returned {
+    let number = (low % 100) as u8;
+    match low {
         0 => Ok(()),
-        n => Err(Refusal { number: (n % 100) as u8, direction }),
+        _ => Err(Refusal { number, direction, place: part(number).map(|_| place) }),
     }
+}
+
+/// What a C function returned that answers in the low half: its refusals have the halves exchanged.
+pub(crate) fn answered(returned: u64) -> Result<usize, Refusal> {
+    done(returned.rotate_left(32))?;
+    Ok(returned as usize)
 }
 
 #[cfg(test)]
@@ -104,7 +133,7 @@ mod tests {
     fn the_table_has_each_number_once_with_the_proved_class() {
         for (i, line) in TABLE.lines().enumerate() {
             let number = i as u8 + 1;
-            let letter = match (Refusal { number, direction: None }).class() {
+            let letter = match (Refusal { number, direction: None, place: None }).class() {
                 Class::Invalid => 'I',
                 Class::Degenerate => 'D',
                 Class::Unimplemented => 'U',
@@ -120,16 +149,35 @@ mod tests {
     #[test]
     fn a_direction_is_told() {
         let along_v = done(205).unwrap_err();
-        assert_eq!(along_v, Refusal { number: 5, direction: Some(Direction::V) });
+        assert_eq!(along_v, Refusal { number: 5, direction: Some(Direction::V), place: None });
         assert_eq!(along_v.to_string(), "refusal 5 along v: knots[degree] >= knots[count]");
         assert_eq!(done(103).unwrap_err().direction, Some(Direction::U));
         assert_eq!(done(0), Ok(()));
     }
 
     #[test]
+    fn a_place_is_told() {
+        let said = |low: u64, place: u64| done(place << 32 | low).unwrap_err().to_string();
+        assert_eq!(said(4, 3), "refusal 4 at knot 3: a knot is not finite, or one exceeds the next");
+        assert_eq!(said(107, 5), "refusal 7 at u knot 5: degree + 2 knots are equal");
+        assert_eq!(said(204, 0), "refusal 4 at v knot 0: a knot is not finite, or one exceeds the next");
+        assert_eq!(said(8, 7), "refusal 8 at point 7: a control coordinate is not finite");
+        assert_eq!(said(10, 2), "refusal 10 at weight 2: a weight is not finite and above 0");
+        assert_eq!(said(12, 0), "refusal 12: evaluation parameter not finite");
+        assert_eq!(done(7 << 32 | 8).unwrap_err(), Refusal { number: 8, direction: None, place: Some(7) });
+    }
+
+    #[test]
+    fn the_place_is_in_the_other_half() {
+        assert_eq!(answered(3), Ok(3));
+        assert_eq!(answered(4 << 32 | 3).unwrap_err(), Refusal { number: 4, direction: None, place: Some(3) });
+        assert_eq!(done(5 << 32), Ok(()), "an edit's count");
+    }
+
+    #[test]
     fn a_number_that_is_none_has_a_text() {
         for number in [0, 34, 255] {
-            assert_eq!(Refusal { number, direction: None }.text(), "no refusal of document 01");
+            assert_eq!(Refusal { number, direction: None, place: None }.text(), "no refusal of document 01");
         }
     }
 }

@@ -22,6 +22,8 @@ impl Surface<'_> {
     /// let refusal = Surface { degrees: [1, 0], ..s }.validate().unwrap_err();
     /// assert_eq!((refusal.number, refusal.direction), (1, Some(Direction::V)));
     /// assert_eq!(refusal.to_string(), "refusal 1 along v: degree 0");
+    /// let refusal = Surface { knots: [ends, &[0.0, 2.0, 1.0, 1.0]], ..s }.validate().unwrap_err();
+    /// assert_eq!(refusal.to_string(), "refusal 4 at v knot 1: a knot is not finite, or one exceeds the next");
     /// ```
     pub fn validate(&self) -> Result<(), Refusal> {
         done(face::surface_refusal(self))

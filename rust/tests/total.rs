@@ -45,16 +45,33 @@ impl Rng {
     }
 }
 
-/// A refusal has a number of document 01 and its text.
-fn told<T>(result: Result<T, Refusal>, seen: &mut [usize]) -> Option<T> {
+/// A refusal has a number of document 01, its text and, where it has one, its place; what `table` is refused by, each
+/// call on it says.
+fn told<T>(result: Result<T, Refusal>, table: Option<Refusal>, seen: &mut [usize]) -> Option<T> {
+    assert!(table.is_none() || table == result.as_ref().err().copied());
     if let Err(r) = &result {
         assert!((1..=33).contains(&r.number), "{r:?}");
         assert_ne!(r.text(), "no refusal of document 01");
+        assert_eq!(r.place.is_some(), [4, 7, 8, 10].contains(&r.number), "{r:?}");
         seen[r.number as usize] += 1;
     } else {
         seen[0] += 1;
     }
     result.ok()
+}
+
+/// What a curve is refused by, with the place that the rule of its number has.
+fn refused(c: &Curve, result: Result<(), Refusal>) -> Option<Refusal> {
+    let refusal = result.err()?;
+    let place = match refusal.number {
+        4 => c.knots.iter().position(|k| !k.is_finite()).or_else(|| c.knots.windows(2).position(|k| k[0] > k[1])),
+        7 => c.knots.windows(c.degree + 2).position(|k| k[0] == k[c.degree + 1]),
+        8 => c.points.chunks(3).position(|p| p.iter().any(|x| !x.is_finite())),
+        10 => c.weights.and_then(|w| w.iter().position(|x| !x.is_finite() || *x <= 0.0)),
+        _ => None,
+    };
+    assert_eq!(refusal.place, place, "{c:?}");
+    Some(refusal)
 }
 
 /// The nonempty spans by document 01's words.
@@ -64,17 +81,31 @@ fn nonempty(c: &Curve) -> Vec<Span> {
 }
 
 /// Many at once are the single calls; as text, where each double has its own and every NaN the same.
-fn many(c: &Curve, ts: &[f64], seen: &mut [usize]) {
-    if let Some(points) = told(c.eval_many(ts), seen) {
+fn many(c: &Curve, ts: &[f64], table: Option<Refusal>, seen: &mut [usize]) {
+    if let Some(points) = told(c.eval_many(ts), table, seen) {
         assert_eq!(format!("{points:?}"), format!("{:?}", ts.iter().map(|t| c.eval(*t)).collect::<Vec<_>>()));
     }
-    if let Some(points) = told(c.eval2_many(ts), seen) {
+    if let Some(points) = told(c.eval2_many(ts), table, seen) {
         assert_eq!(format!("{points:?}"), format!("{:?}", ts.iter().map(|t| c.eval2(*t)).collect::<Vec<_>>()));
     }
-    if let Some(bounds) = told(c.bound_spans(), seen) {
+    if let Some(bounds) = told(c.bound_spans(), table, seen) {
         let alone = nonempty(c).into_iter().map(|span| SpanBound { span, point: c.bound(span.lo, span.hi) });
         assert_eq!(format!("{bounds:?}"), format!("{:?}", alone.collect::<Vec<_>>()));
     }
+}
+
+/// Two rows of a curve's points, now and then of another count.
+fn surface(r: &mut Rng, c: &Curve, [t, lo, hi]: [f64; 3], seen: &mut [usize]) {
+    let counts = [c.points.len() / 3, [2, 3, usize::MAX][r.below(16).saturating_sub(13)]];
+    let points = [c.points, c.points].concat();
+    let weights = c.weights.map(|w| [w, w].concat());
+    let knots: [&[f64]; 2] = [c.knots, &[0.0, 0.0, 1.0, 1.0]];
+    let s = Surface { degrees: [c.degree, 1], knots, counts, points: &points, weights: weights.as_deref() };
+    let table = refused(&Curve { points: s.points, weights: s.weights, ..*c }, s.validate());
+    told(s.validate(), table, seen);
+    told(s.eval(t, lo), table, seen);
+    told(s.bound([lo, hi], [0.25, 0.5]), table, seen);
+    told(s.iso_curve([Direction::U, Direction::V][r.below(2)], t), table, seen);
 }
 
 #[test]
@@ -85,35 +116,28 @@ fn every_call_answers_or_refuses() {
         let table = r.curve();
         let c = table.as_curve();
         let (t, lo, hi) = (r.double(), r.double(), r.double());
-        told(c.validate(), &mut seen);
-        told(c.span(t), &mut seen);
-        assert_eq!(told(c.spans(), &mut seen).map(Iterator::collect), c.validate().ok().map(|()| nonempty(&c)));
-        told(c.eval(t), &mut seen);
-        told(c.eval2(t), &mut seen);
-        told(c.bound(lo, hi), &mut seen);
-        many(&c, &[t, lo, hi], &mut seen);
+        let table = refused(&c, c.validate());
+        told(c.validate(), table, &mut seen);
+        // Only what the knots are refused by is a span's refusal too.
+        told(c.span(t), table.filter(|r| r.number < 8), &mut seen);
+        assert_eq!(told(c.spans(), table, &mut seen).map(Iterator::collect), c.validate().ok().map(|()| nonempty(&c)));
+        told(c.eval(t), table, &mut seen);
+        told(c.eval2(t), table, &mut seen);
+        told(c.bound(lo, hi), table, &mut seen);
+        many(&c, &[t, lo, hi], table, &mut seen);
         let more = r.below(4);
         let more = r.run(more);
         let raised = [c.degree, c.degree.wrapping_add(1), 3, 64, 65, usize::MAX][r.below(6)];
         for made in [c.reversed(), c.insert_knots(&more), c.trim(lo, hi), c.elevate_degree(raised)] {
             // The room was right: 30 is given for too long an input alone, and none is.
             assert!(!made.as_ref().is_err_and(|r| r.number == 30));
-            if let Some(made) = told(made, &mut seen) {
+            if let Some(made) = told(made, table, &mut seen) {
                 assert_eq!(made.as_curve().validate(), Ok(()));
             }
         }
-        // Two rows of the curve's points, now and then of another count.
-        let counts = [c.points.len() / 3, [2, 3, usize::MAX][r.below(16).saturating_sub(13)]];
-        let points = [c.points, c.points].concat();
-        let weights = c.weights.map(|w| [w, w].concat());
-        let knots: [&[f64]; 2] = [c.knots, &[0.0, 0.0, 1.0, 1.0]];
-        let s = Surface { degrees: [c.degree, 1], knots, counts, points: &points, weights: weights.as_deref() };
-        told(s.validate(), &mut seen);
-        told(s.eval(t, lo), &mut seen);
-        told(s.bound([lo, hi], [0.25, 0.5]), &mut seen);
-        told(s.iso_curve([Direction::U, Direction::V][r.below(2)], t), &mut seen);
+        surface(&mut r, &c, [t, lo, hi], &mut seen);
     }
-    for number in [0, 1, 2, 3, 4, 8, 9, 10, 11, 12, 13, 15, 16, 17, 18, 22, 24, 25, 32] {
+    for number in [0, 1, 2, 3, 4, 7, 8, 9, 10, 11, 12, 13, 15, 16, 17, 18, 22, 24, 25, 32] {
         assert!(seen[number] > 0, "{number} was never given: {seen:?}");
     }
 }
@@ -166,6 +190,55 @@ fn intervals_are_the_rules() {
         divided += (a / b).is_ok() as u32;
     }
     assert!(made > 10_000 && divided > 1_000);
+}
+
+/// The number, the direction and the place.
+fn said<T>(result: Result<T, Refusal>) -> (u8, Option<Direction>, Option<usize>) {
+    let Err(r) = result else { return (0, None, None) };
+    (r.number, r.direction, r.place)
+}
+
+#[test]
+fn a_place_is_the_first() {
+    let on = |knots| said(Curve { knots, ..TABLE_A }.validate());
+    assert_eq!(on(&[0.0, 0.0, 0.0, 2.5, 2.0, 2.0, 2.0]), (4, None, Some(3)));
+    assert_eq!(on(&[0.0, 3.0, 1.0, f64::NAN, 2.0, 2.0, 2.0]), (4, None, Some(3)));
+    assert_eq!(on(&[0.0; 7]), (5, None, None));
+    let knots = Curve { knots: &[0.0, 0.0, 0.0, 2.5, 2.0, 2.0, 2.0], ..TABLE_A };
+    assert_eq!(said(knots.span(0.5)), (4, None, Some(3)));
+    assert_eq!(said(knots.bound_spans()), (4, None, Some(3)));
+    assert_eq!(said(knots.insert_knots(&[1.0])), (4, None, Some(3)));
+    let weights = Curve { weights: Some(&[1.0, 1.0, 0.0, 1.0]), ..TABLE_A };
+    assert_eq!((said(weights.validate()), said(weights.span(0.5))), ((10, None, Some(2)), (0, None, None)));
+}
+
+/// Where the given table has nothing to refuse.
+#[test]
+fn a_place_is_in_the_curve_just_formed() {
+    let near = Curve { degree: 1, knots: &[0.0, 0.0, 2f64.powi(-60), 1.0, 1.0], points: &[0.0; 9], weights: None };
+    assert_eq!((near.validate(), said(near.reversed())), (Ok(()), (7, None, Some(2))));
+    let knots = [-1.0, 0.5, 0.75, 1.0].map(|x| x * f64::MAX);
+    let far = Curve { knots: &knots, points: &[0.0; 6], ..near };
+    assert_eq!((far.validate(), said(far.reversed())), (Ok(()), (4, None, Some(3))));
+    // Between the last two points rounding makes a quotient that is greater than both of them.
+    let points = [[0.0; 3], [f64::MAX, 0.0, 0.0], [f64::MAX, 0.0, 0.0]];
+    let steep =
+        Curve { knots: &[0.0, 0.0, 1.0, 2.0, 2.0], points: points.as_flattened(), weights: Some(&[1.0, 0.1, 0.5]), ..near };
+    assert_eq!((steep.validate(), said(steep.insert_knots(&[1.5]))), (Ok(()), (8, None, Some(2))));
+    assert_eq!((said(steep.trim(0.0, 1.5)), said(steep.elevate_degree(2))), ((8, None, Some(2)), (8, None, Some(3))));
+}
+
+#[test]
+fn a_place_of_a_surface() {
+    let (u, v): (&[f64], &[f64]) = (&[0.0, 0.0, 1.0, 1.0], &[0.0, 0.0, 1.0, 2.0, 2.0]);
+    let s = Surface { degrees: [1, 1], knots: [u, v], counts: [2, 3], points: &[0.0; 18], weights: None };
+    assert_eq!(said(s.validate()), (0, None, None));
+    assert_eq!(said(Surface { knots: [&[0.0, 0.0, 1.0, f64::NAN], v], ..s }.validate()), (4, Some(Direction::U), Some(3)));
+    assert_eq!(said(Surface { knots: [u, &[0.0, 0.0, 1.0, 1.0, 1.0]], ..s }.eval(0.5, 0.5)), (7, Some(Direction::V), Some(2)));
+    assert_eq!(said(Surface { weights: Some(&[1.0, 1.0, 1.0, 1.0, -1.0, 1.0]), ..s }.validate()), (10, None, Some(4)));
+    // The point 1, 0.
+    let torn = [[0.0; 10].as_slice(), &[f64::INFINITY], &[0.0; 7]].concat();
+    assert_eq!(said(Surface { points: &torn, ..s }.iso_curve(Direction::U, 0.5)), (8, None, Some(3)));
 }
 
 #[test]

@@ -19,33 +19,23 @@ unsafe extern "C" {
     pub fn tasulogi_clamp(degree: usize, count: usize, u: f64, knots: *const f64, knots_n: usize) -> f64;
 }
 
-/// What a function answers where it does not say.
-macro_rules! answer {
-    () => {
-        u32
-    };
-    ($kind:ty) => {
-        $kind
-    };
-}
-
 /// Functions that take a table in the parts named, then numbers, a run that is read, a lent run of whole numbers, and
-/// lent runs of doubles; callers hand over table and runs whole.
+/// lent runs of doubles; callers hand over table and runs whole. All that take one kind of table return one type.
 macro_rules! exported {
-    ($table:tt $(fn $name:ident $takes:tt $(reads $read:ident)? $(marks $mark:ident)? $(lends $($out:ident),+)? $(-> $kind:ty)?;)*) => {
-        $(exported! { @one $table $name $takes ($($read)?) ($($mark)?) ($($kind)?) $($($out)+)? })*
+    ($table:tt -> $answer:ty; $(fn $name:ident $takes:tt $(reads $read:ident)? $(marks $mark:ident)? $(lends $($out:ident),+)?;)*) => {
+        $(exported! { @one $table $name $takes ($($read)?) ($($mark)?) $answer; $($($out)+)? })*
     };
     (@one ($($t:ident: $table:ty => $($part:expr, $kind:ty;)*)?) $name:ident ($($x:ident: $number:ty),*) ($($read:ident)?)
-        ($($mark:ident)?) ($($answer:ty)?) $($out:ident)*) => {
+        ($($mark:ident)?) $answer:ty; $($out:ident)*) => {
         #[inline]
         pub fn $name(
             $($t: $table,)? $($x: $number,)* $($read: &[f64],)? $($mark: &mut [u32],)? $($out: &mut [f64],)*
-        ) -> answer!($($answer)?) {
+        ) -> $answer {
             unsafe extern "C" {
                 fn $name(
                     $($(_: $kind,)*)? $($x: $number,)* $($read: *const f64, _: usize,)? $($mark: *mut u32, _: usize,)?
                     $($out: *mut f64, _: usize,)*
-                ) -> answer!($($answer)?);
+                ) -> $answer;
             }
             unsafe {
                 $name(
@@ -58,7 +48,7 @@ macro_rules! exported {
 }
 
 exported! {
-    ()
+    () -> u32;
     fn tasulogi_interval_entire() lends out;
     fn tasulogi_interval_new(lo: f64, hi: f64) lends out;
     fn tasulogi_interval_point(x: f64) lends out;
@@ -79,18 +69,18 @@ exported! {
         c.points.as_ptr(), *const f64; c.points.len(), usize;
         c.rational, bool;
         c.weights.as_ptr(), *const f64; c.weights.len(), usize;
-    )
+    ) -> u64;
     fn tasulogi_curve_refusal();
     fn tasulogi_bound_curve(lo: f64, hi: f64) lends out;
     fn tasulogi_eval(t: f64) lends out;
     fn tasulogi_eval2(t: f64) lends out;
     fn tasulogi_eval_many() reads ts marks numbers lends rows;
     fn tasulogi_eval2_many() reads ts marks numbers lends rows;
-    fn tasulogi_bound_spans() marks spans lends boxes -> u64;
+    fn tasulogi_bound_spans() marks spans lends boxes;
     fn tasulogi_reversed() lends knots, points, weights;
-    fn tasulogi_insert_knots() reads inserted lends knots, points, weights, scratch -> u64;
-    fn tasulogi_trim(lo: f64, hi: f64) lends knots, points, weights, scratch -> u64;
-    fn tasulogi_elevate_degree(raised: usize) lends knots, points, weights, scratch -> u64;
+    fn tasulogi_insert_knots() reads inserted lends knots, points, weights, scratch;
+    fn tasulogi_trim(lo: f64, hi: f64) lends knots, points, weights, scratch;
+    fn tasulogi_elevate_degree(raised: usize) lends knots, points, weights, scratch;
 }
 
 exported! {
@@ -102,7 +92,7 @@ exported! {
         s.points.as_ptr(), *const f64; s.points.len(), usize;
         s.rational, bool;
         s.weights.as_ptr(), *const f64; s.weights.len(), usize;
-    )
+    ) -> u64;
     fn tasulogi_surface_refusal();
     fn tasulogi_bound_surface(u_lo: f64, u_hi: f64, v_lo: f64, v_hi: f64) lends out;
     fn tasulogi_eval_surface(u: f64, v: f64) lends out;

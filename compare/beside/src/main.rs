@@ -113,10 +113,9 @@ fn compare(picked: &[Module], o: &Options) -> ExitCode {
         passed += holds as u64;
         failed += if holds { 0 } else { fails(&format!("the Rust does not give document 01's number: {name}")) };
     }
-    if fraction::self_test() {
-        passed += 1;
-    } else {
-        failed += fails("the comparison's own fractions are wrong");
+    for (what, holds) in [("fractions", fraction::self_test()), ("places", tables::fixed::self_test())] {
+        passed += holds as u64;
+        failed += if holds { 0 } else { fails(&format!("the comparison's own {what} are wrong")) };
     }
     for m in picked {
         let start = Instant::now();

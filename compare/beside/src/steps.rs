@@ -25,12 +25,12 @@ unsafe extern "C" {
         t: f64,
         out: *mut f64,
         out_n: usize,
-    ) -> u32;
+    ) -> u64;
 }
 
 /// Evaluation without validation.
 #[inline]
-pub fn eval_at(c: &Curve, t: f64, out: &mut [f64]) -> u32 {
+pub fn eval_at(c: &Curve, t: f64, out: &mut [f64]) -> u64 {
     let (k, p, w) = (&c.knots, &c.points, &c.weights);
     // SAFETY: each pointer and length are those of a slice, and the lent one overlaps no other.
     unsafe {

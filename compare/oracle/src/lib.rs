@@ -8,6 +8,7 @@ pub use gensolid_geom::nurbs_bounds::{NurbsBounds, bound_curve, bound_surface};
 pub use gensolid_geom::window::{basis_derivatives, divide, find_span, knot_spans};
 pub use gensolid_geom::{BCurve, BSurface, CurveDerivs, ParamRange, SurfaceDerivs};
 pub use gensolid_math::{Interval, Point3, Sign, Vec3};
+pub use noting;
 
 /// A number of document 01, and 0 (u), 1 (v) or 2 (none).
 #[derive(Clone, Copy, Debug, PartialEq, Eq)]

@@ -3,7 +3,7 @@ use super::Desk;
 use crate::face::tasulogi_class_of;
 use crate::lent::Match;
 use crate::rng::Rng;
-use crate::tables::hex;
+use crate::tables::{Refused, hex};
 use oracle::{BCurve, Point3, class_of};
 
 /// What our class of a returned number is beside document 01's.
@@ -39,9 +39,16 @@ pub enum Wanted {
     /// What each lent run has to start with.
     Runs(Vec<Vec<u64>>),
     /// A refusal that comes before the rooms are looked at.
-    Refused(u32),
+    Refused(Refused),
     /// A refusal of what was formed: the rooms were looked at before.
-    Formed(u32),
+    Formed(Refused),
+}
+
+impl Wanted {
+    /// A refusal that has no place.
+    pub fn unplaced(number: u32) -> Self {
+        Self::Refused(Refused::unplaced(number))
+    }
 }
 
 /// A call of a table's row: how many numbers each run needs, what stands in the high half of the word that is returned
@@ -61,9 +68,9 @@ pub fn compared(desk: &mut Desk, asked: Asked, want: &Wanted, ours: impl FnOnce(
     let short = rooms.iter().zip(asked.needs).any(|(a, b)| a < b);
     let none = vec![Vec::new(); rooms.len()];
     let (word, runs) = match want {
-        Wanted::Refused(n) => (u64::from(*n), &none),
+        Wanted::Refused(r) => (r.word(), &none),
         Wanted::Formed(_) | Wanted::Runs(_) if short => (30, &none),
-        Wanted::Formed(n) => (u64::from(*n), &none),
+        Wanted::Formed(r) => (r.word(), &none),
         Wanted::Runs(runs) => ((asked.high as u64) << 32, runs),
     };
     let mut given: Vec<&mut [f64]> = lent.iter_mut().zip(&rooms).map(|(l, n)| l.lend(r, *n)).collect();
@@ -73,6 +80,6 @@ pub fn compared(desk: &mut Desk, asked: Asked, want: &Wanted, ours: impl FnOnce(
         let told = |words: &[u64]| format!("\n                {}", hex(words.iter().copied()));
         let want: String = runs.iter().map(|w| told(w)).collect();
         let ours: String = lent.iter().map(|l| told(&l.words())).collect();
-        format!("  lent:          {rooms:?} numbers\n  the Rust:      {word:#x}{want}\n  ours:          {got:#x}{ours}")
+        format!("  lent:          {rooms:?} numbers\n  wanted:        {word:#x}{want}\n  ours:          {got:#x}{ours}")
     })
 }

@@ -57,11 +57,11 @@ fn asked(
     desk: &mut Desk,
     row: usize,
     want: &Wanted,
-    ours: impl FnOnce(&mut [f64]) -> u32,
+    ours: impl FnOnce(&mut [f64]) -> u64,
     literal: impl FnOnce() -> String,
     exact: impl FnOnce(&mut Desk, &[u64]) -> Option<String>,
 ) -> Option<String> {
-    if let Some(text) = compared(desk, Asked { row, needs: &[BOX], high: 0, room }, want, |l| ours(l[0]).into()) {
+    if let Some(text) = compared(desk, Asked { row, needs: &[BOX], high: 0, room }, want, |l| ours(l[0])) {
         return Some(format!("{}\n  Rust literal:  {}\n{text}", CALLS[row].0, literal()));
     }
     match want {

@@ -3,7 +3,7 @@ mod bench;
 mod calls;
 
 use super::answered::{Asked, Wanted, compared};
-use super::{Desk, Module};
+use super::{Desk, Module, joined};
 use crate::rng::Rng;
 use crate::tables::FEATURES;
 use crate::tables::make::Care;
@@ -38,15 +38,7 @@ const OWN: [&str; 11] = [
     "elevation copied",
 ];
 const COMMON: usize = FEATURES.len() - 1;
-const SEEN: [&str; COMMON + OWN.len()] = {
-    let mut all = [""; COMMON + OWN.len()];
-    let mut i = 0;
-    while i < all.len() {
-        all[i] = if i < COMMON { FEATURES[i] } else { OWN[i - COMMON] };
-        i += 1;
-    }
-    all
-};
+const SEEN: [&str; COMMON + OWN.len()] = joined(FEATURES.split_at(COMMON).0, &OWN);
 
 pub const MODULE: Module = Module {
     name: "edits",
@@ -87,7 +79,7 @@ fn case(place: Place, desk: &mut Desk) -> Option<String> {
 
 /// Counts what OWN names, in a case that is answered.
 fn seen(case: &Case, row: usize, want: &Wanted, own: &mut [u64]) {
-    own[row] += matches!(want, Wanted::Formed(8)) as u64;
+    own[row] += matches!(want, Wanted::Formed(r) if r.number == 8) as u64;
     let Wanted::Runs(_) = want else { return };
     let (p, n) = (case.table.degree, case.table.count());
     match &case.edit {

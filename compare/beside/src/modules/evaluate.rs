@@ -4,9 +4,9 @@ pub mod calls;
 mod list;
 
 use super::answered::{Asked, Wanted, compared, room};
-use super::{Desk, Module};
+use super::{Desk, Module, joined};
 use crate::tables::make::Care;
-use crate::tables::{FEATURES, double_literal};
+use crate::tables::{FEATURES, Refused, double_literal, fixed};
 use crate::tally::{Call, Place};
 use calls::{CurveCase, Order, SurfaceCase};
 
@@ -22,22 +22,39 @@ const CALLS: [(&str, &[u32]); 6] = [
     ("eval_at", &[0, 12, 30, 31]),
 ];
 
+/// Refusals of curves that were formed.
+const OWN: [&str; 4] = [
+    "reversal's formed curve refused by 4",
+    "reversal's by 7",
+    "isocurve's by 8 at the front",
+    "isocurve's by 8 behind the front",
+];
+const SEEN: [&str; FEATURES.len() + OWN.len()] = joined(&FEATURES, &OWN);
+
 pub const MODULE: Module = Module {
     name: "evaluate",
     calls: || CALLS.map(|c| Call { name: c.0, numbers: c.1, idle: &[] }).into(),
-    features: &FEATURES,
+    features: &SEEN,
     default_cases: 2_000_000,
     case,
     list: Some(list::write),
     bench: bench::table,
 };
 
-fn case(_: Place, desk: &mut Desk) -> Option<String> {
+fn case(place: Place, desk: &mut Desk) -> Option<String> {
+    if place.block == 0
+        && let Some((table, _)) = fixed::REVERSED.get(place.case as usize)
+    {
+        return reversed(desk, CurveCase { table: table.clone(), t: 0.0 });
+    }
     match desk.r.below(6) {
         0 => point(desk, Order::One),
         1 => point(desk, Order::Two),
         2 => surface_point(desk),
-        3 => reversed(desk),
+        3 => {
+            let case = made_curve(desk);
+            reversed(desk, case)
+        }
         4 => point(desk, Order::Validated),
         _ => iso_curve(desk),
     }
@@ -63,10 +80,10 @@ fn asked(
     row: usize,
     needs: &[usize],
     want: &Wanted,
-    ours: impl FnOnce(&mut [&mut [f64]]) -> u32,
+    ours: impl FnOnce(&mut [&mut [f64]]) -> u64,
     literal: impl FnOnce() -> String,
 ) -> Option<String> {
-    let text = compared(desk, Asked { row, needs, high: 0, room }, want, |l| ours(l).into())?;
+    let text = compared(desk, Asked { row, needs, high: 0, room }, want, ours)?;
     Some(format!("{}\n  Rust literal:  {}\n{text}", CALLS[row].0, literal()))
 }
 
@@ -91,11 +108,14 @@ fn surface_point(desk: &mut Desk) -> Option<String> {
     asked(desk, 2, &[9], &case.rust_point(), |l| case.ours_point(l[0]), literal)
 }
 
-fn reversed(desk: &mut Desk) -> Option<String> {
-    let case = made_curve(desk);
+fn reversed(desk: &mut Desk, case: CurveCase) -> Option<String> {
     let t = &case.table;
     let needs = [t.knots.len(), t.points.len(), if t.rational { t.weights.len() } else { 0 }];
-    asked(desk, 3, &needs, &case.rust_reversed(), |l| case.ours_reversed(l), || t.literal())
+    let want = case.rust_reversed();
+    if let Wanted::Formed(Refused { number: n @ (4 | 7), .. }) = &want {
+        desk.tally.features[FEATURES.len() + (*n == 7) as usize] += 1;
+    }
+    asked(desk, 3, &needs, &want, |l| case.ours_reversed(l), || t.literal())
 }
 
 fn iso_curve(desk: &mut Desk) -> Option<String> {
@@ -107,5 +127,9 @@ fn iso_curve(desk: &mut Desk) -> Option<String> {
         let t = double_literal(case.constant(constant_u));
         format!("{}.unwrap().iso_curve({constant_u}, {t})", case.table.literal())
     };
-    asked(desk, 4, &needs, &case.rust_iso(constant_u), |l| case.ours_iso(constant_u, l), literal)
+    let want = case.rust_iso(constant_u);
+    if let Wanted::Formed(r @ Refused { number: 8, .. }) = &want {
+        desk.tally.features[FEATURES.len() + 2 + (r.place > 0) as usize] += 1;
+    }
+    asked(desk, 4, &needs, &want, |l| case.ours_iso(constant_u, l), literal)
 }

@@ -4,12 +4,12 @@ mod calls;
 mod list;
 
 use super::answered::class_agrees;
-use super::{Desk, Module};
+use super::{Desk, Module, joined};
 use crate::face::{tasulogi_class_of, tasulogi_curve_refusal, tasulogi_surface_refusal};
 use crate::rng::Rng;
 use crate::tables::at;
 use crate::tables::make::{self, Care};
-use crate::tables::{Curve, FEATURES, double_literal, hex, literal};
+use crate::tables::{Curve, FEATURES, PLACES, Refused, double_literal, fixed, hex, literal};
 use crate::tally::{Call, Place, Tally};
 use calls::*;
 
@@ -25,19 +25,29 @@ const CALLS: [(&str, &[u32]); 6] = [
     ("class_of", &[0, 1, 2, 3, 4, 5]),
 ];
 
+const SEEN: [&str; FEATURES.len() + PLACES.len()] = joined(&FEATURES, &PLACES);
+
 pub const MODULE: Module = Module {
     name: "knots",
     calls: || CALLS.map(|c| Call { name: c.0, numbers: c.1, idle: &[] }).into(),
-    features: &FEATURES,
+    features: &SEEN,
     default_cases: 4_000_000,
     case,
     list: Some(list::write),
     bench: bench::table,
 };
 
-fn case(_: Place, desk: &mut Desk) -> Option<String> {
+fn case(place: Place, desk: &mut Desk) -> Option<String> {
+    if place.block == 0
+        && let Some((c, _)) = fixed::REFUSED.get(place.case as usize)
+    {
+        return curve(desk, c);
+    }
     match desk.r.below(16) {
-        0..5 => curve(desk),
+        0..5 => {
+            let c = made_curve(desk);
+            curve(desk, &c)
+        }
         5..8 => surface(desk),
         8..13 => spanned(desk),
         13 => next(desk),
@@ -56,23 +66,27 @@ fn made_curve(desk: &mut Desk) -> Curve {
     c
 }
 
-/// The number of a refusal, and its class.
-fn validated(tally: &mut Tally, row: usize, want: u32, got: u32, literal: impl FnOnce() -> String) -> Option<String> {
-    tally.judged(row, want, got == want && class_agrees(got), || {
-        format!("{}\n  Rust literal:  {}\n  the Rust:      {want}\n  ours:          {got}", CALLS[row].0, literal())
+/// A refusal, and its class.
+fn validated(tally: &mut Tally, row: usize, want: Refused, got: u64, literal: impl FnOnce() -> String) -> Option<String> {
+    tally.judged(row, want.number, got == want.word() && class_agrees(want.number), || {
+        let got = Refused::of_word(got);
+        format!("{}\n  Rust literal:  {}\n  wanted:        {want:?}\n  ours:          {got:?}", CALLS[row].0, literal())
     })
 }
 
-fn curve(desk: &mut Desk) -> Option<String> {
-    let c = made_curve(desk);
-    validated(&mut desk.tally, 0, c.rust().err().unwrap_or(0), tasulogi_curve_refusal(&c), || c.literal())
+fn curve(desk: &mut Desk, c: &Curve) -> Option<String> {
+    let want = c.rust().err().unwrap_or_default();
+    c.placed(want, &mut desk.tally.features[FEATURES.len()..]);
+    validated(&mut desk.tally, 0, want, tasulogi_curve_refusal(c), || c.literal())
 }
 
 fn surface(desk: &mut Desk) -> Option<String> {
     let s = make::surface(&mut desk.r, &CARE);
     s.features(&mut desk.tally.features);
     desk.tally.count(s.doubles().take(400));
-    validated(&mut desk.tally, 1, s.rust().err().unwrap_or(0), tasulogi_surface_refusal(&s), || s.literal())
+    let want = s.rust().err().unwrap_or_default();
+    s.placed(want, &mut desk.tally.features[FEATURES.len()..]);
+    validated(&mut desk.tally, 1, want, tasulogi_surface_refusal(&s), || s.literal())
 }
 
 /// Mostly the count that the knots have; else one off, none, or more than fits.
@@ -104,7 +118,7 @@ fn spanned(desk: &mut Desk) -> Option<String> {
     let got = our_span(&k, u);
     let (number, agrees) = match want {
         Ok(s) => (0, got == s as u64),
-        Err(n) => (n, got == (n as u64) << 32 && class_agrees(n)),
+        Err(r) => (r.number, got == r.turned() && class_agrees(r.number)),
     };
     desk.tally.judged(2, number, agrees, || {
         told("find_span", &k, &format!("u {}", double_literal(u)), format!("{want:?}"), format!("{got:016x}"))

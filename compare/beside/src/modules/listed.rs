@@ -1,7 +1,7 @@
 //! Lists of tables and answers as words: what crates/replay reads.
 use super::answered::Wanted;
 use crate::rng::Rng;
-use crate::tables::{Curve, Surface};
+use crate::tables::{Curve, Refused, Surface};
 use std::collections::BTreeMap;
 use std::io::{Result, Write};
 
@@ -16,17 +16,18 @@ pub fn word(x: f64) -> u64 {
 /// A case in words, of which the first is a degree, and what it answers.
 pub struct Listed {
     pub words: Vec<u64>,
-    pub answer: u32,
+    pub answer: Refused,
 }
 
 impl Listed {
-    /// Behind a case the number and the direction, then the runs; where `lengths` counts them, each behind its length.
+    /// Behind a case the number, the direction and the place, then the runs; where `lengths` counts them, each behind its
+    /// length.
     pub fn answered(mut words: Vec<u64>, want: Wanted, lengths: usize) -> Self {
         let (answer, runs) = match want {
-            Wanted::Refused(n) | Wanted::Formed(n) => (n, vec![Vec::new(); lengths]),
-            Wanted::Runs(runs) => (0, runs),
+            Wanted::Refused(r) | Wanted::Formed(r) => (r, vec![Vec::new(); lengths]),
+            Wanted::Runs(runs) => (Refused::default(), runs),
         };
-        words.extend([answer as u64 % 100, (answer as u64 / 100 + 2) % 3]);
+        words.extend([answer.number % 100, (answer.number / 100 + 2) % 3, answer.place].map(u64::from));
         for run in runs {
             if lengths > 0 {
                 words.push(run.len() as u64);
@@ -86,13 +87,13 @@ impl Choice {
 /// How many cases of an answer are looked at for each that is kept.
 const LOOKED_AT: usize = 8;
 
-/// `each` cases of every refusal, and of the answer 0 all that are left of `cases`: of each the degrees in turn, and of
-/// a refusal the shortest.
+/// `each` cases of every refusal, and of the answer 0 all that are left of `cases`: of each the degrees and places in
+/// turn, and of a refusal the shortest.
 fn chosen(tried: impl Iterator<Item = Listed>, cases: usize, each: usize) -> Vec<Listed> {
     let mut by: BTreeMap<u32, Vec<Listed>> = BTreeMap::new();
     for case in tried {
-        let most = LOOKED_AT * if case.answer == 0 { cases } else { each };
-        let of = by.entry(case.answer).or_default();
+        let most = LOOKED_AT * if case.answer.number == 0 { cases } else { each };
+        let of = by.entry(case.answer.number).or_default();
         if of.len() < most {
             of.push(case);
         }
@@ -109,13 +110,13 @@ fn chosen(tried: impl Iterator<Item = Listed>, cases: usize, each: usize) -> Vec
     kept
 }
 
-/// The first of every degree, then the second, and so on.
+/// The first of every degree and place, then the second, and so on.
 fn in_turn(of: Vec<Listed>, most: usize) -> Vec<Listed> {
-    let mut met: BTreeMap<u64, usize> = BTreeMap::new();
+    let mut met: BTreeMap<(u64, u32), usize> = BTreeMap::new();
     let mut ranked: Vec<(usize, Listed)> = of
         .into_iter()
         .map(|c| {
-            let rank = met.entry(c.words[0]).or_default();
+            let rank = met.entry((c.words[0], c.answer.place)).or_default();
             *rank += 1;
             (*rank, c)
         })

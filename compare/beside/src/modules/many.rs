@@ -9,7 +9,7 @@ use crate::face::*;
 use crate::lent::Match;
 use crate::tables::at;
 use crate::tables::make::{self, Care};
-use crate::tables::{Curve, FEATURES, LIMIT};
+use crate::tables::{Curve, FEATURES, LIMIT, Refused};
 use crate::tally::{Call, Place};
 use evaluate::Order;
 
@@ -48,16 +48,15 @@ struct Item {
 fn item(before: Vec<u32>, width: usize, want: Wanted) -> Item {
     match want {
         Wanted::Runs(mut runs) => Item { before, number: 0, words: runs.remove(0) },
-        Wanted::Refused(number) | Wanted::Formed(number) => Item { before, number, words: vec![0; width] },
+        Wanted::Refused(r) | Wanted::Formed(r) => Item { before, number: r.number, words: vec![0; width] },
     }
 }
 
 /// The refusal of the whole call, but for the rooms.
-fn whole(table: &Curve) -> u32 {
+fn whole(table: &Curve) -> Refused {
     match table.rust() {
-        Err(n) => n,
-        Ok(_) if table.is_steep() => 31,
-        Ok(_) => 0,
+        Err(r) => r,
+        Ok(_) => Refused::unplaced(if table.is_steep() { 31 } else { 0 }),
     }
 }
 
@@ -68,19 +67,19 @@ fn compared(
     desk: &mut Desk,
     row: usize,
     width: usize,
-    refusal: u32,
+    refusal: Refused,
     items: &[Item],
-    ours: impl FnOnce(&mut [u32], &mut [f64]) -> (u32, usize),
+    ours: impl FnOnce(&mut [u32], &mut [f64]) -> (Refused, usize),
     literal: impl FnOnce() -> String,
 ) -> Option<String> {
     let Desk { r, lent, tally } = desk;
     let each = items.first().map_or(1, |i| i.before.len() + 1);
     let rooms = [room(r, items.len() * each), room(r, items.len() * width)];
     let short = rooms[0] < items.len() * each || rooms[1] < items.len() * width;
-    let (number, items) = match refusal {
-        0 if short => (30, &[][..]),
-        0 => (0, items),
-        n => (n, &[][..]),
+    let (want, items) = match refusal.number {
+        0 if short => (Refused::unplaced(30), &[][..]),
+        0 => (refusal, items),
+        _ => (refusal, &[][..]),
     };
     let mut marks = vec![MARK; rooms[0] + 2];
     let (got, count) = ours(&mut marks[1..=rooms[0]], lent[0].lend(r, rooms[1]));
@@ -89,13 +88,13 @@ fn compared(
     let words: Vec<u64> = items.iter().flat_map(|i| i.words.iter().copied()).collect();
     let kept = marks[0] == MARK && marks[rooms[0] + 1] == MARK;
     let same = kept && marks[1..=rooms[0]] == left && lent[0].holds(&words, false) == Match::Same;
-    let agrees = same && got == number && count == items.len();
+    let agrees = same && got == want && count == items.len();
     for i in items {
         tally.judged(row + 1, i.number, agrees, String::new);
     }
-    tally.judged(row, number, agrees, || {
+    tally.judged(row, want.number, agrees, || {
         format!(
-            "{}\n  Rust literal:  {}\n  lent:          {rooms:?} numbers\n  wanted:        {number} {left:x?} {words:x?}\n  ours:          {got} {:x?} {:x?}",
+            "{}\n  Rust literal:  {}\n  lent:          {rooms:?} numbers\n  wanted:        {want:?} {left:x?} {words:x?}\n  ours:          {got:?} {:x?} {:x?}",
             CALLS[row].0,
             literal(),
             &marks[1..=rooms[0]],
@@ -110,18 +109,18 @@ fn points(desk: &mut Desk, order: Order) -> Option<String> {
     let n = if desk.r.below(20_000) == 0 { LIMIT + 1 } else { desk.r.below(9) as usize };
     let ts: Vec<f64> = (0..n).map(|i| if i < 9 { at::parameter(&mut desk.r, &table.knots) } else { 0.0 }).collect();
     desk.tally.count(ts.iter().take(9));
-    let refusal = if n > LIMIT { 30 } else { whole(&table) };
+    let refusal = if n > LIMIT { Refused::unplaced(30) } else { whole(&table) };
     let mut case = evaluate::CurveCase { table, t: 0.0 };
     let mut each = |t: f64| {
         case.t = t;
         item(vec![], width, case.rust_point(order))
     };
-    let items: Vec<Item> = if refusal == 0 { ts.iter().map(|t| each(*t)).collect() } else { vec![] };
+    let items: Vec<Item> = if refusal.number == 0 { ts.iter().map(|t| each(*t)).collect() } else { vec![] };
     let table = &case.table;
     let ours = |numbers: &mut [u32], rows: &mut [f64]| {
         let call = if order == Order::Two { tasulogi_eval2_many } else { tasulogi_eval_many };
         let n = call(table, &ts, numbers, rows);
-        (n, if n == 0 { ts.len() } else { 0 })
+        (Refused::of_word(n), if n == 0 { ts.len() } else { 0 })
     };
     compared(desk, row, width, refusal, &items, ours, || format!("{}, at {ts:?}", table.literal()))
 }
@@ -129,17 +128,21 @@ fn points(desk: &mut Desk, order: Order) -> Option<String> {
 fn spans(desk: &mut Desk) -> Option<String> {
     let table = made(desk);
     let refusal = whole(&table);
-    let places = if refusal == 0 { table.degree..table.count() } else { 0..0 };
+    let spans = if refusal.number == 0 { table.degree..table.count() } else { 0..0 };
     let mut case = bounds::CurveCase { table, range: (0.0, 0.0) };
     let each = |s: usize| {
         case.range = (case.table.knots[s], case.table.knots[s + 1]);
         (case.range.0 < case.range.1).then(|| item(vec![s as u32], bounds::BOX, case.rust()))
     };
-    let items: Vec<Item> = places.filter_map(each).collect();
+    let items: Vec<Item> = spans.filter_map(each).collect();
     let table = &case.table;
     let ours = |marks: &mut [u32], boxes: &mut [f64]| {
-        let n = tasulogi_bound_spans(table, marks, boxes);
-        ((n >> 32) as u32, n as u32 as usize)
+        // The low half is the count, or the place of a refusal.
+        let word = tasulogi_bound_spans(table, marks, boxes);
+        match word >> 32 {
+            0 => (Refused::default(), word as usize),
+            _ => (Refused::of_word(word.rotate_left(32)), 0),
+        }
     };
     compared(desk, 4, bounds::BOX, refusal, &items, ours, || table.literal())
 }

@@ -42,4 +42,13 @@ pub struct Module {
     pub bench: fn(u32) -> Vec<Times>,
 }
 
+/// The features of all tables, then a module's own.
+const fn joined<const N: usize>(common: &[&'static str], own: &[&'static str]) -> [&'static str; N] {
+    let mut all = [""; N];
+    let (a, b) = all.split_at_mut(common.len());
+    a.copy_from_slice(common);
+    b.copy_from_slice(own);
+    all
+}
+
 pub const ALL: [Module; 6] = [interval::MODULE, knots::MODULE, evaluate::MODULE, bounds::MODULE, edits::MODULE, many::MODULE];

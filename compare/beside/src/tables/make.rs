@@ -1,6 +1,5 @@
 //! How tables are made: mostly valid, often at an edge, now and then broken in one place.
-use super::at::NOT_FINITE;
-use super::{Curve, LIMIT, Surface};
+use super::{Curve, LIMIT, Surface, spoil};
 use crate::doubles::double;
 use crate::rng::Rng;
 
@@ -130,65 +129,6 @@ pub fn weights(r: &mut Rng, count: usize) -> Vec<f64> {
     (0..count).map(&mut one).collect()
 }
 
-fn spoil(r: &mut Rng, run: &mut [f64], with: &[f64]) {
-    if !run.is_empty() {
-        let at = r.below(run.len() as u64) as usize;
-        run[at] = r.pick(with);
-    }
-}
-
-fn resize(r: &mut Rng, run: &mut Vec<f64>) {
-    match r.below(4) {
-        0 => run.clear(),
-        1 => run.push(1.0),
-        _ => {
-            run.pop();
-        }
-    }
-}
-
-/// One thing wrong with knots; the degree and the count may change.
-fn spoil_knots(r: &mut Rng, degree: &mut usize, count: &mut usize, knots: &mut Vec<f64>) {
-    match r.below(9) {
-        0 => *degree = 0,
-        1 => *degree = *count,
-        2 => *degree = r.pick(&[usize::MAX, usize::MAX - 1, usize::MAX / 2, *degree + 1]),
-        3 => resize(r, knots),
-        4 => spoil(r, knots, &NOT_FINITE),
-        5 => {
-            let at = r.below(knots.len() as u64) as usize;
-            knots[at] = knots[at] + if r.below(2) == 0 { 1.5 } else { -1.5 };
-        }
-        6 => {
-            let x = knots[*degree];
-            knots[*degree..=*count].fill(x);
-        }
-        7 => {
-            let at = r.below(*count as u64) as usize;
-            let x = knots[at];
-            let end = (at + *degree + 2).min(knots.len());
-            knots[at..end].fill(x);
-        }
-        _ => {
-            for k in knots.iter_mut() {
-                *k = if *k > 0.0 { f64::MAX } else { -f64::MAX };
-            }
-            let middle = knots.len() / 2;
-            knots[..middle].fill(-f64::MAX);
-            knots[middle..].fill(f64::MAX);
-        }
-    }
-}
-
-fn spoil_rest(r: &mut Rng, points: &mut Vec<f64>, rational: bool, weights: &mut Vec<f64>) {
-    match r.below(if rational { 7 } else { 3 }) {
-        0 | 1 => spoil(r, points, &NOT_FINITE),
-        2 => resize(r, points),
-        3 | 4 => resize(r, weights),
-        _ => spoil(r, weights, &[f64::NAN, f64::INFINITY, 0.0, -0.0, -1.0]),
-    }
-}
-
 /// A run over its limit, or one that just keeps to it.
 fn long(r: &mut Rng) -> Vec<f64> {
     vec![1.0; LIMIT + r.below(3) as usize]
@@ -210,9 +150,9 @@ pub fn curve(r: &mut Rng, care: &Care) -> Curve {
         for _ in 0..1 + r.below(2) {
             if r.below(3) < 2 && c.knots.len() == c.count() + c.degree + 1 && c.count() > c.degree {
                 let mut count = c.count();
-                spoil_knots(r, &mut c.degree, &mut count, &mut c.knots);
+                spoil::knots(r, &mut c.degree, &mut count, &mut c.knots);
             } else {
-                spoil_rest(r, &mut c.points, rational, &mut c.weights);
+                spoil::rest(r, &mut c.points, rational, &mut c.weights);
             }
         }
     }
@@ -254,10 +194,10 @@ pub fn surface(r: &mut Rng, care: &Care) -> Surface {
                 0 | 1 | 2
                     if s.counts[k] > s.degrees[k] && Some(s.knots[k].len()) == s.counts[k].checked_add(s.degrees[k] + 1) =>
                 {
-                    spoil_knots(r, &mut s.degrees[k], &mut s.counts[k], &mut s.knots[k])
+                    spoil::knots(r, &mut s.degrees[k], &mut s.counts[k], &mut s.knots[k])
                 }
-                3 => spoil_counts(r, &mut s),
-                _ => spoil_rest(r, &mut s.points, s.rational, &mut s.weights),
+                3 => spoil::counts(r, &mut s),
+                _ => spoil::rest(r, &mut s.points, s.rational, &mut s.weights),
             }
         }
     }
@@ -270,22 +210,4 @@ pub fn surface(r: &mut Rng, care: &Care) -> Surface {
         }
     }
     s
-}
-
-/// Counts that are swapped, wrong, or whose product overflows, also to the right number.
-fn spoil_counts(r: &mut Rng, s: &mut Surface) {
-    match r.below(6) {
-        0 => s.counts.swap(0, 1),
-        1 => s.counts[r.below(2) as usize] += 1,
-        2 => s.counts[r.below(2) as usize] = 0,
-        3 => s.counts = [usize::MAX, r.below(3) as usize],
-        4 => {
-            s.counts = [1 << 63, 2];
-            s.points.clear();
-        }
-        _ => {
-            s.counts = [usize::MAX, 0];
-            s.points.clear();
-        }
-    }
 }

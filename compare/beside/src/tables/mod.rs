@@ -1,8 +1,13 @@
 //! Curves and surfaces as the exported calls take them, what the Rust makes of them, and how a case is told.
 pub mod at;
+pub mod fixed;
 pub mod make;
+mod place;
+mod spoil;
 
-use oracle::{BCurve, BSurface, Point3, Refusal, refusal};
+use oracle::{BCurve, BSurface, Point3, Refusal, noting, refusal};
+use place::Looked;
+pub use place::{PLACES, Refused};
 
 /// The most numbers that an input run may have.
 pub const LIMIT: usize = 1_048_576;
@@ -30,25 +35,16 @@ pub struct Surface {
     pub weights: Vec<f64>,
 }
 
-fn triples(points: &[f64]) -> Vec<Point3> {
-    points.chunks_exact(3).map(|p| Point3::new(p[0], p[1], p[2])).collect()
-}
-
-/// A refusal as tasulogi.h packs it: 1 to 7 of a surface with 100 more along u, 200 more along v.
-pub fn packed(r: Refusal) -> u32 {
-    match r.direction {
-        0 => r.number + 100,
-        1 => r.number + 200,
-        _ => r.number,
-    }
+fn triples<P>(points: &[f64], point: impl Fn(f64, f64, f64) -> P) -> Vec<P> {
+    points.chunks_exact(3).map(|p| point(p[0], p[1], p[2])).collect()
 }
 
 /// 30 and 32, which are not the Rust's, come first.
-fn before_all(runs: &[&[f64]], points: &[f64]) -> Result<(), u32> {
+fn before_all(runs: &[&[f64]], points: &[f64]) -> Result<(), Refused> {
     if runs.iter().any(|run| run.len() > LIMIT) {
-        Err(30)
+        Err(Refused::unplaced(30))
     } else if points.len() % 3 != 0 {
-        Err(32)
+        Err(Refused::unplaced(32))
     } else {
         Ok(())
     }
@@ -67,10 +63,42 @@ impl Curve {
         if self.rational { &self.weights } else { &[] }
     }
 
-    pub fn rust(&self) -> Result<BCurve, u32> {
+    pub fn rust(&self) -> Result<BCurve, Refused> {
         before_all(&[&self.knots, &self.points, self.given()], &self.points)?;
         let weights = self.rational.then(|| self.weights.clone());
-        BCurve::new(self.degree, self.knots.clone(), triples(&self.points), weights).map_err(|e| packed(refusal(&e)))
+        BCurve::new(self.degree, self.knots.clone(), triples(&self.points, Point3::new), weights)
+            .map_err(|e| self.refused(refusal(&e)))
+    }
+
+    /// A valid table as the Rust that notes points has it.
+    pub fn noting(&self) -> noting::BCurve {
+        let weights = self.rational.then(|| self.weights.clone());
+        noting::BCurve::new(self.degree, self.knots.clone(), triples(&self.points, noting::Point3::new), weights).expect("valid")
+    }
+
+    fn looked(&self) -> Looked<'_> {
+        Looked { degree: self.degree, knots: &self.knots, points: &self.points, weights: &self.weights }
+    }
+
+    /// The Rust's refusal of these numbers with its place.
+    pub fn refused(&self, r: Refusal) -> Refused {
+        self.looked().refused(r)
+    }
+
+    /// A valid table with the knots of the reversed curve, in the source's operations; nothing else of it can be wrong.
+    pub fn backwards(&self) -> Self {
+        let (lo, hi) = (self.knots[self.degree], self.knots[self.count()]);
+        Self { knots: self.knots.iter().rev().map(|t| lo + (hi - t)).collect(), ..self.clone() }
+    }
+
+    /// The refusal of a formed curve whose knots and weights are fine; `again` forms it in the Rust that notes points.
+    pub fn formed(r: Refusal, again: impl FnOnce()) -> Refused {
+        assert!(![4, 7, 10].contains(&r.number), "a formed curve's knots and weights are fine, and {} is given", r.number);
+        if r.number != 8 {
+            return Refused::unplaced(r.number);
+        }
+        again();
+        Self { points: noting::formed(), ..Self::default() }.refused(r)
     }
 
     pub fn doubles(&self) -> impl Iterator<Item = &f64> {
@@ -97,12 +125,29 @@ impl Surface {
         if self.rational { &self.weights } else { &[] }
     }
 
-    pub fn rust(&self) -> Result<BSurface, u32> {
+    pub fn rust(&self) -> Result<BSurface, Refused> {
         let [u, v] = &self.knots;
         before_all(&[u, v, &self.points, self.given()], &self.points)?;
         let weights = self.rational.then(|| self.weights.clone());
         let ([p, q], [m, n]) = (self.degrees, self.counts);
-        BSurface::new(p, q, u.clone(), v.clone(), m, n, triples(&self.points), weights).map_err(|e| packed(refusal(&e)))
+        BSurface::new(p, q, u.clone(), v.clone(), m, n, triples(&self.points, Point3::new), weights).map_err(|e| {
+            let r = refusal(&e);
+            self.looked(r.direction as usize).refused(r)
+        })
+    }
+
+    /// A valid table as the Rust that notes points has it.
+    pub fn noting(&self) -> noting::BSurface {
+        let weights = self.rational.then(|| self.weights.clone());
+        let ([u, v], [p, q], [m, n]) = (&self.knots, self.degrees, self.counts);
+        let points = triples(&self.points, noting::Point3::new);
+        noting::BSurface::new(p, q, u.clone(), v.clone(), m, n, points, weights).expect("valid")
+    }
+
+    /// What a refusal in a direction looks at; one in none looks at no knots.
+    fn looked(&self, direction: usize) -> Looked<'_> {
+        let k = direction.min(1);
+        Looked { degree: self.degrees[k], knots: &self.knots[k], points: &self.points, weights: &self.weights }
     }
 
     pub fn doubles(&self) -> impl Iterator<Item = &f64> {
@@ -204,6 +249,11 @@ fn count_rest(points: &[f64], rational: bool, weights: &[f64], seen: &mut [u64])
 }
 
 impl Curve {
+    /// Adds to what PLACES names.
+    pub fn placed(&self, r: Refused, seen: &mut [u64]) {
+        self.looked().seen(r, false, seen);
+    }
+
     pub fn features(&self, seen: &mut [u64]) {
         count_knots(self.degree, self.count(), &self.knots, seen);
         count_rest(&self.points, self.rational, &self.weights, seen);
@@ -213,6 +263,11 @@ impl Curve {
 }
 
 impl Surface {
+    /// Adds to what PLACES names.
+    pub fn placed(&self, r: Refused, seen: &mut [u64]) {
+        self.looked((r.number / 100).saturating_sub(1) as usize).seen(r, true, seen);
+    }
+
     pub fn features(&self, seen: &mut [u64]) {
         for k in 0..2 {
             count_knots(self.degrees[k], self.counts[k], &self.knots[k], seen);

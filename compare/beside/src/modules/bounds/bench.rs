@@ -22,7 +22,7 @@ fn timed<C, T>(
     (call, degree, points): (&str, usize, usize),
     rounds: u32,
     cases: &[C],
-    ours: impl Fn(&C, &mut [f64]) -> u32,
+    ours: impl Fn(&C, &mut [f64]) -> u64,
     made: impl Fn(&C) -> T,
     rust: impl Fn(&C, &T) -> f64,
 ) -> Times {

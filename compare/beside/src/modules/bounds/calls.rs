@@ -4,7 +4,7 @@ use crate::modules::answered::Wanted;
 use crate::rng::Rng;
 use crate::tables::at;
 use crate::tables::make::{self, Care};
-use crate::tables::{Curve, Surface, double_literal, packed};
+use crate::tables::{Curve, Surface, double_literal};
 use oracle::{NurbsBounds, ParamRange, bound_curve, bound_surface, refusal};
 
 /// How many numbers a box has.
@@ -44,13 +44,13 @@ impl CurveCase {
 
     pub fn rust(&self) -> Wanted {
         match self.table.rust() {
-            Err(n) => Wanted::Refused(n),
-            Ok(_) if self.table.is_steep() => Wanted::Refused(31),
-            Ok(c) => bound_curve(&c, bounded(self.range)).map_or_else(|e| Wanted::Refused(packed(refusal(&e))), boxed),
+            Err(r) => Wanted::Refused(r),
+            Ok(_) if self.table.is_steep() => Wanted::unplaced(31),
+            Ok(c) => bound_curve(&c, bounded(self.range)).map_or_else(|e| Wanted::unplaced(refusal(&e).number), boxed),
         }
     }
 
-    pub fn ours(&self, out: &mut [f64]) -> u32 {
+    pub fn ours(&self, out: &mut [f64]) -> u64 {
         tasulogi_bound_curve(&self.table, self.range.0, self.range.1, out)
     }
 
@@ -69,15 +69,15 @@ impl SurfaceCase {
 
     pub fn rust(&self) -> Wanted {
         match self.table.rust() {
-            Err(n) => Wanted::Refused(n),
-            Ok(_) if self.table.is_steep() => Wanted::Refused(31),
+            Err(r) => Wanted::Refused(r),
+            Ok(_) if self.table.is_steep() => Wanted::unplaced(31),
             Ok(s) => {
-                bound_surface(&s, bounded(self.u), bounded(self.v)).map_or_else(|e| Wanted::Refused(packed(refusal(&e))), boxed)
+                bound_surface(&s, bounded(self.u), bounded(self.v)).map_or_else(|e| Wanted::unplaced(refusal(&e).number), boxed)
             }
         }
     }
 
-    pub fn ours(&self, out: &mut [f64]) -> u32 {
+    pub fn ours(&self, out: &mut [f64]) -> u64 {
         tasulogi_bound_surface(&self.table, self.u.0, self.u.1, self.v.0, self.v.1, out)
     }
 

@@ -1,6 +1,6 @@
 //! Times of edits by the number of points and by degree. Ours check the table at each call; the Rust's are given a valid
 //! one alone, and make it in full.
-use super::calls::{Case, Edit};
+use super::calls::{Case, Edit, edited};
 use crate::modules::timed::{Times, clamped, time};
 use crate::rng::Rng;
 use oracle::BCurve;
@@ -38,18 +38,13 @@ fn edit(call: &str, sizes: &[(&str, usize)], rounds: u32, some: impl Fn(&mut Rng
         lent[1][3]
     });
     assert!(done, "{call} was refused");
-    let alone = time(rounds, &cases, |c| edited(&made, &c.edit));
-    let full = time(rounds, &cases, |c| c.table.rust().map_or(0.0, |made| edited(&made, &c.edit)));
+    let alone = time(rounds, &cases, |c| first_x(&made, &c.edit));
+    let full = time(rounds, &cases, |c| c.table.rust().map_or(0.0, |made| first_x(&made, &c.edit)));
     Times::new(call, sizes, ours, alone, Some(full))
 }
 
-fn edited(made: &BCurve, edit: &Edit) -> f64 {
-    let formed = match edit {
-        Edit::Insert(ts) => made.insert_knots(ts),
-        Edit::Trim(lo, hi) => made.trim([*lo, *hi]),
-        Edit::Elevate(e) => made.elevate_degree(*e),
-    };
-    formed.map_or(0.0, |b| b.points()[1].x)
+fn first_x(made: &BCurve, edit: &Edit) -> f64 {
+    edited!(made, edit).map_or(0.0, |b| b.points()[1].x)
 }
 
 pub fn table(rounds: u32) -> Vec<Times> {

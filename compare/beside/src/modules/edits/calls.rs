@@ -4,7 +4,7 @@ use crate::face::*;
 use crate::modules::answered::{Wanted, coordinates, words};
 use crate::rng::Rng;
 use crate::tables::at;
-use crate::tables::{Curve, double_literal, literal, make, packed};
+use crate::tables::{Curve, double_literal, literal, make};
 use oracle::refusal;
 
 pub enum Edit {
@@ -17,6 +17,18 @@ pub struct Case {
     pub table: Curve,
     pub edit: Edit,
 }
+
+/// The edit of a curve of the Rust, or of the Rust that notes points.
+macro_rules! edited {
+    ($curve:expr, $edit:expr) => {
+        match $edit {
+            Edit::Insert(ts) => $curve.insert_knots(ts),
+            Edit::Trim(lo, hi) => $curve.trim([*lo, *hi]),
+            Edit::Elevate(e) => $curve.elevate_degree(*e),
+        }
+    };
+}
+pub(super) use edited;
 
 impl Case {
     /// Most tables are clamped. The edit is the one of the row.
@@ -82,19 +94,16 @@ impl Case {
 
     pub fn rust(&self) -> Wanted {
         let c = match self.table.rust() {
-            Err(n) => return Wanted::Refused(n),
+            Err(r) => return Wanted::Refused(r),
             Ok(c) => c,
         };
-        let formed = match &self.edit {
-            Edit::Insert(ts) => c.insert_knots(ts),
-            Edit::Trim(lo, hi) => c.trim([*lo, *hi]),
-            Edit::Elevate(e) => c.elevate_degree(*e),
-        };
-        match formed {
+        match edited!(c, &self.edit) {
             Ok(c) => Wanted::Runs(vec![words(c.knots()), coordinates(&c), words(c.weights().unwrap_or(&[])), Vec::new()]),
-            Err(e) => match packed(refusal(&e)) {
-                n @ 15..=18 => Wanted::Refused(n),
-                n => Wanted::Formed(n),
+            Err(e) => match refusal(&e) {
+                r if (15..=18).contains(&r.number) => Wanted::unplaced(r.number),
+                r => Wanted::Formed(Curve::formed(r, || {
+                    let _ = edited!(self.table.noting(), &self.edit);
+                })),
             },
         }
     }
@@ -139,7 +148,7 @@ impl Case {
         breaks
     }
 
-    /// The refusal in the low half, the count of points in the high one.
+    /// The refusal in the low half; in the high one its place, or the count of points.
     pub fn ours(&self, out: &mut [&mut [f64]]) -> u64 {
         let [knots, points, weights, scratch] = out else { unreachable!("four runs are lent") };
         match &self.edit {

@@ -5,7 +5,7 @@ use crate::modules::answered::{Wanted, coordinates, point, words};
 use crate::rng::Rng;
 use crate::steps::eval_at;
 use crate::tables::at;
-use crate::tables::{Curve, Surface, make, packed};
+use crate::tables::{Curve, Surface, make};
 use oracle::{Vec3, refusal};
 
 #[derive(Clone, Copy, PartialEq, Eq)]
@@ -44,21 +44,21 @@ impl CurveCase {
     /// Validity, 31, 12, and for two derivatives 21.
     pub fn rust_point(&self, order: Order) -> Wanted {
         match self.table.rust() {
-            Err(n) => Wanted::Refused(n),
-            Ok(_) if self.table.is_steep() => Wanted::Refused(31),
-            Ok(_) if !self.t.is_finite() => Wanted::Refused(12),
+            Err(r) => Wanted::Refused(r),
+            Ok(_) if self.table.is_steep() => Wanted::unplaced(31),
+            Ok(_) if !self.t.is_finite() => Wanted::unplaced(12),
             Ok(c) if order != Order::Two => {
                 let d = c.eval(self.t);
                 run(&[point(d.point), vector(d.d1)])
             }
             Ok(c) => match c.eval2(self.t) {
                 Ok(d) => run(&[point(d.point), vector(d.d1), vector(d.d2)]),
-                Err(e) => Wanted::Refused(packed(refusal(&e))),
+                Err(e) => Wanted::unplaced(refusal(&e).number),
             },
         }
     }
 
-    pub fn ours_point(&self, order: Order, out: &mut [f64]) -> u32 {
+    pub fn ours_point(&self, order: Order, out: &mut [f64]) -> u64 {
         match order {
             Order::One => tasulogi_eval(&self.table, self.t, out),
             Order::Validated => eval_at(&self.table, self.t, out),
@@ -68,15 +68,15 @@ impl CurveCase {
 
     pub fn rust_reversed(&self) -> Wanted {
         match self.table.rust() {
-            Err(n) => Wanted::Refused(n),
+            Err(r) => Wanted::Refused(r),
             Ok(c) => match c.reversed() {
                 Ok(b) => Wanted::Runs(vec![words(b.knots()), coordinates(&b), words(b.weights().unwrap_or(&[]))]),
-                Err(e) => Wanted::Formed(packed(refusal(&e))),
+                Err(e) => Wanted::Formed(self.table.backwards().refused(refusal(&e))),
             },
         }
     }
 
-    pub fn ours_reversed(&self, out: &mut [&mut [f64]]) -> u32 {
+    pub fn ours_reversed(&self, out: &mut [&mut [f64]]) -> u64 {
         let [knots, points, weights] = out else { unreachable!("three runs are lent") };
         tasulogi_reversed(&self.table, knots, points, weights)
     }
@@ -96,9 +96,9 @@ impl SurfaceCase {
 
     pub fn rust_point(&self) -> Wanted {
         match self.table.rust() {
-            Err(n) => Wanted::Refused(n),
-            Ok(_) if self.table.is_steep() => Wanted::Refused(31),
-            Ok(_) if !self.u.is_finite() || !self.v.is_finite() => Wanted::Refused(12),
+            Err(r) => Wanted::Refused(r),
+            Ok(_) if self.table.is_steep() => Wanted::unplaced(31),
+            Ok(_) if !self.u.is_finite() || !self.v.is_finite() => Wanted::unplaced(12),
             Ok(s) => {
                 let d = s.eval(self.u, self.v);
                 run(&[point(d.point), vector(d.du), vector(d.dv)])
@@ -106,26 +106,28 @@ impl SurfaceCase {
         }
     }
 
-    pub fn ours_point(&self, out: &mut [f64]) -> u32 {
+    pub fn ours_point(&self, out: &mut [f64]) -> u64 {
         tasulogi_eval_surface(&self.table, self.u, self.v, out)
     }
 
     /// Validity, 31, 22, 30, 23, then what is formed.
     pub fn rust_iso(&self, constant_u: bool) -> Wanted {
         match self.table.rust() {
-            Err(n) => Wanted::Refused(n),
-            Ok(_) if self.table.is_steep() => Wanted::Refused(31),
+            Err(r) => Wanted::Refused(r),
+            Ok(_) if self.table.is_steep() => Wanted::unplaced(31),
             Ok(s) => match s.iso_curve(constant_u, self.constant(constant_u)) {
                 Ok(c) => Wanted::Runs(vec![coordinates(&c), words(c.weights().unwrap_or(&[]))]),
-                Err(e) => match packed(refusal(&e)) {
-                    22 => Wanted::Refused(22),
-                    n => Wanted::Formed(n),
+                Err(e) => match refusal(&e) {
+                    r if r.number == 22 => Wanted::unplaced(22),
+                    r => Wanted::Formed(Curve::formed(r, || {
+                        let _ = self.table.noting().iso_curve(constant_u, self.constant(constant_u));
+                    })),
                 },
             },
         }
     }
 
-    pub fn ours_iso(&self, constant_u: bool, out: &mut [&mut [f64]]) -> u32 {
+    pub fn ours_iso(&self, constant_u: bool, out: &mut [&mut [f64]]) -> u64 {
         let [points, weights] = out else { unreachable!("two runs are lent") };
         tasulogi_iso_curve(&self.table, constant_u, self.constant(constant_u), points, weights)
     }

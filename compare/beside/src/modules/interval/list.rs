@@ -4,6 +4,7 @@ use super::operands::{X, operands};
 use crate::doubles::kind;
 use crate::modules::listed::{self, Listed};
 use crate::rng::Rng;
+use crate::tables::Refused;
 use std::collections::HashMap;
 use std::io::{Result, Write};
 
@@ -78,7 +79,7 @@ fn in_words(call: &IntervalCall, x: &X) -> Listed {
         words.push(answer.number as u64);
     }
     words.extend(answer.words[..count].iter().map(|&w| word(w, call.open_zero)));
-    Listed { words, answer: answer.number }
+    Listed { words, answer: Refused::unplaced(answer.number) }
 }
 
 pub fn write(stdin: &mut dyn Write, stdout: &mut dyn Write) -> Result<()> {

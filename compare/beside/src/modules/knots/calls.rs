@@ -1,6 +1,6 @@
 //! The calls of the module: what the Rust answers, or a rule of the comparison's own where the Rust has no such call.
 use crate::face::*;
-use crate::tables::{LIMIT, packed};
+use crate::tables::{Curve, LIMIT, Refused};
 use oracle::{BCurve, ParamRange, Point3, find_span, knot_spans, refusal};
 
 /// A degree, a count of points and a knot run: what the calls on spans take.
@@ -23,17 +23,20 @@ pub fn our_clamp(k: &Run, u: f64) -> f64 {
 }
 
 /// 1 to 7 by a polynomial curve with all points at the origin. A count that no memory has is not that of the knots.
-fn knot_refusal(k: &Run) -> Result<(), u32> {
+fn knot_refusal(k: &Run) -> Result<(), Refused> {
     if k.count > 2 * LIMIT {
-        return Err(if k.degree == 0 {
+        return Err(Refused::unplaced(if k.degree == 0 {
             1
         } else if k.count <= k.degree {
             2
         } else {
             3
-        });
+        }));
     }
-    BCurve::new(k.degree, k.knots.to_vec(), vec![Point3::default(); k.count], None).map(|_| ()).map_err(|e| packed(refusal(&e)))
+    match BCurve::new(k.degree, k.knots.to_vec(), vec![Point3::default(); k.count], None) {
+        Ok(_) => Ok(()),
+        Err(e) => Err(Curve { degree: k.degree, knots: k.knots.to_vec(), ..Curve::default() }.refused(refusal(&e))),
+    }
 }
 
 /// The clamp is ours: u, or the nearer end; an end that the run does not have sets no limit.
@@ -46,12 +49,12 @@ pub fn clamp(k: &Run, u: f64) -> f64 {
 }
 
 /// The Rust's span, of the nearer end where u lies outside; 30 and 12 are ours.
-pub fn span(k: &Run, u: f64) -> Result<usize, u32> {
+pub fn span(k: &Run, u: f64) -> Result<usize, Refused> {
     if k.knots.len() > LIMIT {
-        return Err(30);
+        return Err(Refused::unplaced(30));
     }
     knot_refusal(k)?;
-    if u.is_finite() { Ok(find_span(k.count - 1, k.degree, clamp(k, u), k.knots)) } else { Err(12) }
+    if u.is_finite() { Ok(find_span(k.count - 1, k.degree, clamp(k, u), k.knots)) } else { Err(Refused::unplaced(12)) }
 }
 
 /// The first nonempty span from a place on, by the definition.

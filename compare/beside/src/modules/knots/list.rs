@@ -3,6 +3,7 @@ use super::calls::{Run, clamp, next, span};
 use crate::modules::answered::Wanted;
 use crate::modules::listed::{self, Choice, Listed, word};
 use crate::rng::Rng;
+use crate::tables::Refused;
 use crate::tables::at;
 use crate::tables::make::{self, Care};
 use std::io::{Result, Write};
@@ -11,7 +12,7 @@ use std::io::{Result, Write};
 const CARE: Care = Care { steep: [300, 300, 200, 60, 10, 4], broken: 32, long: 6000 };
 
 /// A degree, a count and a run of knots, with a parameter.
-fn on_knots(r: &mut Rng, answer: impl Fn(&mut Rng, &Run, &mut Vec<u64>) -> u32) -> Option<Listed> {
+fn on_knots(r: &mut Rng, answer: impl Fn(&mut Rng, &Run, &mut Vec<u64>) -> Refused) -> Option<Listed> {
     let c = make::curve(r, &CARE);
     let k = Run { degree: c.degree, count: super::count(r, &c), knots: &c.knots };
     let mut words = vec![k.degree as u64, k.count as u64];
@@ -25,30 +26,31 @@ fn case(r: &mut Rng, call: &str) -> Option<Listed> {
         "curve_refusal" => {
             let c = make::curve(r, &CARE);
             let words = listed::curve(&c)?;
-            Some(Listed::answered(words, Wanted::Refused(c.rust().err().unwrap_or(0)), 0))
+            Some(Listed::answered(words, Wanted::Refused(c.rust().err().unwrap_or_default()), 0))
         }
         "surface_refusal" => {
             let s = make::surface(r, &CARE);
             let words = listed::surface(&s)?;
-            Some(Listed::answered(words, Wanted::Refused(s.rust().err().unwrap_or(0)), 0))
+            Some(Listed::answered(words, Wanted::Refused(s.rust().err().unwrap_or_default()), 0))
         }
         "find_span" => on_knots(r, |r, k, words| {
             let u = at::parameter(r, k.knots);
             let answer = span(k, u);
-            words.extend([word(u), answer.err().unwrap_or(0) as u64, answer.unwrap_or(0) as u64]);
-            answer.err().unwrap_or(0)
+            let r = answer.err().unwrap_or_default();
+            words.extend([word(u), r.number as u64, answer.unwrap_or(r.place as usize) as u64]);
+            r
         }),
         "next_span" => on_knots(r, |r, k, words| {
             let from = r.below(k.knots.len() as u64 + 2) as usize;
             let answer = next(k, from);
             words.extend([from as u64, answer.unwrap_or(k.count) as u64]);
-            answer.is_none() as u32
+            Refused::unplaced(answer.is_none() as u32)
         }),
         _ => on_knots(r, |r, k, words| {
             let u = at::parameter(r, k.knots);
             let answer = clamp(k, u);
             words.extend([word(u), word(answer)]);
-            if answer > u { 1 } else { 2 * (answer < u) as u32 }
+            Refused::unplaced(if answer > u { 1 } else { 2 * (answer < u) as u32 })
         }),
     }
 }
@@ -62,7 +64,7 @@ pub fn write(stdin: &mut dyn Write, stdout: &mut dyn Write) -> Result<()> {
     let classes: Vec<Listed> = (0..40u32)
         .map(|n| {
             let class = if (1..=33).contains(&n) { "IDUCN".find(oracle::class_of(n)).expect("a class") as u64 } else { 5 };
-            Listed { words: vec![n as u64, class], answer: 0 }
+            Listed { words: vec![n as u64, class], answer: Refused::default() }
         })
         .collect();
     listed::write(stdin, stdout, "class_of", &classes)
