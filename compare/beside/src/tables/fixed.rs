@@ -66,7 +66,7 @@ fn net() -> Surface {
     }
 }
 
-/// Whether the Rust that notes points forms the Rust's: the last of two insertions, a trim, an elevation, both isocurves.
+/// Whether the Rust that notes points forms the Rust's: the last of two insertions, an elevation, both isocurves.
 fn notes() -> bool {
     macro_rules! same {
         ($table:expr, $call:ident($($argument:expr),*)) => {{
@@ -77,7 +77,6 @@ fn notes() -> bool {
     }
     let (a, net) = (on_x(2, &TABLE_A), net());
     same!(a, insert_knots(&[0.5, 1.0]))
-        && same!(a, trim([0.25, 1.5]))
         && same!(a, elevate_degree(4))
         && same!(net, iso_curve(true, 0.25))
         && same!(net, iso_curve(false, 0.5))
