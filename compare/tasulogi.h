@@ -18,7 +18,8 @@
  * - Refusals 1 to 7 of a surface say their direction: 101 to 107 along u, 201 to 207 along v.
  * - Refusals 4, 7, 8 and 10 say a place, from 0. 4: the first knot that is not finite, wherever it stands; where all are
  *   finite, the first that exceeds the next. 7: the first of the equal knots. Of a surface both count in the knots of their
- *   direction. 8: the point. 10: the weight. Where a call refuses the curve that it has formed, the place is in that curve.
+ *   direction. 8: the first point with a coordinate that is not finite. 10: the first weight that is none; of a surface both
+ *   are i * v_count + j. Where a call refuses the curve that it has formed, the place is in that curve.
  * - What a call on curves or surfaces returns has the refusal in its low half, which a uint32_t keeps, and the place in
  *   its high half: at most 2^32 - 1, and 0 where there is none; of an edit that forms a curve the high half is the count of
  *   its points. tasulogi_find_span and tasulogi_bound_spans answer in the low half: they have the number in the high half

@@ -118,7 +118,7 @@ fn every_call_answers_or_refuses() {
         let (t, lo, hi) = (r.double(), r.double(), r.double());
         let table = refused(&c, c.validate());
         told(c.validate(), table, &mut seen);
-        // Only what the knots are refused by is a span's refusal too.
+        // Of the table's 1 to 10 only 1 to 7 are a span's too.
         told(c.span(t), table.filter(|r| r.number < 8), &mut seen);
         assert_eq!(told(c.spans(), table, &mut seen).map(Iterator::collect), c.validate().ok().map(|()| nonempty(&c)));
         told(c.eval(t), table, &mut seen);

@@ -60,7 +60,7 @@ pub extern "C" fn tasulogi_class_of(number: u32) -> u8
     class_of(number)
 }
 
-// 0 for a valid curve, else its refusal, packed.
+// 0 for a valid curve, before anything is packed; else its refusal, packed.
 #[no_mangle]
 pub extern "C" fn tasulogi_curve_refusal(
     degree: usize,

@@ -1,9 +1,9 @@
 -- The parts of one insertion: controls that are equal, refusals one after the other, a knot put among others.
 -- Assumes nothing.
-use Prim.Native.Nat.{ℕ, zero, suc, _+_, _-_, _/_, _≤_, _<_}
-use mathlib.Core.Bool.{Bool, true, false, not, cond, _&&_}
+use Prim.Native.Nat.{ℕ, _+_, _-_, _/_, _≤_, _<_}
+use mathlib.Core.Bool.{Bool, true, false, not, cond}
 use mathlib.Core.Path.{_≡_, refl, sym, _∙_, ap, ap₂}
-use mathlib.Core.Logic.{_⊎_, ⊎-elim}
+use mathlib.Core.Logic.{⊎-elim}
 use mathlib.Core.List.{List, _++_}
 use native.Mathlib.Omega.{arith}
 use borrow.Author.Tests.{eq-eqb, leb-true, leb-false, not-true}
@@ -15,7 +15,7 @@ use lib.Ieee.Scale.{finite}
 use Rattle.doubles.specs.Run.{at}
 use Rattle.doubles.specs.Value.{zero+}
 use Rattle.doubles.proofs.TestedOrder.{le-fails}
-use Rattle.knots.specs.Below.{allBelow, offAt}
+use Rattle.knots.specs.Below.{allBelow}
 use Rattle.knots.specs.Refusal.{refuse, accepted, placed, edit-bad, point-not-finite}
 use Rattle.knots.specs.Knots.{allFinite, nonFiniteAt}
 use Rattle.knots.specs.Curve.{isWeight, allWeights, controlRefusal}

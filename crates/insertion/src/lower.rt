@@ -65,7 +65,7 @@ fn non_finite_row(rational: bool, m: usize, rows: &[f64]) -> usize
     i
 }
 
-// The rows of n controls become those of the n + 1 points with a knot more: 20 at the first control that it is for, else 8 at the first point with a coordinate that is not finite. A row is lent alone, so that the compiler sees that it is whole.
+// The rows of n controls become those of the n + 1 points with a knot more: 20 where it is for a control; else 8 with the place of the first point that has a coordinate that is not finite. A row is lent alone, so that the compiler sees that it is whole.
 pub fn lower_rows(
     spot: Spot,
     n: usize,

@@ -2,7 +2,7 @@
 -- Assumes nothing.
 use Prim.Native.Nat.{ℕ, _+_, _*_, _%_}
 use mathlib.Core.Bool.{Bool, true, false, not, _&&_, _||_, cond}
-use mathlib.Core.Path.{_≡_, refl}
+use mathlib.Core.Path.{_≡_, refl, _∙_, ap}
 use mathlib.Core.List.{List}
 use lib.ListN.{length}
 use lib.Dec.{leb, eqb}
@@ -22,9 +22,9 @@ row-told : (f : ℕ → Refusal) (b : Bool) (x y : Refusal) → f (x .number) �
 row-told f true x y X Y = X
 row-told f false x y X Y = Y
 
-pub knot-told : (p n : ℕ) (ks : List Float) → knotPlaced (knotRefusal p n ks .number) p ks ≡ knotRefusal p n ks
+knot-own : (p n : ℕ) (ks : List Float) → knotPlaced (knotRefusal p n ks .number) p ks ≡ knotRefusal p n ks
 unfolding knotRefusal orderRefusal knotPlaced
-knot-told p n ks =
+knot-own p n ks =
     let f : ℕ → Refusal = λ k. knotPlaced k p ks in
     row-told f (eqb p 0) _ _ refl
     (row-told f (leb n p) _ _ refl
@@ -34,22 +34,25 @@ knot-told p n ks =
     (row-told f (not (finite (sub binary64 (at ks n) (at ks p)))) _ _ refl
     (row-told f (not (apart (p + 1) ks)) _ _ refl refl))))))
 
-pub net-told : (us vs : List Float) (m n : ℕ) (ps : List Float) (g : Bool) (ws : List Float) → numbered (netRefusal us vs m n ps g ws .number) ≡ netRefusal us vs m n ps g ws
+pub knot-told : (p n : ℕ) (ks : List Float) {k : ℕ} → k ≡ knotRefusal p n ks .number → knotPlaced k p ks ≡ knotRefusal p n ks
+knot-told p n ks e = ap (λ (k : ℕ). knotPlaced k p ks) e ∙ knot-own p n ks
+
+pub net-told : (us vs : List Float) (m n : ℕ) (ps : List Float) (g : Bool) (ws : List Float) {k : ℕ} → k ≡ netRefusal us vs m n ps g ws .number → numbered k ≡ netRefusal us vs m n ps g ws
 unfolding netRefusal
-net-told us vs m n ps g ws =
-    row-told numbered (overLong true us || anyLong vs ps g ws) _ _ refl
+net-told us vs m n ps g ws e =
+    ap numbered e ∙ row-told numbered (overLong true us || anyLong vs ps g ws) _ _ refl
     (row-told numbered (not (eqb (length ps % 3) 0)) _ _ refl (row-told numbered (not (eqb (countOf ps) (m * n))) _ _ refl refl))
 
-pub span-told : (p n : ℕ) (ks : List Float) (u : Float) → knotPlaced (spanRefusal p n ks u .number) p ks ≡ spanRefusal p n ks u
+pub span-told : (p n : ℕ) (ks : List Float) (u : Float) {k : ℕ} → k ≡ spanRefusal p n ks u .number → knotPlaced k p ks ≡ spanRefusal p n ks u
 unfolding spanRefusal knotPlaced
-span-told p n ks u =
+span-told p n ks u e =
     let f : ℕ → Refusal = λ k. knotPlaced k p ks in
-    row-told f (overLong true ks) _ _ refl
-    (row-told f (eqb (knotRefusal p n ks .number) 0) _ _ (row-told f (not (finite u)) _ _ refl refl) (knot-told p n ks))
+    ap f e ∙ row-told f (overLong true ks) _ _ refl
+    (row-told f (eqb (knotRefusal p n ks .number) 0) _ _ (row-told f (not (finite u)) _ _ refl refl) (knot-own p n ks))
 
-pub control-told : (n : ℕ) (ps : List Float) (g : Bool) (ws : List Float) → controlPlaced (controlRefusal n ps g ws .number) ps ws ≡ controlRefusal n ps g ws
+pub control-told : (n : ℕ) (ps : List Float) (g : Bool) (ws : List Float) {k : ℕ} → k ≡ controlRefusal n ps g ws .number → controlPlaced k ps ws ≡ controlRefusal n ps g ws
 unfolding controlRefusal controlPlaced
-control-told n ps g ws =
+control-told n ps g ws e =
     let f : ℕ → Refusal = λ k. controlPlaced k ps ws in
-    row-told f (not (allFinite ps)) _ _ refl
+    ap f e ∙ row-told f (not (allFinite ps)) _ _ refl
     (row-told f (g && not (eqb (length ws) n)) _ _ refl (row-told f (g && not (allWeights ws)) _ _ refl refl))

@@ -1,10 +1,10 @@
 -- The places that refusals 4, 7, 8 and 10 say are the first that they are for.
 -- Assumes nothing.
-use Prim.Native.Nat.{ℕ, _+_, _-_, _/_, _%_, _≤_, _<_}
-use mathlib.Core.Bool.{Bool, true, false, not, _&&_, cond}
+use Prim.Native.Nat.{ℕ, _+_, _-_, _*_, _/_, _%_, _≤_, _<_}
+use mathlib.Core.Bool.{Bool, true, false, not, _&&_, _||_, cond}
 use mathlib.Core.Path.{_≡_, refl}
 use mathlib.Core.Logic.{_⊎_, inl, inr}
-use mathlib.Core.List.{List}
+use mathlib.Core.List.{List, []}
 use native.Mathlib.Omega.{arith}
 use lib.ListN.{length}
 use lib.Dec.{leb, eqb}
@@ -14,9 +14,11 @@ use borrow.Author.Tests.{eqb-false, not-true, not-false}
 use Rattle.doubles.specs.Run.{at}
 use Rattle.doubles.proofs.TestedOrder.{le-gives, le-fails, ge-le, ge-trans, lt-ge-trans}
 use Rattle.knots.specs.Below.{offAt}
-use Rattle.knots.specs.Refusal.{numbered, refuse, placed, knots-unordered, knot-repeated, point-not-finite, weight-bad}
-use Rattle.knots.specs.Knots.{allFinite, inOrder, ordered, apart, nonFiniteAt, unorderedAt, repeatedAt, orderRefusal, knotRefusal}
-use Rattle.knots.specs.Curve.{anyLong, countOf, isWeight, allWeights, badWeightAt, controlRefusal, formedRefusal, curveRefusal}
+use Rattle.knots.specs.Refusal.{numbered, refuse, placed, along, knots-unordered, knot-repeated, point-not-finite, weight-bad}
+use Rattle.knots.specs.Knots.{finiteAt, risesAt, apartAt, allFinite, inOrder, ordered, apart, nonFiniteAt, unorderedAt, repeatedAt, orderRefusal, knotRefusal}
+use Rattle.knots.specs.Curve.{overLong, anyLong, countOf, isWeight, isWeightAt, allWeights, badWeightAt, controlRefusal, formedRefusal, curveRefusal}
+use Rattle.knots.specs.Span.{spanRefusal}
+use Rattle.knots.specs.Surface.{netRefusal, surfaceRefusal}
 use Rattle.knots.specs.declared.refusal.Refusal.{Refusal}
 use Rattle.knots.proofs.Below.{first-off, off-below, all-at, and-left, and-right, and-rest}
 use Rattle.knots.proofs.Valid.{sorted-run}
@@ -34,16 +36,16 @@ pub record FirstFall (ks : List Float) (i : ℕ) : Type 0 where
   pub here : lt (at ks (i + 1)) (at ks i) ≡ true
   pub before : (k : ℕ) → k < i → lt (at ks (k + 1)) (at ks k) ≡ false
 
-pub non-finite-first : (xs : List Float) → allFinite xs ≡ false → FirstNonFinite xs (nonFiniteAt xs)
+non-finite-first : (xs : List Float) → allFinite xs ≡ false → FirstNonFinite xs (nonFiniteAt xs)
 unfolding allFinite
-non-finite-first xs h = let r = first-off (λ k. finite (at xs k)) (length xs) h in record { within = r .0; here = r .1; before = r .2 }
+non-finite-first xs h = let r = first-off (finiteAt xs) (length xs) h in record { within = r .0; here = r .1; before = r .2 }
 
-fall-first : (xs : List Float) → allFinite xs ≡ true → inOrder xs ≡ false → FirstFall xs (offAt (λ k. not (lt (at xs (k + 1)) (at xs k))) (length xs - 1))
+fall-first : (xs : List Float) → allFinite xs ≡ true → inOrder xs ≡ false → FirstFall xs (offAt (risesAt xs) (length xs - 1))
 unfolding allFinite inOrder
 fall-first xs f h =
-    let r = first-off (λ k. not (lt (at xs (k + 1)) (at xs k))) (length xs - 1) h in
+    let r = first-off (risesAt xs) (length xs - 1) h in
     record {
-      finites = all-at (λ k. finite (at xs k)) (length xs) f;
+      finites = all-at (finiteAt xs) (length xs) f;
       within = omega (arith, r .0);
       here = not-false _ (r .1);
       before = λ k l. not-true _ (r .2 k l);
@@ -69,16 +71,16 @@ unfolding ordered allFinite inOrder apart repeatedAt
 repeated-first p ks o h = record { within = within; equal = equal; front = front; before = before }
   where
     i : ℕ
-    i = offAt (λ k. not (le (at ks (k + (p + 1))) (at ks k))) (length ks - (p + 1))
+    i = offAt (apartAt (p + 1) ks) (length ks - (p + 1))
 
     finites : (k : ℕ) → k < length ks → finite (at ks k) ≡ true
-    finites = all-at (λ k. finite (at ks k)) (length ks) (and-left (allFinite ks) (inOrder ks) o)
+    finites = all-at (finiteAt ks) (length ks) (and-left (allFinite ks) (inOrder ks) o)
 
     sorted : (j k : ℕ) → j ≤ k → k < length ks → lt (at ks k) (at ks j) ≡ false
-    sorted = sorted-run ks finites (λ k l. not-true _ (all-at (λ k. not (lt (at ks (k + 1)) (at ks k))) (length ks - 1) (and-right (allFinite ks) (inOrder ks) o) k (omega arith)))
+    sorted = sorted-run ks finites (λ k l. not-true _ (all-at (risesAt ks) (length ks - 1) (and-right (allFinite ks) (inOrder ks) o) k (omega arith)))
 
     first : (i < length ks - (p + 1)) × (not (le (at ks (i + (p + 1))) (at ks i)) ≡ false) × ((k : ℕ) → k < i → not (le (at ks (k + (p + 1))) (at ks k)) ≡ true)
-    first = first-off (λ k. not (le (at ks (k + (p + 1))) (at ks k))) (length ks - (p + 1)) h
+    first = first-off (apartAt (p + 1) ks) (length ks - (p + 1)) h
 
     within : i + (p + 1) < length ks
     within = omega (arith, first .0)
@@ -125,7 +127,7 @@ pub record FirstWeight (ws : List Float) (i : ℕ) : Type 0 where
 
 pub weight-first : (ws : List Float) → allWeights ws ≡ false → FirstWeight ws (badWeightAt ws)
 unfolding allWeights
-weight-first ws h = let r = first-off (λ k. isWeight (at ws k)) (length ws) h in record { within = r .0; here = r .1; before = r .2 }
+weight-first ws h = let r = first-off (isWeightAt ws) (length ws) h in record { within = r .0; here = r .1; before = r .2 }
 
 -- ---- of a curve's refusal: what is at the place, by its number
 pub record PlaceFirst (p : ℕ) (ks ps ws : List Float) (r : Refusal) : Type 0 where
@@ -196,17 +198,76 @@ module _ (p : ℕ) (ks ps ws : List Float) where
       row-place (anyLong ks ps g ws) _ _ (λ _. other 30 refl refl refl refl)
       (λ _. row-place (not (eqb (length ps % 3) 0)) _ _ (λ _. other 32 refl refl refl refl) (λ _. formed-place (countOf ps) g))
 
+  -- of find_span's refusal
+  pub span-place : (n : ℕ) (u : Float) → PlaceFirst p ks ps ws (spanRefusal p n ks u)
+  unfolding spanRefusal
+  span-place n u =
+      row-place (overLong true ks) _ _ (λ _. other 30 refl refl refl refl)
+      (λ _. row-place (eqb (knotRefusal p n ks .number) 0) _ _
+      (λ _. row-place (not (finite u)) _ _ (λ _. other 12 refl refl refl refl) (λ _. other 0 refl refl refl refl)) (λ _. knots-place n))
+
+-- ---- of a surface's refusal: along u and v the place is in that direction's knots; where there is no direction, neither 4 nor 7 is given
+pub record SurfaceFirst (p q : ℕ) (us vs ps ws : List Float) (r : Refusal) : Type 0 where
+  pub along-u : r .direction ≡ 0 → PlaceFirst p us ps ws r
+  pub along-v : r .direction ≡ 1 → PlaceFirst q vs ps ws r
+  pub along-none : r .direction ≡ 2 → PlaceFirst 0 [] ps ws r
+  pub directed : r .direction ≤ 2
+
+module _ (p q : ℕ) (us vs ps ws : List Float) where
+  surface-row : (b : Bool) (x y : Refusal) → SurfaceFirst p q us vs ps ws x → SurfaceFirst p q us vs ps ws y → SurfaceFirst p q us vs ps ws (cond b x y)
+  surface-row true x y X Y = X
+  surface-row false x y X Y = Y
+
+  undirected : (r : Refusal) → r .direction ≡ 2 → PlaceFirst 0 [] ps ws r → SurfaceFirst p q us vs ps ws r
+  undirected r e P = record { along-u = λ z. absurd (omega arith); along-v = λ z. absurd (omega arith); along-none = λ _. P; directed = omega arith }
+
+  other-net : (k : ℕ) → eqb k 4 ≡ false → eqb k 7 ≡ false → eqb k 8 ≡ false → eqb k 10 ≡ false → SurfaceFirst p q us vs ps ws (numbered k)
+  other-net k a b c d = undirected (numbered k) refl (other 0 [] ps ws k a b c d)
+
+  net-place : (m n : ℕ) (g : Bool) → SurfaceFirst p q us vs ps ws (netRefusal us vs m n ps g ws)
+  unfolding netRefusal
+  net-place m n g =
+      surface-row (overLong true us || anyLong vs ps g ws) _ _ (other-net 30 refl refl refl refl)
+      (surface-row (not (eqb (length ps % 3) 0)) _ _ (other-net 32 refl refl refl refl)
+      (surface-row (not (eqb (countOf ps) (m * n))) _ _ (other-net 11 refl refl refl refl) (other-net 0 refl refl refl refl)))
+
+  controls-none : (n : ℕ) (g : Bool) → controlRefusal n ps g ws .direction ≡ 2
+  unfolding controlRefusal
+  controls-none n g = same (not (allFinite ps)) _ _ refl (same (g && not (eqb (length ws) n)) _ _ refl (same (g && not (allWeights ws)) _ _ refl refl))
+    where
+      same : (b : Bool) (x y : Refusal) → x .direction ≡ 2 → y .direction ≡ 2 → cond b x y .direction ≡ 2
+      same true x y X Y = X
+      same false x y X Y = Y
+
+  -- a direction changes neither number nor place
+  turned : (d : ℕ) (e : ℕ) (ks : List Float) (r : Refusal) → PlaceFirst e ks ps ws r → PlaceFirst e ks ps ws (along d r)
+  turned d e ks r P = record { knot = P .knot; run = P .run; point = P .point; weight = P .weight }
+
+  pub surface-place : (m n : ℕ) (g : Bool) → SurfaceFirst p q us vs ps ws (surfaceRefusal p q us vs m n ps g ws)
+  unfolding surfaceRefusal
+  surface-place m n g =
+      surface-row (eqb (netRefusal us vs m n ps g ws .number) 0) _ _
+      (surface-row (eqb (knotRefusal p m us .number) 0) _ _
+      (surface-row (eqb (knotRefusal q n vs .number) 0) _ _
+      (undirected (controlRefusal (countOf ps) ps g ws) (controls-none (countOf ps) g) (controls-place 0 [] ps ws (countOf ps) g)) v) u) (net-place m n g)
+    where
+      u : SurfaceFirst p q us vs ps ws (along 0 (knotRefusal p m us))
+      u = record { along-u = λ _. turned 0 p us _ (knots-place p us ps ws m); along-v = λ z. absurd (omega arith); along-none = λ z. absurd (omega arith); directed = omega arith }
+
+      v : SurfaceFirst p q us vs ps ws (along 1 (knotRefusal q n vs))
+      v = record { along-u = λ z. absurd (omega arith); along-v = λ _. turned 1 q vs _ (knots-place q vs ps ws n); along-none = λ z. absurd (omega arith); directed = omega arith }
+
 -- ---- a place is within the run, or at its end
-pub non-finite-below : (xs : List Float) → nonFiniteAt xs ≤ length xs
-non-finite-below xs = off-below (λ k. finite (at xs k)) (length xs)
+non-finite-below : (xs : List Float) → nonFiniteAt xs ≤ length xs
+non-finite-below xs = off-below (finiteAt xs) (length xs)
 
 pub bad-below : (xs : List Float) → badWeightAt xs ≤ length xs
-bad-below xs = off-below (λ k. isWeight (at xs k)) (length xs)
+bad-below xs = off-below (isWeightAt xs) (length xs)
 
 pub unordered-below : (xs : List Float) → unorderedAt xs ≤ length xs
 unfolding unorderedAt
 unordered-below xs = go (allFinite xs)
   where
-    go : (t : Bool) → cond t (offAt (λ k. not (lt (at xs (k + 1)) (at xs k))) (length xs - 1)) (nonFiniteAt xs) ≤ length xs
-    go true = omega (arith, off-below (λ k. not (lt (at xs (k + 1)) (at xs k))) (length xs - 1))
+    go : (t : Bool) → cond t (offAt (risesAt xs) (length xs - 1)) (nonFiniteAt xs) ≤ length xs
+    go true = omega (arith, off-below (risesAt xs) (length xs - 1))
     go false = non-finite-below xs

@@ -31,6 +31,7 @@ anyLong ks ps g ws = overLong true ks || (overLong true ps || overLong g ws)
 unfoldable pub isWeight : Float → Bool
 isWeight x = finite x && lt zero+ x
 
+-- the number at a place is a weight
 abbrev pub isWeightAt : List Float → ℕ → Bool
 isWeightAt xs k = isWeight (at xs k)
 

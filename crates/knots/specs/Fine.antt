@@ -11,6 +11,7 @@ use Rattle.knots.specs.Curve.{isWeight, allWeights}
 abbrev pub above : Bool → Float → Bool
 above weight x = cond weight (lt zero+ x) true
 
+-- a number that the run may have
 abbrev pub fine : Bool → Float → Bool
 fine weight x = cond weight (isWeight x) (finite x)
 

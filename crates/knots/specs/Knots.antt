@@ -14,6 +14,7 @@ use Rattle.knots.specs.Refusal.{refuse, accepted, placed, degree-zero, f
 use Rattle.knots.specs.declared.refusal.Refusal.{Refusal}
 
 -- ---- the tests of a run, at a place of it
+-- the number is finite
 abbrev pub finiteAt : List Float → ℕ → Bool
 finiteAt xs k = finite (at xs k)
 
@@ -26,19 +27,23 @@ abbrev pub apartAt : ℕ → List Float → ℕ → Bool
 apartAt gap xs k = not (le (at xs (k + gap)) (at xs k))
 
 -- ---- at all places
+-- every number is finite
 unfoldable pub allFinite : List Float → Bool
 allFinite xs = allBelow (finiteAt xs) (length xs)
 
+-- no number exceeds the next
 unfoldable pub inOrder : List Float → Bool
 inOrder xs = allBelow (risesAt xs) (length xs - 1)
 
 unfoldable pub ordered : List Float → Bool
 ordered xs = allFinite xs && inOrder xs
 
+-- of no two numbers that stand `gap` places apart the earlier is at least the later
 unfoldable pub apart : ℕ → List Float → Bool
 apart gap xs = allBelow (apartAt gap xs) (length xs - gap)
 
 -- ---- the first place where one fails
+-- the first number that is not finite
 abbrev pub nonFiniteAt : List Float → ℕ
 nonFiniteAt xs = offAt (finiteAt xs) (length xs)
 

@@ -29,7 +29,7 @@ pub fn all_weights(xs: &[f64]) -> bool
 }
 
 // The number 8, 9 or 10 of points and of the weights, where they are given, or 0.
-pub fn control_number(count: usize, points: &[f64], rational: bool, weights: &[f64]) -> u32
+fn control_number(count: usize, points: &[f64], rational: bool, weights: &[f64]) -> u32
     ensures { λ r. ⌜ r ≡ controlRefusal count (now (points .entry)) rational (now (weights .entry)) .number ⌝ }
 {
     if !all_finite(points) {
@@ -48,7 +48,7 @@ pub fn control_number(count: usize, points: &[f64], rational: bool, weights: &[f
 }
 
 // The refusal of points and weights by its number, with the place of 8 and 10.
-pub fn control_placed(number: u32, points: &[f64], weights: &[f64]) -> Refusal
+fn control_placed(number: u32, points: &[f64], weights: &[f64]) -> Refusal
     ensures { λ r. ⌜ r ≡ controlPlaced number (now (points .entry)) (now (weights .entry)) ⌝ }
 {
     if number == 8 {
@@ -60,7 +60,7 @@ pub fn control_placed(number: u32, points: &[f64], weights: &[f64]) -> Refusal
     refuse(number)
 }
 
-// Refusals 8, 9, 10 of points and of the weights, where they are given.
+// Refusals 8, 9, 10 of points and of the weights, where they are given. Where there is none, no place is asked for.
 pub fn control_refusal(count: usize, points: &[f64], rational: bool, weights: &[f64]) -> Refusal
     ensures { λ r. ⌜ r ≡ controlRefusal count (now (points .entry)) rational (now (weights .entry)) ⌝ }
 {

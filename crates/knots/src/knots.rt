@@ -113,7 +113,7 @@ pub fn knot_placed(number: u32, degree: usize, knots: &[f64]) -> Refusal
     refuse(number)
 }
 
-// The refusal of a knot run, for any degree and count.
+// The refusal of a knot run, for any degree and count. Where there is none, no place is asked for.
 pub fn knot_refusal(degree: usize, count: usize, knots: &[f64]) -> Refusal
     ensures { λ r. ⌜ r ≡ knotRefusal degree count (now (knots .entry)) ⌝ }
 {

@@ -1,4 +1,4 @@
-// The tests of a run's numbers: of two knots that one is below the other; of one number that it is finite and, of a weight, above 0. A call says which as a constant, so that each has a loop of its own.
+// The tests of a run's numbers: of two knots that one is below the other; of one number that it is finite and, of a weight, above 0. Of the last two a call says which as a constant, so that each has a loop of its own.
 use interval::float::is_finite;
 ghost use mathlib.Core.Path.{_≡_};
 ghost use mathlib.Core.Bool.{not};

@@ -12,7 +12,7 @@ ghost use mathlib.Core.Path.{_≡_};
 ghost use Rattle.knots.specs.Surface.{netRefusal, surfaceRefusal};
 
 // The number 30, 32 or 11 of a surface's runs, or 0. Counts whose product overflows are 11.
-pub fn net_number(
+fn net_number(
     u_knots: &[f64],
     v_knots: &[f64],
     u_count: usize,

@@ -22,10 +22,11 @@ saysPlace n = eqb n 4 || (eqb n 7 || (eqb n 8 || eqb n 10))
 unfoldable pub placeText : Refusal → List ℕ
 placeText r = cond (saysPlace (r .number)) (32 ∷ decimal (r .place)) []
 
--- `refused `, the number and the place
+-- `refused `
 abbrev pub refusedWord : List ℕ
 refusedWord = 114 ∷ 101 ∷ 102 ∷ 117 ∷ 115 ∷ 101 ∷ 100 ∷ 32 ∷ []
 
+-- the word, the number and, where the number says one, the place
 unfoldable pub refusalLine : Refusal → List ℕ
 refusalLine r = refusedWord ++ (decimal (r .number) ++ (placeText r ++ (10 ∷ [])))
 

@@ -66,7 +66,8 @@ fn net() -> Surface {
     }
 }
 
-/// Whether the Rust that notes points forms the Rust's: the last of two insertions, an elevation, both isocurves.
+/// Whether the Rust that notes points forms the Rust's: the last of two insertions, an elevation, both
+/// isocurves. A trim forms no points but those of its insertions.
 fn notes() -> bool {
     macro_rules! same {
         ($table:expr, $call:ident($($argument:expr),*)) => {{

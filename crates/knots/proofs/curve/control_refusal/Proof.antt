@@ -1,9 +1,7 @@
 -- `knots::curve::control_refusal` meets its contract.
 -- Assumes nothing.
-use Prim.Native.Nat.{ℕ}
-use mathlib.Core.Path.{sym, _∙_, ap}
+use mathlib.Core.Path.{sym, _∙_}
 use denote.Ref.{now}
-use Rattle.knots.specs.Placed.{controlPlaced}
 use Rattle.knots.proofs.Curves.{valid-controls, controls-not-refused}
 use Rattle.knots.proofs.ByNumber.{control-told}
 use borrow.Author.Needs.{needs}
@@ -30,9 +28,7 @@ control-placed-requires c κs = search needs
 returns-2 : tie.Need-returns-2
 returns-2 c =
     let a = c .before .before .before .before .before .args in
-    let ps = now (a .points) in
-    let ws = now (a .weights) in
-    c .control-placed .ensures ∙ (ap (λ (k : ℕ). controlPlaced k ps ws) (c .before .before .control-number .ensures) ∙ control-told (a .count) ps (a .rational) ws)
+    c .control-placed .ensures ∙ control-told (a .count) (now (a .points)) (a .rational) (now (a .weights)) (c .before .before .control-number .ensures)
 
 pub control-refusal-spec : {M : Type 1} → statement M
 control-refusal-spec =

@@ -1,10 +1,8 @@
 -- `knots::curve::formed_refusal` meets its contract.
 -- Assumes nothing.
-use Prim.Native.Nat.{ℕ}
-use mathlib.Core.Path.{_∙_, ap}
+use mathlib.Core.Path.{_∙_}
 use denote.Ref.{now}
 use Rattle.knots.specs.Curve.{formedRefusal}
-use Rattle.knots.specs.Placed.{knotPlaced}
 use Rattle.knots.proofs.Refusals.{number-stop, number-skip}
 use Rattle.knots.proofs.ByNumber.{knot-told}
 use borrow.Author.Needs.{needs}
@@ -21,10 +19,8 @@ returns : tie.Need-returns
 unfolding formedRefusal
 returns c =
     let a = c .before .before .before .before .before .before .args in
-    let p = a .degree in
-    let ks = now (a .knots) in
     let number = c .before .before .knot-number .ensures in
-    simp (number-stop number (c .before .if1 .taken)) (c .knot-placed .ensures ∙ (ap (λ (k : ℕ). knotPlaced k p ks) number ∙ knot-told p (a .count) ks))
+    simp (number-stop number (c .before .if1 .taken)) (c .knot-placed .ensures ∙ knot-told (a .degree) (a .count) (now (a .knots)) number)
 
 control-refusal-requires : tie.Need-control-refusal-requires
 control-refusal-requires c κs = search needs

@@ -1,9 +1,7 @@
 -- `knots::knots::knot_refusal` meets its contract.
 -- Assumes nothing.
-use Prim.Native.Nat.{ℕ}
-use mathlib.Core.Path.{sym, _∙_, ap}
+use mathlib.Core.Path.{sym, _∙_}
 use denote.Ref.{now}
-use Rattle.knots.specs.Placed.{knotPlaced}
 use Rattle.knots.proofs.Valid.{valid, not-refused}
 use Rattle.knots.proofs.ByNumber.{knot-told}
 use borrow.Author.Needs.{needs}
@@ -28,9 +26,7 @@ knot-placed-requires c κs = search needs
 returns-2 : tie.Need-returns-2
 returns-2 c =
     let a = c .before .before .before .before .args in
-    let p = a .degree in
-    let ks = now (a .knots) in
-    c .knot-placed .ensures ∙ (ap (λ (k : ℕ). knotPlaced k p ks) (c .before .before .knot-number .ensures) ∙ knot-told p (a .count) ks)
+    c .knot-placed .ensures ∙ knot-told (a .degree) (a .count) (now (a .knots)) (c .before .before .knot-number .ensures)
 
 pub knot-refusal-spec : {M : Type 1} → statement M
 knot-refusal-spec =

@@ -1,9 +1,7 @@
 -- `knots::span::find_span` meets its contract.
 -- Assumes nothing.
-use Prim.Native.Nat.{ℕ}
 use mathlib.Core.Path.{sym, _∙_, ap}
 use denote.Ref.{now}
-use Rattle.knots.specs.Placed.{knotPlaced}
 use Rattle.knots.proofs.Answers.{unrefused}
 use Rattle.knots.proofs.ByNumber.{span-told}
 use Rattle.knots.specs.declared.refusal.Refusal.{Refusal}
@@ -20,11 +18,9 @@ knot-placed-requires c κs = search needs
 returns : tie.Need-returns
 returns c =
     let a = c .before .before .before .before .args in
-    let p = a .degree in
-    let n = a .count in
-    let ks = now (a .knots) in
-    let told = c .knot-placed .ensures ∙ (ap (λ (k : ℕ). knotPlaced k p ks) (c .before .before .span-number .ensures) ∙ span-told p n ks (a .u)) in
-    (sym told, λ z. c .before .if1 .taken (c .before .before .span-number .ensures ∙ (sym (ap (λ (r : Refusal). r .number) told) ∙ z)))
+    let number = c .before .before .span-number .ensures in
+    let told = c .knot-placed .ensures ∙ span-told (a .degree) (a .count) (now (a .knots)) (a .u) number in
+    (sym told, λ z. c .before .if1 .taken (number ∙ (sym (ap (λ (r : Refusal). r .number) told) ∙ z)))
 
 span-of-requires : tie.Need-span-of-requires
 span-of-requires c κs = search needs

@@ -1,11 +1,9 @@
 -- `knots::surface::surface_refusal` meets its contract: the first number that is not 0 is handed on with its place, or the next asked.
 -- Assumes nothing.
-use Prim.Native.Nat.{ℕ}
 use mathlib.Core.Path.{_∙_, ap}
 use denote.Ref.{now}
-use Rattle.knots.specs.Refusal.{numbered, along}
+use Rattle.knots.specs.Refusal.{along}
 use Rattle.knots.specs.Surface.{surfaceRefusal}
-use Rattle.knots.specs.Placed.{knotPlaced}
 use Rattle.knots.proofs.Refusals.{number-stop, number-skip}
 use Rattle.knots.proofs.ByNumber.{net-told, knot-told}
 use borrow.Author.Needs.{needs}
@@ -22,7 +20,7 @@ returns : tie.Need-returns
 unfolding surfaceRefusal
 returns c =
     let net = c .before .before .net-number .ensures in
-    simp (number-stop net (c .before .if1 .taken)) (c .refuse .ensures ∙ (ap numbered net ∙ net-told _ _ _ _ _ _ _))
+    simp (number-stop net (c .before .if1 .taken)) (c .refuse .ensures ∙ net-told _ _ _ _ _ _ _ net)
 
 knot-number-requires : tie.Need-knot-number-requires
 knot-number-requires c κs = search needs
@@ -37,11 +35,9 @@ returns-2 : tie.Need-returns-2
 unfolding surfaceRefusal
 returns-2 c =
     let a = c .before .before .before .before .before .before .before .before .before .before .args in
-    let p = a .u-degree in
-    let ks = now (a .u-knots) in
     let u = c .before .before .before .knot-number .ensures in
     simp (number-skip (c .before .before .before .before .before .net-number .ensures) (c .before .before .before .before .if1 .left), number-stop u (c .before .before .if2 .taken))
-    (c .refuse-along .ensures ∙ ap (along 0) (c .before .knot-placed .ensures ∙ (ap (λ (k : ℕ). knotPlaced k p ks) u ∙ knot-told p (a .u-count) ks)))
+    (c .refuse-along .ensures ∙ ap (along 0) (c .before .knot-placed .ensures ∙ knot-told (a .u-degree) (a .u-count) (now (a .u-knots)) u))
 
 knot-number-requires-2 : tie.Need-knot-number-requires-2
 knot-number-requires-2 c κs = search needs
@@ -56,14 +52,12 @@ returns-3 : tie.Need-returns-3
 unfolding surfaceRefusal
 returns-3 c =
     let a = c .before .before .before .before .before .before .before .before .before .before .before .before .args in
-    let p = a .v-degree in
-    let ks = now (a .v-knots) in
     let v = c .before .before .before .knot-number2 .ensures in
     simp (
       number-skip (c .before .before .before .before .before .before .before .net-number .ensures) (c .before .before .before .before .before .before .if1 .left),
       number-skip (c .before .before .before .before .before .knot-number .ensures) (c .before .before .before .before .if2 .left),
       number-stop v (c .before .before .if3 .taken),
-    ) (c .refuse-along2 .ensures ∙ ap (along 1) (c .before .knot-placed2 .ensures ∙ (ap (λ (k : ℕ). knotPlaced k p ks) v ∙ knot-told p (a .v-count) ks)))
+    ) (c .refuse-along2 .ensures ∙ ap (along 1) (c .before .knot-placed2 .ensures ∙ knot-told (a .v-degree) (a .v-count) (now (a .v-knots)) v))
 
 control-refusal-requires : tie.Need-control-refusal-requires
 control-refusal-requires c κs = search needs
