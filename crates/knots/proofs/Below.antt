@@ -91,6 +91,10 @@ module _ (f : ℕ → Bool) where
       rw (all-fails (suc n) i l h)
       (⊎-elim (λ e. off-all n (subst (λ (k : ℕ). allBelow f k ≡ true) e a) ∙ sym e) (λ m. off-stops n i m a h) (eq-or-lt-of-le (le-of-suc-le-suc l)))
 
+  -- a walk that came to the end
+  pub off-ends : (n i : ℕ) → i ≡ n → allBelow f i ≡ true → i ≡ offAt f n
+  off-ends n i e h = e ∙ sym (off-all n (subst (λ (k : ℕ). allBelow f k ≡ true) e h))
+
   -- where the test fails somewhere, it fails there, at a place below n, and passes at all before
   pub first-off : (n : ℕ) → allBelow f n ≡ false → (offAt f n < n) × (f (offAt f n) ≡ false) × ((k : ℕ) → k < offAt f n → f k ≡ true)
   unfolding allBelow offAt
@@ -113,7 +117,7 @@ module _ (f : ℕ → Bool) where
       go true e = omega (arith, off-all n e)
       go false e = omega (arith, first-off n e .0)
 
-  -- a walk that ended before n, and one that did not
+  -- a first place before n, and one that is not
   pub off-within : (n : ℕ) → offAt f n < n → allBelow f n ≡ false
   off-within n l = go (allBelow f n) refl
     where

@@ -1,14 +1,13 @@
 -- `insertion::lower::non_finite_row` meets its contract: all points before the place reached are finite.
 -- Assumes nothing.
-use Prim.Native.Nat.{ℕ, _-_, _≤_}
-use mathlib.Core.Path.{_≡_, sym, _∙_, ap, subst}
+use Prim.Native.Nat.{_-_, _≤_}
+use mathlib.Core.Path.{_≡_, sym, _∙_, ap}
 use mathlib.Core.Bool.{true}
 use native.Mathlib.Omega.{arith}
-use denote.Ref.{now}
 use borrow.Author.Needs.{needs}
 use borrow.Author.Tests.{not-true, not-false}
 use Rattle.knots.specs.Below.{allBelow}
-use Rattle.knots.proofs.Below.{all-none, all-more, off-all, off-stops}
+use Rattle.knots.proofs.Below.{all-none, all-more, off-ends, off-stops}
 use Rattle.runs.specs.Point.{finiteVector}
 use Rattle.edits.specs.Control.{vectorOf}
 use Rattle.edits.specs.Passes.{rowOf}
@@ -52,11 +51,7 @@ loop-again c =
     (omega arith, all-more _ (l .i) (l .inv .1) (sym told ∙ not-false _ (c .if1 .left)))
 
 returns-2 : tie.Need-returns-2 Inv-loop μ-loop
-returns-2 c =
-    let l = c .before .loop in
-    let a = c .before .before .before .args in
-    let e : l .i ≡ a .m = omega (arith, l .inv .0) in
-    e ∙ sym (off-all _ _ (subst (λ (n : ℕ). allBelow (λ k. finiteVector (vectorOf (rowOf (a .rational) (now (a .rows)) k))) n ≡ true) e (l .inv .1)))
+returns-2 c = let l = c .before .loop in off-ends _ _ (l .i) (omega (arith, l .inv .0)) (l .inv .1)
 
 pub non-finite-row-spec : {M : Type 1} → statement M
 non-finite-row-spec =

@@ -1,17 +1,16 @@
 -- `knots::places::first_off` meets its contract: all numbers before the place reached are fine.
 -- Assumes nothing.
-use Prim.Native.Nat.{ℕ, _-_, _≤_}
-use mathlib.Core.Path.{_≡_, sym, _∙_, subst}
+use Prim.Native.Nat.{_-_, _≤_}
+use mathlib.Core.Path.{_≡_, sym, _∙_}
 use mathlib.Core.Bool.{true}
 use native.Mathlib.Omega.{arith}
-use denote.Ref.{now}
 use lib.ListN.{length}
 use borrow.Author.Needs.{needs}
 use borrow.Author.Tests.{not-true, not-false}
 use Rattle.doubles.specs.Run.{at}
 use Rattle.knots.specs.Below.{allBelow}
 use Rattle.knots.specs.Fine.{fine as fineOf}
-use Rattle.knots.proofs.Below.{all-none, all-more, off-all, off-stops}
+use Rattle.knots.proofs.Below.{all-none, all-more, off-ends, off-stops}
 use Rattle.knots.proofs.places.first_off.Statement.{statement}
 use Rattle.knots.proofs.places.first_off.Tie as tie
 
@@ -50,10 +49,7 @@ loop-again c =
     (omega arith, all-more _ (l .i) (l .inv .1) (sym (c .before .is-fine .ensures) ∙ not-false _ (c .if1 .left)))
 
 returns-2 : tie.Need-returns-2 Inv-loop μ-loop
-returns-2 c =
-    let l = c .before .loop in
-    let e : l .i ≡ length (now (c .before .before .before .args .xs)) = omega (arith, l .inv .0) in
-    e ∙ sym (off-all _ _ (subst (λ (n : ℕ). allBelow (λ k. fineOf (c .before .before .before .args .weight) (at (now (c .before .before .before .args .xs)) k)) n ≡ true) e (l .inv .1)))
+returns-2 c = let l = c .before .loop in off-ends _ _ (l .i) (omega (arith, l .inv .0)) (l .inv .1)
 
 pub first-off-spec : {M : Type 1} → statement M
 first-off-spec =

@@ -1,17 +1,16 @@
 -- `knots::places::first_pair` meets its contract: all numbers before the place reached stand before those a gap further on.
 -- Assumes nothing.
-use Prim.Native.Nat.{ℕ, _+_, _-_, _≤_}
-use mathlib.Core.Path.{_≡_, refl, sym, _∙_, subst}
+use Prim.Native.Nat.{_+_, _-_, _≤_}
+use mathlib.Core.Path.{_≡_, refl, sym, _∙_}
 use mathlib.Core.Bool.{true}
 use native.Mathlib.Omega.{arith}
-use denote.Ref.{now}
 use lib.ListN.{length}
 use borrow.Author.Needs.{needs}
 use borrow.Author.Tests.{not-true, not-false}
 use Rattle.doubles.specs.Run.{at}
 use Rattle.knots.specs.Below.{allBelow}
 use Rattle.knots.specs.Fine.{before as beforeOf}
-use Rattle.knots.proofs.Below.{all-none, all-more, off-none, off-all, off-stops}
+use Rattle.knots.proofs.Below.{all-none, all-more, off-none, off-ends, off-stops}
 use Rattle.knots.proofs.places.first_pair.Statement.{statement}
 use Rattle.knots.proofs.places.first_pair.Tie as tie
 
@@ -65,11 +64,7 @@ loop-again c =
     (omega arith, l .inv .1, all-more _ (l .k) (l .inv .2) (sym (c .before .is-before .ensures) ∙ not-false _ (c .if2 .left)))
 
 returns-3 : tie.Need-returns-3 Inv-loop μ-loop
-returns-3 c =
-    let l = c .before .loop in
-    let a = c .before .before .before .before .args in
-    let e : l .k ≡ length (now (a .xs)) - a .gap = omega (arith, l .inv .0, l .inv .1) in
-    e ∙ sym (off-all _ _ (subst (λ (n : ℕ). allBelow (λ k. beforeOf (a .strict) (at (now (a .xs)) k) (at (now (a .xs)) (k + a .gap))) n ≡ true) e (l .inv .2)))
+returns-3 c = let l = c .before .loop in off-ends _ _ (l .k) (omega (arith, l .inv .0, l .inv .1)) (l .inv .2)
 
 pub first-pair-spec : {M : Type 1} → statement M
 first-pair-spec =
