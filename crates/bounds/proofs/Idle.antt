@@ -19,6 +19,7 @@ use Rattle.knots.specs.Curve.{countOf, overLong, anyLong, allWeights, controlRe
 use Rattle.knots.specs.Shape.{weightShape, knotShape, curveShape}
 use Rattle.knots.specs.Surface.{netRefusal, surfaceRefusal}
 use Rattle.knots.specs.declared.refusal.Refusal.{Refusal}
+use Rattle.knots.proofs.Refusals.{row-both}
 use Rattle.knots.proofs.Curves.{valid-curve}
 use Rattle.knots.proofs.Surfaces.{valid-surface}
 use Rattle.bounds.specs.Answer.{boundedOf}
@@ -46,47 +47,43 @@ use Rattle.bounds.proofs.SurfaceHolds.{spans-bound-in}
 abbrev Other : Refusal → Type 0
 Other r = Given (r .number)
 
-cond-other : (b : Bool) (r x : Refusal) → Other r → Other x → Other (cond b r x)
-cond-other true r x h k = h
-cond-other false r x h k = k
-
 orElse-other : (a b : Refusal) → Other a → Other b → Other (orElse a b)
-orElse-other a b h k = cond-other (eqb (a .number) 0) b a k h
+orElse-other a b h k = row-both Other (eqb (a .number) 0) b a k h
 
 range-other : (p n s : ℕ) (lo hi : Float) → Other (rangeRefusal p n s lo hi)
 unfolding rangeRefusal
 range-other p n s lo hi =
-    cond-other (ltb 64 p) (refuse degree-high) _ tt
-    (cond-other (not (finite lo)) (refuse range-bad) _ tt
-    (cond-other (not (finite hi)) (refuse range-bad) _ tt
-    (cond-other (lt hi lo) (refuse range-bad) _ tt
-    (cond-other (eqb s n) (refuse range-in-no-span) accepted tt tt))))
+    row-both Other (ltb 64 p) (refuse degree-high) _ tt
+    (row-both Other (not (finite lo)) (refuse range-bad) _ tt
+    (row-both Other (not (finite hi)) (refuse range-bad) _ tt
+    (row-both Other (lt hi lo) (refuse range-bad) _ tt
+    (row-both Other (eqb s n) (refuse range-in-no-span) accepted tt tt))))
 
 -- of a span that was asked for: 30, 32, 1, 2, 3, 9, 4, 8, 10, 31, 24, 25
 shape-other : (p : ℕ) (ks ps : List Float) (g : Bool) (ws : List Float) → Other (curveShape p ks ps g ws)
 unfolding curveShape knotShape weightShape
 shape-other p ks ps g ws =
-    cond-other (not (eqb (length ps % 3) 0)) (refuse points-uneven) _ tt
+    row-both Other (not (eqb (length ps % 3) 0)) (refuse points-uneven) _ tt
     (orElse-other (knotShape p (countOf ps) ks) (weightShape (countOf ps) g ws)
-    (cond-other (eqb p 0) (refuse degree-zero) _ tt
-    (cond-other (leb (countOf ps) p) (refuse few-points) _ tt
-    (cond-other (not (eqb (length ks) (countOf ps + p + 1))) (refuse knot-count) accepted tt tt)))
-    (cond-other (g && not (eqb (length ws) (countOf ps))) (refuse weight-count) accepted tt tt))
+    (row-both Other (eqb p 0) (refuse degree-zero) _ tt
+    (row-both Other (leb (countOf ps) p) (refuse few-points) _ tt
+    (row-both Other (not (eqb (length ks) (countOf ps + p + 1))) (refuse knot-count) accepted tt tt)))
+    (row-both Other (g && not (eqb (length ws) (countOf ps))) (refuse weight-count) accepted tt tt))
 
 read-other : (p s : ℕ) (ks ps : List Float) (g : Bool) (ws : List Float) → Other (readRefusal p s ks ps g ws)
 unfolding readRefusal
 read-other p s ks ps g ws =
-    cond-other (not (ordered _)) (placed _ (refuse knots-unordered)) _ tt
-    (cond-other (not (allFinite _)) (placed _ (refuse point-not-finite)) _ tt
-    (cond-other (g && not (allWeights _)) (placed _ (refuse weight-bad)) accepted tt tt))
+    row-both Other (not (ordered _)) (placed _ (refuse knots-unordered)) _ tt
+    (row-both Other (not (allFinite _)) (placed _ (refuse point-not-finite)) _ tt
+    (row-both Other (g && not (allWeights _)) (placed _ (refuse weight-bad)) accepted tt tt))
 
 start-other : (p s : ℕ) (ks ps : List Float) (g : Bool) (ws : List Float) (lo hi : Float) → Other (startRefusal p s ks ps g ws lo hi)
 unfolding startRefusal placeRefusal
 start-other p s ks ps g ws lo hi =
     let n = countOf ps in
-    cond-other (anyLong ks ps g ws) (refuse length-bad) _ tt
+    row-both Other (anyLong ks ps g ws) (refuse length-bad) _ tt
     (orElse-other (curveShape p ks ps g ws) (placeRefusal p s ks ps g ws lo hi) (shape-other p ks ps g ws)
-    (cond-other (leb p s && ltb s n) (orElse (readRefusal p s ks ps g ws) (rangeRefusal p n (takenSpan s n ks lo hi) lo hi)) (rangeRefusal p n n lo hi)
+    (row-both Other (leb p s && ltb s n) (orElse (readRefusal p s ks ps g ws) (rangeRefusal p n (takenSpan s n ks lo hi) lo hi)) (rangeRefusal p n n lo hi)
     (orElse-other (readRefusal p s ks ps g ws) (rangeRefusal p n (takenSpan s n ks lo hi) lo hi) (read-other p s ks ps g ws) (range-other p n (takenSpan s n ks lo hi) lo hi))
     (range-other p n n lo hi)))
 
@@ -94,26 +91,26 @@ start-other p s ks ps g ws lo hi =
 knots-other : (p n : ℕ) (ks : List Float) → Other (knotRefusal p n ks)
 unfolding knotRefusal orderRefusal
 knots-other p n ks =
-    cond-other (eqb p 0) (refuse degree-zero) _ tt
-    (cond-other (leb n p) (refuse few-points) _ tt
-    (cond-other (not (eqb (length ks) (n + p + 1))) (refuse knot-count) _ tt
-    (cond-other (not (ordered ks)) (placed _ (refuse knots-unordered)) _ tt
-    (cond-other (le (at ks n) (at ks p)) (refuse domain-empty) _ tt
-    (cond-other (not (finite (sub binary64 (at ks n) (at ks p)))) (refuse domain-wide) _ tt
-    (cond-other (not (apart (p + 1) ks)) (placed _ (refuse knot-repeated)) accepted tt tt))))))
+    row-both Other (eqb p 0) (refuse degree-zero) _ tt
+    (row-both Other (leb n p) (refuse few-points) _ tt
+    (row-both Other (not (eqb (length ks) (n + p + 1))) (refuse knot-count) _ tt
+    (row-both Other (not (ordered ks)) (placed _ (refuse knots-unordered)) _ tt
+    (row-both Other (le (at ks n) (at ks p)) (refuse domain-empty) _ tt
+    (row-both Other (not (finite (sub binary64 (at ks n) (at ks p)))) (refuse domain-wide) _ tt
+    (row-both Other (not (apart (p + 1) ks)) (placed _ (refuse knot-repeated)) accepted tt tt))))))
 
 controls-other : (n : ℕ) (ps : List Float) (g : Bool) (ws : List Float) → Other (controlRefusal n ps g ws)
 unfolding controlRefusal
 controls-other n ps g ws =
-    cond-other (not (allFinite ps)) (placed _ (refuse point-not-finite)) _ tt
-    (cond-other (g && not (eqb (length ws) n)) (refuse weight-count) _ tt
-    (cond-other (g && not (allWeights ws)) (placed _ (refuse weight-bad)) accepted tt tt))
+    row-both Other (not (allFinite ps)) (placed _ (refuse point-not-finite)) _ tt
+    (row-both Other (g && not (eqb (length ws) n)) (refuse weight-count) _ tt
+    (row-both Other (g && not (allWeights ws)) (placed _ (refuse weight-bad)) accepted tt tt))
 
 curve-other : (p : ℕ) (ks ps : List Float) (g : Bool) (ws : List Float) → Other (curveRefusal p ks ps g ws)
 unfolding curveRefusal formedRefusal
 curve-other p ks ps g ws =
-    cond-other (anyLong ks ps g ws) (refuse length-bad) _ tt
-    (cond-other (not (eqb (length ps % 3) 0)) (refuse points-uneven) _ tt
+    row-both Other (anyLong ks ps g ws) (refuse length-bad) _ tt
+    (row-both Other (not (eqb (length ps % 3) 0)) (refuse points-uneven) _ tt
     (orElse-other (knotRefusal p (countOf ps) ks) (controlRefusal (countOf ps) ps g ws) (knots-other p (countOf ps) ks) (controls-other (countOf ps) ps g ws)))
 
 -- of a surface: 30, 32, 11, 1 to 10; and of its ranges
@@ -121,16 +118,16 @@ surface-other : (p q : ℕ) (us vs : List Float) (m n : ℕ) (ps : List Float) (
 unfolding surfaceRefusal netRefusal
 surface-other p q us vs m n ps g ws =
     orElse-other (netRefusal us vs m n ps g ws) _
-    (cond-other (overLong true us || anyLong vs ps g ws) (refuse length-bad) _ tt
-    (cond-other (not (eqb (length ps % 3) 0)) (refuse points-uneven) _ tt
-    (cond-other (not (eqb (countOf ps) (m * n))) (refuse net-size) accepted tt tt)))
+    (row-both Other (overLong true us || anyLong vs ps g ws) (refuse length-bad) _ tt
+    (row-both Other (not (eqb (length ps % 3) 0)) (refuse points-uneven) _ tt
+    (row-both Other (not (eqb (countOf ps) (m * n))) (refuse net-size) accepted tt tt)))
     (orElse-other (along 0 (knotRefusal p m us)) _ (knots-other p m us)
     (orElse-other (along 1 (knotRefusal q n vs)) (controlRefusal (countOf ps) ps g ws) (knots-other q n vs) (controls-other (countOf ps) ps g ws)))
 
 ranges-other : (p q nu nv us vs : ℕ) (ulo uhi vlo vhi : Float) → Other (rangesRefusal p q nu nv us vs ulo uhi vlo vhi)
 unfolding rangesRefusal
 ranges-other p q nu nv us vs ulo uhi vlo vhi =
-    cond-other (ltb 64 q) (refuse degree-high) _ tt
+    row-both Other (ltb 64 q) (refuse degree-high) _ tt
     (orElse-other (rangeRefusal p nu us ulo uhi) (rangeRefusal q nv vs vlo vhi) (range-other p nu us ulo uhi) (range-other q nv vs vlo vhi))
 
 -- ---- the whole answer

@@ -21,6 +21,7 @@ use Rattle.knots.specs.Span.{spanRefusal}
 use Rattle.knots.specs.Surface.{netRefusal, surfaceRefusal}
 use Rattle.knots.specs.declared.refusal.Refusal.{Refusal}
 use Rattle.knots.proofs.Below.{first-off, off-below, all-at, and-left, and-right, and-rest}
+use Rattle.knots.proofs.Refusals.{row-either, row-both}
 use Rattle.knots.proofs.Valid.{sorted-run}
 
 -- ---- 4: the knot at i is the first that is not finite
@@ -137,10 +138,6 @@ pub record PlaceFirst (p : ℕ) (ks ps ws : List Float) (r : Refusal) : Type 0 w
   pub weight : r .number ≡ 10 → FirstWeight ws (r .place)
 
 module _ (p : ℕ) (ks ps ws : List Float) where
-  row-place : (b : Bool) (x y : Refusal) → (b ≡ true → PlaceFirst p ks ps ws x) → (b ≡ false → PlaceFirst p ks ps ws y) → PlaceFirst p ks ps ws (cond b x y)
-  row-place true x y X Y = X refl
-  row-place false x y X Y = Y refl
-
   -- no place is asked of another number
   no-place : (r : Refusal) → (r .number ≡ 4 → ⊥) → (r .number ≡ 7 → ⊥) → (r .number ≡ 8 → ⊥) → (r .number ≡ 10 → ⊥) → PlaceFirst p ks ps ws r
   no-place r a b c d = record { knot = λ e. absurd (a e); run = λ e. absurd (b e); point = λ e. absurd (c e); weight = λ e. absurd (d e) }
@@ -151,13 +148,13 @@ module _ (p : ℕ) (ks ps ws : List Float) where
   knots-place : (n : ℕ) → PlaceFirst p ks ps ws (knotRefusal p n ks)
   unfolding knotRefusal orderRefusal
   knots-place n =
-      row-place (eqb p 0) _ _ (λ _. other 1 refl refl refl refl)
-      (λ _. row-place (leb n p) _ _ (λ _. other 2 refl refl refl refl)
-      (λ _. row-place (not (eqb (length ks) (n + p + 1))) _ _ (λ _. other 3 refl refl refl refl)
-      (λ _. row-place (not (ordered ks)) _ _ four
-      (λ o. row-place (le (at ks n) (at ks p)) _ _ (λ _. other 5 refl refl refl refl)
-      (λ _. row-place (not (finite (sub binary64 (at ks n) (at ks p)))) _ _ (λ _. other 6 refl refl refl refl)
-      (λ _. row-place (not (apart (p + 1) ks)) _ _ (seven o) (λ _. other 0 refl refl refl refl)))))))
+      row-either (PlaceFirst p ks ps ws) (eqb p 0) _ _ (λ _. other 1 refl refl refl refl)
+      (λ _. row-either (PlaceFirst p ks ps ws) (leb n p) _ _ (λ _. other 2 refl refl refl refl)
+      (λ _. row-either (PlaceFirst p ks ps ws) (not (eqb (length ks) (n + p + 1))) _ _ (λ _. other 3 refl refl refl refl)
+      (λ _. row-either (PlaceFirst p ks ps ws) (not (ordered ks)) _ _ four
+      (λ o. row-either (PlaceFirst p ks ps ws) (le (at ks n) (at ks p)) _ _ (λ _. other 5 refl refl refl refl)
+      (λ _. row-either (PlaceFirst p ks ps ws) (not (finite (sub binary64 (at ks n) (at ks p)))) _ _ (λ _. other 6 refl refl refl refl)
+      (λ _. row-either (PlaceFirst p ks ps ws) (not (apart (p + 1) ks)) _ _ (seven o) (λ _. other 0 refl refl refl refl)))))))
     where
       four : not (ordered ks) ≡ true → PlaceFirst p ks ps ws (placed (unorderedAt ks) (refuse knots-unordered))
       four e = record { knot = λ _. unordered-first ks (not-true _ e); run = λ z. absurd (omega arith); point = λ z. absurd (omega arith); weight = λ z. absurd (omega arith) }
@@ -173,9 +170,9 @@ module _ (p : ℕ) (ks ps ws : List Float) where
   controls-place : (n : ℕ) (g : Bool) → PlaceFirst p ks ps ws (controlRefusal n ps g ws)
   unfolding controlRefusal
   controls-place n g =
-      row-place (not (allFinite ps)) _ _ eight
-      (λ _. row-place (g && not (eqb (length ws) n)) _ _ (λ _. other 9 refl refl refl refl)
-      (λ _. row-place (g && not (allWeights ws)) _ _ ten (λ _. other 0 refl refl refl refl)))
+      row-either (PlaceFirst p ks ps ws) (not (allFinite ps)) _ _ eight
+      (λ _. row-either (PlaceFirst p ks ps ws) (g && not (eqb (length ws) n)) _ _ (λ _. other 9 refl refl refl refl)
+      (λ _. row-either (PlaceFirst p ks ps ws) (g && not (allWeights ws)) _ _ ten (λ _. other 0 refl refl refl refl)))
     where
       eight : not (allFinite ps) ≡ true → PlaceFirst p ks ps ws (placed (nonFiniteAt ps / 3) (refuse point-not-finite))
       eight e = record { knot = λ z. absurd (omega arith); run = λ z. absurd (omega arith); point = λ _. point-first ps (not-true _ e); weight = λ z. absurd (omega arith) }
@@ -190,21 +187,21 @@ module _ (p : ℕ) (ks ps ws : List Float) where
 
   pub formed-place : (n : ℕ) (g : Bool) → PlaceFirst p ks ps ws (formedRefusal p n ks ps g ws)
   unfolding formedRefusal
-  formed-place n g = row-place (eqb (knotRefusal p n ks .number) 0) _ _ (λ _. controls-place n g) (λ _. knots-place n)
+  formed-place n g = row-either (PlaceFirst p ks ps ws) (eqb (knotRefusal p n ks .number) 0) _ _ (λ _. controls-place n g) (λ _. knots-place n)
 
   pub place-first : (g : Bool) → PlaceFirst p ks ps ws (curveRefusal p ks ps g ws)
   unfolding curveRefusal
   place-first g =
-      row-place (anyLong ks ps g ws) _ _ (λ _. other 30 refl refl refl refl)
-      (λ _. row-place (not (eqb (length ps % 3) 0)) _ _ (λ _. other 32 refl refl refl refl) (λ _. formed-place (countOf ps) g))
+      row-either (PlaceFirst p ks ps ws) (anyLong ks ps g ws) _ _ (λ _. other 30 refl refl refl refl)
+      (λ _. row-either (PlaceFirst p ks ps ws) (not (eqb (length ps % 3) 0)) _ _ (λ _. other 32 refl refl refl refl) (λ _. formed-place (countOf ps) g))
 
   -- of find_span's refusal
   pub span-place : (n : ℕ) (u : Float) → PlaceFirst p ks ps ws (spanRefusal p n ks u)
   unfolding spanRefusal
   span-place n u =
-      row-place (overLong true ks) _ _ (λ _. other 30 refl refl refl refl)
-      (λ _. row-place (eqb (knotRefusal p n ks .number) 0) _ _
-      (λ _. row-place (not (finite u)) _ _ (λ _. other 12 refl refl refl refl) (λ _. other 0 refl refl refl refl)) (λ _. knots-place n))
+      row-either (PlaceFirst p ks ps ws) (overLong true ks) _ _ (λ _. other 30 refl refl refl refl)
+      (λ _. row-either (PlaceFirst p ks ps ws) (eqb (knotRefusal p n ks .number) 0) _ _
+      (λ _. row-either (PlaceFirst p ks ps ws) (not (finite u)) _ _ (λ _. other 12 refl refl refl refl) (λ _. other 0 refl refl refl refl)) (λ _. knots-place n))
 
 -- ---- of a surface's refusal: along u and v the place is in that direction's knots; where there is no direction, neither 4 nor 7 is given
 pub record SurfaceFirst (p q : ℕ) (us vs ps ws : List Float) (r : Refusal) : Type 0 where
@@ -214,10 +211,6 @@ pub record SurfaceFirst (p q : ℕ) (us vs ps ws : List Float) (r : Refusal) : T
   pub directed : r .direction ≤ 2
 
 module _ (p q : ℕ) (us vs ps ws : List Float) where
-  surface-row : (b : Bool) (x y : Refusal) → SurfaceFirst p q us vs ps ws x → SurfaceFirst p q us vs ps ws y → SurfaceFirst p q us vs ps ws (cond b x y)
-  surface-row true x y X Y = X
-  surface-row false x y X Y = Y
-
   undirected : (r : Refusal) → r .direction ≡ 2 → PlaceFirst 0 [] ps ws r → SurfaceFirst p q us vs ps ws r
   undirected r e P = record { along-u = λ z. absurd (omega arith); along-v = λ z. absurd (omega arith); along-none = λ _. P; directed = omega arith }
 
@@ -227,17 +220,16 @@ module _ (p q : ℕ) (us vs ps ws : List Float) where
   net-place : (m n : ℕ) (g : Bool) → SurfaceFirst p q us vs ps ws (netRefusal us vs m n ps g ws)
   unfolding netRefusal
   net-place m n g =
-      surface-row (overLong true us || anyLong vs ps g ws) _ _ (other-net 30 refl refl refl refl)
-      (surface-row (not (eqb (length ps % 3) 0)) _ _ (other-net 32 refl refl refl refl)
-      (surface-row (not (eqb (countOf ps) (m * n))) _ _ (other-net 11 refl refl refl refl) (other-net 0 refl refl refl refl)))
+      row-both (SurfaceFirst p q us vs ps ws) (overLong true us || anyLong vs ps g ws) _ _ (other-net 30 refl refl refl refl)
+      (row-both (SurfaceFirst p q us vs ps ws) (not (eqb (length ps % 3) 0)) _ _ (other-net 32 refl refl refl refl)
+      (row-both (SurfaceFirst p q us vs ps ws) (not (eqb (countOf ps) (m * n))) _ _ (other-net 11 refl refl refl refl) (other-net 0 refl refl refl refl)))
 
   controls-none : (n : ℕ) (g : Bool) → controlRefusal n ps g ws .direction ≡ 2
   unfolding controlRefusal
-  controls-none n g = same (not (allFinite ps)) _ _ refl (same (g && not (eqb (length ws) n)) _ _ refl (same (g && not (allWeights ws)) _ _ refl refl))
-    where
-      same : (b : Bool) (x y : Refusal) → x .direction ≡ 2 → y .direction ≡ 2 → cond b x y .direction ≡ 2
-      same true x y X Y = X
-      same false x y X Y = Y
+  controls-none n g =
+      let None : Refusal → Type 0 = λ r. r .direction ≡ 2 in
+      row-both None (not (allFinite ps)) _ _ refl
+      (row-both None (g && not (eqb (length ws) n)) _ _ refl (row-both None (g && not (allWeights ws)) _ _ refl refl))
 
   -- a direction changes neither number nor place
   turned : (d : ℕ) (e : ℕ) (ks : List Float) (r : Refusal) → PlaceFirst e ks ps ws r → PlaceFirst e ks ps ws (along d r)
@@ -246,9 +238,9 @@ module _ (p q : ℕ) (us vs ps ws : List Float) where
   pub surface-place : (m n : ℕ) (g : Bool) → SurfaceFirst p q us vs ps ws (surfaceRefusal p q us vs m n ps g ws)
   unfolding surfaceRefusal
   surface-place m n g =
-      surface-row (eqb (netRefusal us vs m n ps g ws .number) 0) _ _
-      (surface-row (eqb (knotRefusal p m us .number) 0) _ _
-      (surface-row (eqb (knotRefusal q n vs .number) 0) _ _
+      row-both (SurfaceFirst p q us vs ps ws) (eqb (netRefusal us vs m n ps g ws .number) 0) _ _
+      (row-both (SurfaceFirst p q us vs ps ws) (eqb (knotRefusal p m us .number) 0) _ _
+      (row-both (SurfaceFirst p q us vs ps ws) (eqb (knotRefusal q n vs .number) 0) _ _
       (undirected (controlRefusal (countOf ps) ps g ws) (controls-none (countOf ps) g) (controls-place 0 [] ps ws (countOf ps) g)) v) u) (net-place m n g)
     where
       u : SurfaceFirst p q us vs ps ws (along 0 (knotRefusal p m us))

@@ -8,6 +8,15 @@ use borrow.Author.Tests.{eqb-true, eqb-false, eq-eqb, ne-eqb}
 use Rattle.knots.specs.Refusal.{orElse}
 use Rattle.knots.specs.declared.refusal.Refusal.{Refusal}
 
+-- a fact of a row where it applies, and of what is asked behind it where it does not
+pub row-either : (P : Refusal → Type 0) (b : Bool) (x y : Refusal) → (b ≡ true → P x) → (b ≡ false → P y) → P (cond b x y)
+row-either P true x y X Y = X refl
+row-either P false x y X Y = Y refl
+
+-- the same where both have it in any case
+pub row-both : (P : Refusal → Type 0) (b : Bool) (x y : Refusal) → P x → P y → P (cond b x y)
+row-both P b x y X Y = row-either P b x y (λ _. X) (λ _. Y)
+
 -- where nothing is refused, a row above has not applied
 pub passed : (b : Bool) (r x : Refusal) → (r .number ≡ 0 → ⊥) → cond b r x .number ≡ 0 → (b ≡ false) × (x .number ≡ 0)
 passed true r x n h = absurd (n h)

@@ -52,10 +52,10 @@ fn control_placed(number: u32, points: &[f64], weights: &[f64]) -> Refusal
     ensures { λ r. ⌜ r ≡ controlPlaced number (now (points .entry)) (now (weights .entry)) ⌝ }
 {
     if number == 8 {
-        return refuse_at(8, non_finite_at(points) / 3);
+        return refuse_at(number, non_finite_at(points) / 3);
     }
     if number == 10 {
-        return refuse_at(10, bad_weight_at(weights));
+        return refuse_at(number, bad_weight_at(weights));
     }
     refuse(number)
 }

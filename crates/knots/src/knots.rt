@@ -105,21 +105,17 @@ pub fn knot_placed(number: u32, degree: usize, knots: &[f64]) -> Refusal
     ensures { λ r. ⌜ r ≡ knotPlaced number degree (now (knots .entry)) ⌝ }
 {
     if number == 4 {
-        return refuse_at(4, unordered_at(knots));
+        return refuse_at(number, unordered_at(knots));
     }
     if number == 7 {
-        return refuse_at(7, repeated_at(knots, degree));
+        return refuse_at(number, repeated_at(knots, degree));
     }
     refuse(number)
 }
 
-// The refusal of a knot run, for any degree and count. Where there is none, no place is asked for.
+// The refusal of a knot run, for any degree and count.
 pub fn knot_refusal(degree: usize, count: usize, knots: &[f64]) -> Refusal
     ensures { λ r. ⌜ r ≡ knotRefusal degree count (now (knots .entry)) ⌝ }
 {
-    let number = knot_number(degree, count, knots);
-    if number == 0 {
-        return refuse(0);
-    }
-    knot_placed(number, degree, knots)
+    knot_placed(knot_number(degree, count, knots), degree, knots)
 }

@@ -71,11 +71,10 @@ pub fn unordered_at(xs: &[f64]) -> usize
     ensures { λ r. ⌜ r ≡ unorderedAt (now (xs .entry)) ⌝ }
 {
     let non_finite = non_finite_at(xs);
-    let fall = first_pair(xs, 1, false);
     if non_finite < xs.len() {
         return non_finite;
     }
-    fall
+    first_pair(xs, 1, false)
 }
 
 // Of 7: the first knot that is at least the one degree + 1 places further on.

@@ -17,7 +17,9 @@ refuse-at-requires c κs = search needs
 
 returns : tie.Need-returns
 unfolding controlPlaced
-returns c = c .refuse-at .ensures ∙ (ap (λ (k : ℕ). placed (k / 3) (numbered 8)) (c .before .non-finite-at .ensures) ∙ simp (eq-eqb _ 8 (c .before .before .if1 .taken)))
+returns c =
+    let number = c .before .before .before .before .before .args .number in
+    c .refuse-at .ensures ∙ (ap (λ (k : ℕ). placed (k / 3) (numbered number)) (c .before .non-finite-at .ensures) ∙ simp (eq-eqb _ 8 (c .before .before .if1 .taken)))
 
 bad-weight-at-requires : tie.Need-bad-weight-at-requires
 bad-weight-at-requires c κs = search needs
@@ -28,9 +30,10 @@ refuse-at-requires-2 c κs = search needs
 returns-2 : tie.Need-returns-2
 unfolding controlPlaced
 returns-2 c =
+    let number = c .before .before .before .before .before .before .args .number in
     let other = ne-eqb _ 8 (c .before .before .before .if1 .left) in
     let this = eq-eqb _ 10 (c .before .before .if2 .taken) in
-    c .refuse-at2 .ensures ∙ (ap (λ (k : ℕ). placed k (numbered 10)) (c .before .bad-weight-at .ensures) ∙ simp (other, this))
+    c .refuse-at2 .ensures ∙ (ap (λ (k : ℕ). placed k (numbered number)) (c .before .bad-weight-at .ensures) ∙ simp (other, this))
 
 refuse-requires : tie.Need-refuse-requires
 refuse-requires c κs = search needs

@@ -17,7 +17,9 @@ refuse-at-requires c κs = search needs
 
 returns : tie.Need-returns
 unfolding knotPlaced
-returns c = c .refuse-at .ensures ∙ (ap (λ (k : ℕ). placed k (numbered 4)) (c .before .unordered-at .ensures) ∙ simp (eq-eqb _ 4 (c .before .before .if1 .taken)))
+returns c =
+    let number = c .before .before .before .before .args .number in
+    c .refuse-at .ensures ∙ (ap (λ (k : ℕ). placed k (numbered number)) (c .before .unordered-at .ensures) ∙ simp (eq-eqb _ 4 (c .before .before .if1 .taken)))
 
 repeated-at-requires : tie.Need-repeated-at-requires
 repeated-at-requires c κs = search needs
@@ -28,9 +30,10 @@ refuse-at-requires-2 c κs = search needs
 returns-2 : tie.Need-returns-2
 unfolding knotPlaced
 returns-2 c =
+    let number = c .before .before .before .before .before .args .number in
     let other = ne-eqb _ 4 (c .before .before .before .if1 .left) in
     let this = eq-eqb _ 7 (c .before .before .if2 .taken) in
-    c .refuse-at2 .ensures ∙ (ap (λ (k : ℕ). placed k (numbered 7)) (c .before .repeated-at .ensures) ∙ simp (other, this))
+    c .refuse-at2 .ensures ∙ (ap (λ (k : ℕ). placed k (numbered number)) (c .before .repeated-at .ensures) ∙ simp (other, this))
 
 refuse-requires : tie.Need-refuse-requires
 refuse-requires c κs = search needs
