@@ -19,18 +19,22 @@ static const char *part(uint32_t number)
     return number == 4 || number == 7 ? "knot" : number == 8 ? "point" : number == 10 ? "weight" : NULL;
 }
 
-static bool done(const char *call, uint64_t returned)
+static bool is_none(const char *call, uint32_t number, size_t place)
 {
-    uint32_t number = TASULOGI_REFUSAL(returned);
     if (number == TASULOGI_DONE) {
         return true;
     }
     printf("%s: refusal %u", call, (unsigned)number);
     if (part(number) != NULL) {
-        printf(" at %s %zu", part(number), TASULOGI_PLACE(returned));
+        printf(" at %s %zu", part(number), place);
     }
     printf(", class %c: %s\n", "IDUCN?"[tasulogi_class_of(number)], tasulogi_refusal_text(number));
     return false;
+}
+
+static bool done(const char *call, uint64_t returned)
+{
+    return is_none(call, TASULOGI_REFUSAL(returned), TASULOGI_PLACE(returned));
 }
 
 /* The exact lift at every angle from lo to hi lies between the two ends; a shorter range has a narrower box. */
@@ -67,9 +71,11 @@ int main(void)
         return 1;
     }
     uint64_t span = tasulogi_find_span(DEGREE, COUNT, knots, KNOTS, 120.0);
+    if (!is_none("find_span", TASULOGI_SPAN_REFUSAL(span), TASULOGI_SPAN_PLACE(span))) {
+        return 1;
+    }
     double at[6];
-    /* find_span has number and place the other way round. */
-    if (!done("find_span", span >> 32 | span << 32) || !done("eval", tasulogi_eval(CAM, 120.0, at, 6))) {
+    if (!done("eval", tasulogi_eval(CAM, 120.0, at, 6))) {
         return 1;
     }
     printf("at 120 degrees, span %u: lift %.17g mm, rising %.17g mm per degree\n", (unsigned)span, at[1], at[4]);

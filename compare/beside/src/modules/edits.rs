@@ -5,10 +5,11 @@ mod calls;
 use super::answered::{Asked, Wanted, compared};
 use super::{Desk, Module, joined};
 use crate::rng::Rng;
-use crate::tables::FEATURES;
 use crate::tables::make::Care;
+use crate::tables::{FEATURES, Refused};
 use crate::tally::{Call, Place};
 use calls::{Case, Edit};
+use oracle::noting;
 
 /// By row: elevation takes a curve apart at each knot, so few of its curves are steep.
 const CARE: [Care; 3] = [
@@ -24,10 +25,14 @@ const CALLS: [(&str, &[u32]); 3] = [
 ];
 
 /// The last of FEATURES is of surfaces alone: these stand in its place and behind it.
-const OWN: [&str; 11] = [
-    "insertion's formed curve refused by 8",
-    "trim's by 8",
-    "elevation's by 8",
+/// No 8 is at the front: the first point of an edit's formed curve is its reference again.
+const OWN: [&str; 14] = [
+    "insertion's formed curve refused by 8 before the end",
+    "insertion's by 8 at the end",
+    "trim's by 8 before the end",
+    "trim's by 8 at the end",
+    "elevation's by 8 before the end",
+    "elevation's by 8 at the end",
     "trim at a full break",
     "trim at an inner knot",
     "trim between knots",
@@ -56,6 +61,7 @@ fn case(place: Place, desk: &mut Desk) -> Option<String> {
     let row = ((place.block + place.case) % 3) as usize;
     let case = match place.block {
         0 if row == 2 && place.case < 18 => Case::fixed((place.case / 3) as usize),
+        0 if (18..21).contains(&place.case) => Case::brim(row),
         _ => Case::made(&mut desk.r, row),
     };
     case.table.features(&mut desk.tally.features);
@@ -77,9 +83,16 @@ fn case(place: Place, desk: &mut Desk) -> Option<String> {
     Some(format!("{}\n  Rust literal:  {}\n{text}", CALLS[row].0, case.literal()))
 }
 
+/// Whether 8 is at the last point of the curve that the Rust formed last.
+fn is_last(r: &Refused) -> bool {
+    3 * (r.place as usize + 1) == noting::formed().len()
+}
+
 /// Counts what OWN names, in a case that is answered.
 fn seen(case: &Case, row: usize, want: &Wanted, own: &mut [u64]) {
-    own[row] += matches!(want, Wanted::Formed(r) if r.number == 8) as u64;
+    if let Wanted::Formed(r @ Refused { number: 8, .. }) = want {
+        own[2 * row + is_last(r) as usize] += 1;
+    }
     let Wanted::Runs(_) = want else { return };
     let (p, n) = (case.table.degree, case.table.count());
     match &case.edit {
@@ -88,17 +101,17 @@ fn seen(case: &Case, row: usize, want: &Wanted, own: &mut [u64]) {
             let (a, b) = (case.table.knots[p], case.table.knots[n]);
             let inner =
                 |test: &dyn Fn(usize) -> bool| [lo, hi].iter().any(|x| **x > a && **x < b && test(case.times(**x))) as u64;
-            own[3] += inner(&|times| times > p);
-            own[4] += inner(&|times| times > 0 && times <= p);
-            own[5] += inner(&|times| times == 0);
-            own[6] += ((*lo == a) != (*hi == b)) as u64;
-            own[7] += (*lo == a && *hi == b) as u64;
+            own[6] += inner(&|times| times > p);
+            own[7] += inner(&|times| times > 0 && times <= p);
+            own[8] += inner(&|times| times == 0);
+            own[9] += ((*lo == a) != (*hi == b)) as u64;
+            own[10] += (*lo == a && *hi == b) as u64;
             let other = |x: f64| x == 0.0 && case.table.knots.iter().any(|k| *k == 0.0 && k.to_bits() != x.to_bits());
-            own[8] += (other(*lo) || other(*hi)) as u64;
+            own[11] += (other(*lo) || other(*hi)) as u64;
         }
         Edit::Elevate(e) => {
-            own[9] += (*e > p && case.breaks().iter().any(|b| case.times(*b) > p)) as u64;
-            own[10] += (*e == p) as u64;
+            own[12] += (*e > p && case.breaks().iter().any(|b| case.times(*b) > p)) as u64;
+            own[13] += (*e == p) as u64;
         }
     }
 }

@@ -66,7 +66,7 @@ fn net() -> Surface {
     }
 }
 
-/// Whether the Rust that notes points forms the Rust's: the last of two insertions, an elevation, both
+/// Whether the Rust that notes points forms the Rust's: the last of two insertions, an elevation, with weights too, both
 /// isocurves. A trim forms no points but those of its insertions.
 fn notes() -> bool {
     macro_rules! same {
@@ -77,8 +77,8 @@ fn notes() -> bool {
         }};
     }
     let (a, net) = (on_x(2, &TABLE_A), net());
-    same!(a, insert_knots(&[0.5, 1.0]))
-        && same!(a, elevate_degree(4))
+    let weighted = Curve { rational: true, weights: vec![1.0, 3.0, 0.5, 2.0], ..a.clone() };
+    [a, weighted].iter().all(|c| same!(c, insert_knots(&[0.5, 1.0])) && same!(c, elevate_degree(4)))
         && same!(net, iso_curve(true, 0.25))
         && same!(net, iso_curve(false, 0.5))
 }

@@ -73,6 +73,20 @@ impl Case {
         Self { table: Curve { degree: 1, knots, points, rational: true, weights }, edit }
     }
 
+    /// A line whose last point, formed again, overflows: over its weight the distance from the first is a double more.
+    pub fn brim(row: usize) -> Self {
+        let points = vec![2f64.powi(1020), 0.0, 0.0, f64::MAX, 0.0, 0.0];
+        let edit = match row {
+            0 => Edit::Insert(vec![0.5]),
+            1 => Edit::Trim(0.0, 0.5),
+            _ => Edit::Elevate(2),
+        };
+        Self {
+            table: Curve { degree: 1, knots: vec![0.0, 0.0, 1.0, 1.0], points, rational: true, weights: vec![5.0, 1.0] },
+            edit,
+        }
+    }
+
     /// Document 01's degrees about the limit of 64, from a curve of one span.
     pub fn fixed(at: usize) -> Self {
         let (degree, raised) = [(65, 65), (65, 66), (65, 64), (64, 64), (64, 65), (63, 64)][at];
