@@ -19,7 +19,8 @@ static const char *part(uint32_t number)
     return number == 4 || number == 7 ? "knot" : number == 8 ? "point" : number == 10 ? "weight" : NULL;
 }
 
-static bool is_none(const char *call, uint32_t number, size_t place)
+/* Whether a call passed; where it did not, its refusal is printed. */
+static bool passed(const char *call, uint32_t number, size_t place)
 {
     if (number == TASULOGI_DONE) {
         return true;
@@ -34,7 +35,7 @@ static bool is_none(const char *call, uint32_t number, size_t place)
 
 static bool done(const char *call, uint64_t returned)
 {
-    return is_none(call, TASULOGI_REFUSAL(returned), TASULOGI_PLACE(returned));
+    return passed(call, TASULOGI_REFUSAL(returned), TASULOGI_PLACE(returned));
 }
 
 /* The exact lift at every angle from lo to hi lies between the two ends; a shorter range has a narrower box. */
@@ -71,7 +72,7 @@ int main(void)
         return 1;
     }
     uint64_t span = tasulogi_find_span(DEGREE, COUNT, knots, KNOTS, 120.0);
-    if (!is_none("find_span", TASULOGI_SPAN_REFUSAL(span), TASULOGI_SPAN_PLACE(span))) {
+    if (!passed("find_span", TASULOGI_SPAN_REFUSAL(span), TASULOGI_SPAN_PLACE(span))) {
         return 1;
     }
     double at[6];

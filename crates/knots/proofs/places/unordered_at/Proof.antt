@@ -1,6 +1,6 @@
 -- `knots::places::unordered_at` meets its contract: a fall is said only where all numbers are finite.
 -- Assumes nothing.
-use mathlib.Core.Path.{subst}
+use mathlib.Core.Path.{sym, subst}
 use Prim.Native.Nat.{ℕ, _≤_, _<_}
 use native.Mathlib.Omega.{arith}
 use denote.Ref.{now}
@@ -9,7 +9,7 @@ use lib.Ieee.Scale.{finite}
 use borrow.Author.Needs.{needs}
 use Rattle.doubles.specs.Run.{at}
 use Rattle.knots.specs.Knots.{allFinite, unorderedAt}
-use Rattle.knots.proofs.Below.{off-within, off-end}
+use Rattle.knots.proofs.Below.{off-within, off-below, off-end}
 use Rattle.knots.proofs.places.unordered_at.Statement.{statement}
 use Rattle.knots.proofs.places.unordered_at.Tie as tie
 
@@ -21,6 +21,7 @@ unfolding unorderedAt allFinite
 returns c =
     let xs = now (c .before .before .before .args .xs) in
     let h = c .before .non-finite-at .ensures in
+    let below = subst (λ (i : ℕ). i ≤ length xs) (sym h) (off-below (λ k. finite (at xs k)) (length xs)) in
     rw (off-within (λ k. finite (at xs k)) (length xs) (subst (λ (i : ℕ). i < length xs) h (omega arith))) h
 
 first-pair-requires : tie.Need-first-pair-requires
