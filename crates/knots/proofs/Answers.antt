@@ -1,7 +1,7 @@
 -- The parameter that is looked up, and the answers of `span_of` and `find_span`: any two that the contract permits coincide.
 -- Assumes nothing.
 use Prim.Native.Nat.{ℕ, _-_, _≤_, _<_}
-use mathlib.Core.Bool.{Bool, true, false, not, cond}
+use mathlib.Core.Bool.{Bool, true, false, not, cond, _&&_}
 use mathlib.Core.Path.{_≡_, refl, sym, _∙_, ap, subst}
 use mathlib.Core.List.{List}
 use native.Mathlib.Omega.{arith}
@@ -11,16 +11,17 @@ use lib.Ieee.{Float, nan, inf, fin, lt}
 use lib.Ieee.Scale.{finite}
 use borrow.Author.Tests.{eq-eqb, le-leb, lt-leb, not-false}
 use Rattle.doubles.specs.Run.{at}
-use Rattle.knots.specs.Refusal.{refuse, accepted, length-bad, parameter-not-finite}
+use Rattle.knots.specs.Refusal.{refuse, accepted, length-bad, parameter-not-finite, parameter-outside}
 use Rattle.knots.specs.Knots.{ValidKnots, knotRefusal}
 use Rattle.knots.specs.Curve.{overLong}
-use Rattle.knots.specs.Span.{SpanAt, SpanFound, SpanMeets, clamped, nonempty, halved, lastNonempty, searched, spanRefusal, spanAnswer}
+use Rattle.knots.specs.Span.{SpanAt, SpanFound, SpanMeets, outside, clamped, refusing, clamping, domainRefusal, nonempty, halved, lastNonempty, searched, spanRefusal, spanAnswer}
 use Rattle.knots.specs.declared.span.SpanAnswer.{SpanAnswer}
 use Rattle.knots.specs.declared.span.SpanAnswer.the-variants.{Span, Refused}
 use Rattle.doubles.proofs.TestedOrder.{lt-irrefl, lt-asym}
 use Rattle.knots.proofs.Last.{last-none}
 use Rattle.knots.proofs.Refusals.{passed, orElse-none, stop}
 use Rattle.knots.proofs.Valid.{valid}
+use Rattle.knots.proofs.Curves.{or-false}
 use Rattle.knots.proofs.Spans.{finite-at, search-meets, span-is}
 
 -- ---- past the end of a run stands a NaN, which is neither below nor above
@@ -57,6 +58,20 @@ module _ (p n : ℕ) (ks : List Float) (u : Float) where
   unfolding clamped
   clamp-in g h = simp (g, h)
 
+  -- ---- outside the domain: below its lower end, else above its upper one
+  pub outside-low : lt u (at ks p) ≡ true → true ≡ outside p n ks u
+  unfolding outside
+  outside-low h = simp h
+
+  pub outside-high : lt u (at ks p) ≡ false → lt (at ks n) u ≡ outside p n ks u
+  unfolding outside
+  outside-high h = simp h
+
+  -- a parameter that is not outside is looked up as it is
+  pub inside-same : outside p n ks u ≡ false → clamped p n ks u ≡ u
+  unfolding outside
+  inside-same h = let o = or-false (lt u (at ks p)) _ h in sym (clamp-in (o .0) (o .1))
+
   module _ (v : ValidKnots p n ks) (U : finite u ≡ true) where
     -- it is finite and not below the domain
     pub clamped-in : (finite (clamped p n ks u) ≡ true) × (lt (clamped p n ks u) (at ks p) ≡ false)
@@ -85,26 +100,62 @@ module _ (p n : ℕ) (ks : List Float) (u : Float) where
         meets = λ v U. let w = clamped-in v U in subst (SpanAt p n ks (clamped p n ks u)) (sym e) (search-meets p n ks v (clamped p n ks u) (w .0) (w .1));
       }
 
+  -- ---- the refusal of a parameter
+  module _ (c : Bool) where
+    pub domain-open : domainRefusal c p n ks u .number ≡ 0 → (finite u ≡ true) × ((not c && outside p n ks u) ≡ false)
+    unfolding domainRefusal
+    domain-open h =
+        let a = passed (not (finite u)) (refuse parameter-not-finite) _ (λ e. omega arith) h in
+        let b = passed (not c && outside p n ks u) (refuse parameter-outside) accepted (λ e. omega arith) (a .1) in
+        (not-false (finite u) (a .0), b .0)
+
+    -- the parameter that an answer speaks of is the one that is looked up
+    pub spoken : (not c && outside p n ks u) ≡ false → cond c (clamped p n ks u) u ≡ clamped p n ks u
+    spoken = go c
+      where
+        go : (c : Bool) → (not c && outside p n ks u) ≡ false → cond c (clamped p n ks u) u ≡ clamped p n ks u
+        go true h = refl
+        go false h = sym (inside-same h)
+
+    pub spoken-span : (not c && outside p n ks u) ≡ false → (s : ℕ) → SpanAt p n ks (clamped p n ks u) s → SpanAt p n ks (cond c (clamped p n ks u) u) s
+    spoken-span h s = subst (λ (v : Float). SpanAt p n ks v s) (sym (spoken h))
+
+  -- where a parameter is not outside, both modes refuse alike; where it is, one refuses it by 43 that the other takes
+  pub modes-same : outside p n ks u ≡ false → domainRefusal refusing p n ks u ≡ domainRefusal clamping p n ks u
+  unfolding domainRefusal
+  modes-same h = simp h
+
+  pub outside-refused : domainRefusal clamping p n ks u .number ≡ 0 → outside p n ks u ≡ true → domainRefusal refusing p n ks u ≡ refuse parameter-outside
+  unfolding domainRefusal
+  outside-refused h o = simp (passed (not (finite u)) (refuse parameter-not-finite) accepted (λ e. omega arith) h .0, o)
+
   -- ---- find_span
-  pub unrefused : spanRefusal p n ks u .number ≡ 0 → ValidKnots p n ks × (finite u ≡ true)
-  unfolding spanRefusal
-  unrefused h =
-      let a = passed (overLong true ks) (refuse length-bad) _ (λ e. omega arith) h in
-      let b = orElse-none (knotRefusal p n ks) _ (a .1) in
-      let c = passed (not (finite u)) (refuse parameter-not-finite) accepted (λ e. omega arith) (b .1) in
-      (valid p n ks (b .0), not-false (finite u) (c .0))
+  module _ (c : Bool) where
+    pub unrefused : spanRefusal c p n ks u .number ≡ 0 → ValidKnots p n ks × (finite u ≡ true) × ((not c && outside p n ks u) ≡ false)
+    unfolding spanRefusal
+    unrefused h =
+        let a = passed (overLong true ks) (refuse length-bad) _ (λ e. omega arith) h in
+        let b = orElse-none (knotRefusal p n ks) (domainRefusal c p n ks u) (a .1) in
+        let d = domain-open c (b .1) in
+        (valid p n ks (b .0), d .0, d .1)
 
-  -- an answer that the contract permits is the computed one
-  pub answer-is : (a : SpanAnswer) → SpanMeets p n ks u a → a ≡ spanAnswer p n ks u
-  unfolding spanAnswer
-  answer-is (Span s) x =
-      let q = unrefused (x .0) in
-      let w = clamped-in (q .0) (q .1) in
-      simp (eq-eqb (spanRefusal p n ks u .number) 0 (x .0)) (ap Span (span-is p n ks (q .0) (clamped p n ks u) s (w .0) (x .1)))
-  answer-is (Refused r) x = simp (stop (sym (x .0)) (x .1)) (ap Refused (sym (x .0)))
+    -- an answer that the contract permits is the computed one
+    pub answer-is : (a : SpanAnswer) → SpanMeets c p n ks u a → a ≡ spanAnswer c p n ks u
+    unfolding spanAnswer
+    answer-is (Span s) x =
+        let q = unrefused (x .0) in
+        let w = clamped-in (q .0) (q .1) in
+        let m = subst (λ (v : Float). SpanAt p n ks v s) (spoken c (q .2)) (x .1) in
+        simp (eq-eqb (spanRefusal c p n ks u .number) 0 (x .0)) (ap Span (span-is p n ks (q .0) (clamped p n ks u) s (w .0) m))
+    answer-is (Refused r) x = simp (stop (sym (x .0)) (x .1)) (ap Refused (sym (x .0)))
 
-  pub answer-unique : (a b : SpanAnswer) → SpanMeets p n ks u a → SpanMeets p n ks u b → a ≡ b
-  answer-unique a b x y = answer-is a x ∙ sym (answer-is b y)
+    pub answer-unique : (a b : SpanAnswer) → SpanMeets c p n ks u a → SpanMeets c p n ks u b → a ≡ b
+    answer-unique a b x y = answer-is a x ∙ sym (answer-is b y)
+
+  -- where the parameter is not outside, both modes answer alike
+  pub span-inside-same : outside p n ks u ≡ false → spanAnswer refusing p n ks u ≡ spanAnswer clamping p n ks u
+  unfolding spanAnswer spanRefusal
+  span-inside-same h = simp (modes-same h)
 
 -- ---- the search where no place is tested
 module _ (p n : ℕ) (ks : List Float) (w : Float) where

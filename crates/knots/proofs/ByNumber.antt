@@ -13,7 +13,7 @@ use Rattle.knots.specs.Refusal.{numbered}
 use Rattle.knots.specs.Knots.{allFinite, ordered, apart, orderRefusal, knotRefusal}
 use Rattle.knots.specs.Curve.{overLong, anyLong, allWeights, countOf, controlRefusal}
 use Rattle.knots.specs.Surface.{netRefusal}
-use Rattle.knots.specs.Span.{spanRefusal}
+use Rattle.knots.specs.Span.{outside, domainRefusal, spanRefusal}
 use Rattle.knots.specs.Placed.{knotPlaced, controlPlaced}
 use Rattle.knots.specs.declared.refusal.Refusal.{Refusal}
 use Rattle.knots.proofs.Refusals.{row-both}
@@ -43,12 +43,13 @@ net-told us vs m n ps g ws e =
     ap numbered e ∙ row-both (Told numbered) (overLong true us || anyLong vs ps g ws) _ _ refl
     (row-both (Told numbered) (not (eqb (length ps % 3) 0)) _ _ refl (row-both (Told numbered) (not (eqb (countOf ps) (m * n))) _ _ refl refl))
 
-pub span-told : (p n : ℕ) (ks : List Float) (u : Float) {k : ℕ} → k ≡ spanRefusal p n ks u .number → knotPlaced k p ks ≡ spanRefusal p n ks u
-unfolding spanRefusal knotPlaced
-span-told p n ks u e =
+pub span-told : (c : Bool) (p n : ℕ) (ks : List Float) (u : Float) {k : ℕ} → k ≡ spanRefusal c p n ks u .number → knotPlaced k p ks ≡ spanRefusal c p n ks u
+unfolding spanRefusal domainRefusal knotPlaced
+span-told c p n ks u e =
     let f : ℕ → Refusal = λ k. knotPlaced k p ks in
     ap f e ∙ row-both (Told f) (overLong true ks) _ _ refl
-    (row-both (Told f) (eqb (knotRefusal p n ks .number) 0) _ _ (row-both (Told f) (not (finite u)) _ _ refl refl) (knot-own p n ks))
+    (row-both (Told f) (eqb (knotRefusal p n ks .number) 0) _ _
+    (row-both (Told f) (not (finite u)) _ _ refl (row-both (Told f) (not c && outside p n ks u) _ _ refl refl)) (knot-own p n ks))
 
 pub control-told : (n : ℕ) (ps : List Float) (g : Bool) (ws : List Float) {k : ℕ} → k ≡ controlRefusal n ps g ws .number → controlPlaced k ps ws ≡ controlRefusal n ps g ws
 unfolding controlRefusal controlPlaced

@@ -38,6 +38,6 @@ past b n (r ∷ rs) l t =
     let h = leb-true (row r .0) b (and-left (leb (row r .0) b) (upTo b rs) t) in
     simp (ne-eqb n (row r .0) (λ e. omega arith)) (past b n rs l (and-right (leb (row r .0) b) (upTo b rs) t))
 
-pub above : (n : ℕ) → 33 < n → no-class ≡ classOf n
+pub above : (n : ℕ) → 54 < n → no-class ≡ classOf n
 unfolding classOf
-above n l = sym (past 33 n reasons l refl)
+above n l = sym (past 54 n reasons l refl)

@@ -17,7 +17,7 @@ use Rattle.knots.specs.Below.{offAt}
 use Rattle.knots.specs.Refusal.{numbered, refuse, placed, along, knots-unordered, knot-repeated, point-not-finite, weight-bad}
 use Rattle.knots.specs.Knots.{finiteAt, risesAt, apartAt, allFinite, inOrder, ordered, apart, nonFiniteAt, unorderedAt, repeatedAt, orderRefusal, knotRefusal}
 use Rattle.knots.specs.Curve.{overLong, anyLong, countOf, isWeight, isWeightAt, allWeights, badWeightAt, controlRefusal, formedRefusal, curveRefusal}
-use Rattle.knots.specs.Span.{spanRefusal}
+use Rattle.knots.specs.Span.{outside, domainRefusal, spanRefusal}
 use Rattle.knots.specs.Surface.{netRefusal, surfaceRefusal}
 use Rattle.knots.specs.declared.refusal.Refusal.{Refusal}
 use Rattle.knots.proofs.Below.{first-off, off-below, all-at, and-left, and-right, and-rest}
@@ -196,12 +196,13 @@ module _ (p : ℕ) (ks ps ws : List Float) where
       (λ _. row-either (PlaceFirst p ks ps ws) (not (eqb (length ps % 3) 0)) _ _ (λ _. other 32 refl refl refl refl) (λ _. formed-place (countOf ps) g))
 
   -- of find_span's refusal
-  pub span-place : (n : ℕ) (u : Float) → PlaceFirst p ks ps ws (spanRefusal p n ks u)
-  unfolding spanRefusal
-  span-place n u =
-      row-either (PlaceFirst p ks ps ws) (overLong true ks) _ _ (λ _. other 30 refl refl refl refl)
-      (λ _. row-either (PlaceFirst p ks ps ws) (eqb (knotRefusal p n ks .number) 0) _ _
-      (λ _. row-either (PlaceFirst p ks ps ws) (not (finite u)) _ _ (λ _. other 12 refl refl refl refl) (λ _. other 0 refl refl refl refl)) (λ _. knots-place n))
+  pub span-place : (c : Bool) (n : ℕ) (u : Float) → PlaceFirst p ks ps ws (spanRefusal c p n ks u)
+  unfolding spanRefusal domainRefusal
+  span-place c n u =
+      row-both (PlaceFirst p ks ps ws) (overLong true ks) _ _ (other 30 refl refl refl refl)
+      (row-both (PlaceFirst p ks ps ws) (eqb (knotRefusal p n ks .number) 0) _ _
+      (row-both (PlaceFirst p ks ps ws) (not (finite u)) _ _ (other 12 refl refl refl refl)
+      (row-both (PlaceFirst p ks ps ws) (not c && outside p n ks u) _ _ (other 43 refl refl refl refl) (other 0 refl refl refl refl))) (knots-place n))
 
 -- ---- of a surface's refusal: along u and v the place is in that direction's knots; where there is no direction, neither 4 nor 7 is given
 pub record SurfaceFirst (p q : ℕ) (us vs ps ws : List Float) (r : Refusal) : Type 0 where

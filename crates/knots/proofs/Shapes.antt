@@ -1,4 +1,4 @@
--- What no refusal by the runs' lengths, of the degree, a parameter or a room says; and that a valid curve has none. Assumes nothing.
+-- What no refusal by the runs' lengths, of the degree or a room says; and that a valid curve has none. Assumes nothing.
 use Prim.Native.Nat.{ℕ, zero, suc, _+_, _*_, _%_, _≤_, _<_}
 use mathlib.Core.Bool.{Bool, true, false, not, cond, _&&_}
 use mathlib.Core.Path.{_≡_, refl}
@@ -7,12 +7,11 @@ use native.Mathlib.Omega.{arith}
 use lib.ListN.{length}
 use lib.Dec.{leb, ltb, eqb}
 use lib.Ieee.{Float}
-use lib.Ieee.Scale.{finite}
 use borrow.Author.Tests.{ltb-false, leb-false, lt-leb, le-ltb, eqb-true, eqb-false, eq-eqb, ne-eqb, not-false}
-use Rattle.knots.specs.Refusal.{refuse, accepted, degree-zero, few-points, knot-count, weight-count, parameter-not-finite, length-bad, degree-high, points-uneven}
+use Rattle.knots.specs.Refusal.{refuse, accepted, degree-zero, few-points, knot-count, weight-count, length-bad, degree-high, points-uneven}
 use Rattle.knots.specs.Knots.{ValidKnots}
 use Rattle.knots.specs.Curve.{countOf, ValidCurve}
-use Rattle.knots.specs.Shape.{degreeRefusal, finiteRefusal, roomRefusal, weightShape, knotShape, curveShape}
+use Rattle.knots.specs.Shape.{degreeRefusal, roomRefusal, weightShape, knotShape, curveShape}
 use Rattle.knots.proofs.Refusals.{passed, orElse-none}
 use Rattle.knots.proofs.Curves.{thirds, given, not-given}
 
@@ -28,18 +27,6 @@ degree-open p h = ltb-false 64 p (passed (ltb 64 p) (refuse degree-high) accepte
 pub degree-none : (p : ℕ) → p ≤ 64 → degreeRefusal p ≡ accepted
 unfolding degreeRefusal
 degree-none p h = simp (le-ltb 64 p h)
-
-pub finite-open : (t : Float) → finiteRefusal t .number ≡ 0 → finite t ≡ true
-unfolding finiteRefusal
-finite-open t = go (finite t)
-  where
-    go : (b : Bool) → cond b accepted (refuse parameter-not-finite) .number ≡ 0 → b ≡ true
-    go true h = refl
-    go false h = absurd (omega arith)
-
-pub finite-none : (t : Float) → finite t ≡ true → finiteRefusal t ≡ accepted
-unfolding finiteRefusal
-finite-none t h = simp h
 
 pub room-open : (a n : ℕ) → roomRefusal a n .number ≡ 0 → n ≤ a
 unfolding roomRefusal

@@ -12,7 +12,7 @@ pub data Reason : Type 0 where
   knot-outside knot-full trim-bad degree-lowered ends-unclamped elevation-high control-bad edit-bad : Reason
   second-not-finite iso-outside iso-weight-bad : Reason
   range-bad range-in-no-span denominator-zero weight-ratio-low quotient-none weights-apart : Reason
-  length-bad degree-high points-uneven record-malformed : Reason
+  length-bad degree-high points-uneven record-malformed parameter-outside : Reason
 
 -- the classes: invalid, degenerate, unimplemented, capacity, internal; and none, of a number that is no refusal
 abbrev pub I : ℕ
@@ -68,6 +68,7 @@ row length-bad = (30, C)
 row degree-high = (31, C)
 row points-uneven = (32, I)
 row record-malformed = (33, I)
+row parameter-outside = (43, I)
 
 abbrev pub reasons : List Reason
 reasons =
@@ -75,7 +76,8 @@ reasons =
     ∷ point-not-finite ∷ weight-count ∷ weight-bad ∷ net-size ∷ parameter-not-finite ∷ knot-outside ∷ knot-full
     ∷ trim-bad ∷ degree-lowered ∷ ends-unclamped ∷ elevation-high ∷ control-bad ∷ edit-bad ∷ second-not-finite
     ∷ iso-outside ∷ iso-weight-bad ∷ range-bad ∷ range-in-no-span ∷ denominator-zero ∷ weight-ratio-low
-    ∷ quotient-none ∷ weights-apart ∷ length-bad ∷ degree-high ∷ points-uneven ∷ record-malformed ∷ []
+    ∷ quotient-none ∷ weights-apart ∷ length-bad ∷ degree-high ∷ points-uneven ∷ record-malformed
+    ∷ parameter-outside ∷ []
 
 -- the class of a number: that of the row which has it
 abbrev pub classIn : List Reason → ℕ → ℕ

@@ -1,4 +1,4 @@
--- Refusals that the lengths of the runs, the degree and the parameter show: no number of a run is read.
+-- Refusals that the lengths of the runs and the degree show: no number of a run is read.
 -- Assumes nothing.
 use Prim.Native.Nat.{ℕ, _+_, _*_, _%_}
 use mathlib.Core.Bool.{Bool, not, cond, _&&_}
@@ -6,17 +6,13 @@ use mathlib.Core.List.{List}
 use lib.ListN.{length}
 use lib.Dec.{ltb, leb, eqb}
 use lib.Ieee.{Float}
-use lib.Ieee.Scale.{finite}
-use Rattle.knots.specs.Refusal.{refuse, accepted, along, orElse, degree-zero, few-points, knot-count, weight-count, net-size, parameter-not-finite, length-bad, degree-high, points-uneven}
+use Rattle.knots.specs.Refusal.{refuse, accepted, along, orElse, degree-zero, few-points, knot-count, weight-count, net-size, length-bad, degree-high, points-uneven}
 use Rattle.knots.specs.Curve.{countOf}
 use Rattle.knots.specs.declared.refusal.Refusal.{Refusal}
 
--- 31, and 12
+-- 31
 unfoldable pub degreeRefusal : ℕ → Refusal
 degreeRefusal p = cond (ltb 64 p) (refuse degree-high) accepted
-
-unfoldable pub finiteRefusal : Float → Refusal
-finiteRefusal t = cond (finite t) accepted (refuse parameter-not-finite)
 
 -- 30 of a lent run of a numbers that is to hold n
 unfoldable pub roomRefusal : ℕ → ℕ → Refusal

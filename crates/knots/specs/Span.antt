@@ -1,7 +1,7 @@
 -- The span of a parameter, what the search for it finds on any knots, and the answer of `find_span`.
 -- Assumes nothing.
 use Prim.Native.Nat.{ℕ, zero, suc, _+_, _-_, _/_, _≤_, _<_}
-use mathlib.Core.Bool.{Bool, true, false, not, cond}
+use mathlib.Core.Bool.{Bool, true, false, not, cond, _&&_, _||_}
 use mathlib.Core.Path.{_≡_}
 use mathlib.Core.List.{List}
 use lib.ListN.{length}
@@ -9,16 +9,32 @@ use lib.Dec.{leb, eqb}
 use lib.Ieee.{Float, lt, le}
 use lib.Ieee.Scale.{finite}
 use Rattle.doubles.specs.Run.{at}
-use Rattle.knots.specs.Refusal.{refuse, accepted, orElse, length-bad, parameter-not-finite}
+use Rattle.knots.specs.Refusal.{refuse, accepted, orElse, length-bad, parameter-not-finite, parameter-outside}
 use Rattle.knots.specs.Knots.{knotRefusal, ValidKnots}
 use Rattle.knots.specs.Curve.{overLong}
 use Rattle.knots.specs.declared.refusal.Refusal.{Refusal}
 use Rattle.knots.specs.declared.span.SpanAnswer.{SpanAnswer}
 use Rattle.knots.specs.declared.span.SpanAnswer.the-variants.{Span, Refused}
 
+-- u lies outside the domain, as a number: an end with the other zero's sign does not
+unfoldable pub outside : ℕ → ℕ → List Float → Float → Bool
+outside p n ks u = lt u (at ks p) || lt (at ks n) u
+
 -- the parameter that is looked up: u, or the nearer end of the domain where u lies outside it
 unfoldable pub clamped : ℕ → ℕ → List Float → Float → Float
 clamped p n ks u = cond (lt u (at ks p)) (at ks p) (cond (lt (at ks n) u) (at ks n) u)
+
+-- the mode of a call: a parameter outside the domain is refused, or the nearer end is looked up
+abbrev pub refusing : Bool
+refusing = false
+
+abbrev pub clamping : Bool
+clamping = true
+
+-- of a parameter: 12, then 43 in the mode that refuses
+unfoldable pub domainRefusal : Bool → ℕ → ℕ → List Float → Float → Refusal
+domainRefusal c p n ks u =
+    cond (not (finite u)) (refuse parameter-not-finite) (cond (not c && outside p n ks u) (refuse parameter-outside) accepted)
 
 -- the knots of the place s differ
 abbrev pub nonempty : List Float → ℕ → Bool
@@ -62,22 +78,19 @@ pub record SpanFound (p n : ℕ) (ks : List Float) (u : Float) (s : ℕ) : Type 
   pub found : s ≡ searched p n ks (clamped p n ks u)
   pub meets : ValidKnots p n ks → finite u ≡ true → SpanAt p n ks (clamped p n ks u) s
 
--- ---- find_span
--- its refusals: 30, 1 to 7, 12, in this order
-unfoldable pub spanRefusal : ℕ → ℕ → List Float → Float → Refusal
-spanRefusal p n ks u =
-    cond (overLong true ks) (refuse length-bad)
-    (orElse (knotRefusal p n ks)
-    (cond (not (finite u)) (refuse parameter-not-finite) accepted))
+-- ---- find_span, by its mode
+-- its refusals: 30, 1 to 7, 12, 43, in this order
+unfoldable pub spanRefusal : Bool → ℕ → ℕ → List Float → Float → Refusal
+spanRefusal c p n ks u = cond (overLong true ks) (refuse length-bad) (orElse (knotRefusal p n ks) (domainRefusal c p n ks u))
 
--- what an answer of `find_span` says
-abbrev pub SpanMeets : ℕ → ℕ → List Float → Float → SpanAnswer → Type 0
-SpanMeets p n ks u (Span s) = (spanRefusal p n ks u .number ≡ 0) × SpanAt p n ks (clamped p n ks u) s
-SpanMeets p n ks u (Refused r) = (spanRefusal p n ks u ≡ r) × (r .number ≡ 0 → ⊥)
+-- what an answer says: the span is that of u itself, or of the parameter that is looked up
+abbrev pub SpanMeets : Bool → ℕ → ℕ → List Float → Float → SpanAnswer → Type 0
+SpanMeets c p n ks u (Span s) = (spanRefusal c p n ks u .number ≡ 0) × SpanAt p n ks (cond c (clamped p n ks u) u) s
+SpanMeets c p n ks u (Refused r) = (spanRefusal c p n ks u ≡ r) × (r .number ≡ 0 → ⊥)
 
 -- the one answer that it permits, computed
-unfoldable pub spanAnswer : ℕ → ℕ → List Float → Float → SpanAnswer
-spanAnswer p n ks u =
-    cond (eqb (spanRefusal p n ks u .number) 0)
+unfoldable pub spanAnswer : Bool → ℕ → ℕ → List Float → Float → SpanAnswer
+spanAnswer c p n ks u =
+    cond (eqb (spanRefusal c p n ks u .number) 0)
     (Span (spanOf p n ks (clamped p n ks u)))
-    (Refused (spanRefusal p n ks u))
+    (Refused (spanRefusal c p n ks u))

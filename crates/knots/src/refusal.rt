@@ -42,8 +42,8 @@ pub fn refuse_along(direction: u32, refusal: Refusal) -> Refusal
     }
 }
 
-// Invalid 0, degenerate 1, unimplemented 2, capacity 3, internal 4; 5 at 0, which is no refusal.
-const CLASS: [u8; 34] = [
+// Invalid 0, degenerate 1, unimplemented 2, capacity 3, internal 4; 5 at 0 and at each number that no call gives.
+const CLASS: [u8; 55] = [
     5,
     0,
     0,
@@ -78,13 +78,34 @@ const CLASS: [u8; 34] = [
     3,
     0,
     0,
+    5,
+    5,
+    5,
+    5,
+    5,
+    5,
+    5,
+    5,
+    5,
+    0,
+    5,
+    5,
+    5,
+    5,
+    5,
+    5,
+    5,
+    5,
+    5,
+    5,
+    5,
 ];
 
 // The class of a refusal number, and 5 for any other number.
 pub fn class_of(number: u32) -> u8
     ensures { λ r. ⌜ r ≡ classOf number ⌝ }
 {
-    if number > 33 {
+    if number > 54 {
         return 5;
     }
     CLASS[number as usize]

@@ -1,12 +1,11 @@
-// Refusals that the lengths of the runs, the degree and the parameter show: no number of a run is read.
+// Refusals that the lengths of the runs and the degree show: no number of a run is read.
 use crate::limits::is_product;
 use crate::limits::is_sum;
 use crate::refusal::Refusal;
 use crate::refusal::refuse;
 use crate::refusal::refuse_along;
-use interval::float::is_finite;
 ghost use mathlib.Core.Path.{_≡_};
-ghost use Rattle.knots.specs.Shape.{degreeRefusal, finiteRefusal, roomRefusal, weightShape, knotShape, curveShape, surfaceShape};
+ghost use Rattle.knots.specs.Shape.{degreeRefusal, roomRefusal, weightShape, knotShape, curveShape, surfaceShape};
 
 // 31
 pub fn degree_refusal(degree: usize) -> Refusal
@@ -16,16 +15,6 @@ pub fn degree_refusal(degree: usize) -> Refusal
         return refuse(31);
     }
     refuse(0)
-}
-
-// 12
-pub fn finite_refusal(t: f64) -> Refusal
-    ensures { λ r. ⌜ r ≡ finiteRefusal t ⌝ }
-{
-    if is_finite(t) {
-        return refuse(0);
-    }
-    refuse(12)
 }
 
 // 30: a lent run of so many numbers is smaller than what it must hold.

@@ -3,16 +3,48 @@ use crate::knots::knot_number;
 use crate::knots::knot_placed;
 use crate::limits::over_long;
 use crate::refusal::Refusal;
+use crate::refusal::refuse;
 use interval::float::is_finite;
 ghost use mathlib.Core.Path.{_≡_};
 ghost use Prim.Native.Nat.{_-_, _<_};
 ghost use lib.ListN.{length};
-ghost use Rattle.knots.specs.Span.{clamped, halved, lastNonempty, spanRefusal, SpanFound, SpanMeets};
+ghost use Rattle.knots.specs.Span.{outside, clamped, refusing, clamping, domainRefusal, halved, lastNonempty, spanRefusal, SpanFound, SpanMeets};
 
 // The span of a parameter, or the refusal of the run or of the parameter.
 pub enum SpanAnswer {
     Span(usize),
     Refused(Refusal),
+}
+
+// u lies outside the domain, as a number: an end with the other zero's sign does not. Where the run has no such knot nothing is outside.
+pub fn is_outside(degree: usize, count: usize, knots: &[f64], u: f64) -> bool
+    ensures { λ r. ⌜ r ≡ outside degree count (now (knots .entry)) u ⌝ }
+{
+    if degree < knots.len() {
+        if u < knots[degree] {
+            return true;
+        }
+    }
+    if count < knots.len() {
+        return u > knots[count];
+    }
+    false
+}
+
+// The refusal of a parameter: 12, then 43 where the mode is not to clamp.
+pub fn domain_refusal(clamping: bool, degree: usize, count: usize, knots: &[f64], u: f64) -> Refusal
+    ensures { λ r. ⌜ r ≡ domainRefusal clamping degree count (now (knots .entry)) u ⌝ }
+{
+    if !is_finite(u) {
+        return refuse(12);
+    }
+    if clamping {
+        return refuse(0);
+    }
+    if is_outside(degree, count, knots, u) {
+        return refuse(43);
+    }
+    refuse(0)
 }
 
 // The parameter that is looked up: u, or the nearer end of the domain where u lies outside it. A NaN stays a NaN, a zero keeps its sign.
@@ -86,9 +118,9 @@ pub fn span_of(degree: usize, count: usize, u: f64, knots: &[f64]) -> usize
     last_span(degree, count, knots)
 }
 
-// The number by which find_span refuses: 30, 1 to 7, 12, in this order, or 0.
-fn span_number(degree: usize, count: usize, knots: &[f64], u: f64) -> u32
-    ensures { λ r. ⌜ r ≡ spanRefusal degree count (now (knots .entry)) u .number ⌝ }
+// The number by which find_span refuses: 30, 1 to 7, 12, 43, in this order, or 0.
+fn span_number(clamping: bool, degree: usize, count: usize, knots: &[f64], u: f64) -> u32
+    ensures { λ r. ⌜ r ≡ spanRefusal clamping degree count (now (knots .entry)) u .number ⌝ }
 {
     if over_long(true, knots) {
         return 30;
@@ -97,19 +129,30 @@ fn span_number(degree: usize, count: usize, knots: &[f64], u: f64) -> u32
     if number != 0 {
         return number;
     }
-    if !is_finite(u) {
-        return 12;
-    }
-    0
+    domain_refusal(clamping, degree, count, knots, u).number
 }
 
-// The span of a parameter, for any input. A parameter outside the domain becomes the nearer end.
-pub fn find_span(degree: usize, count: usize, knots: &[f64], u: f64) -> SpanAnswer
-    ensures { λ r. ⌜ SpanMeets degree count (now (knots .entry)) u r ⌝ }
+// The span of a parameter by either mode, for any input.
+fn find_by(clamping: bool, degree: usize, count: usize, knots: &[f64], u: f64) -> SpanAnswer
+    ensures { λ r. ⌜ SpanMeets clamping degree count (now (knots .entry)) u r ⌝ }
 {
-    let number = span_number(degree, count, knots, u);
+    let number = span_number(clamping, degree, count, knots, u);
     if number != 0 {
         return SpanAnswer::Refused(knot_placed(number, degree, knots));
     }
     SpanAnswer::Span(span_of(degree, count, u, knots))
+}
+
+// The span of a parameter, for any input. One outside the domain is refused.
+pub fn find_span(degree: usize, count: usize, knots: &[f64], u: f64) -> SpanAnswer
+    ensures { λ r. ⌜ SpanMeets refusing degree count (now (knots .entry)) u r ⌝ }
+{
+    find_by(false, degree, count, knots, u)
+}
+
+// The same, where a parameter outside the domain becomes the nearer end.
+pub fn find_span_clamped(degree: usize, count: usize, knots: &[f64], u: f64) -> SpanAnswer
+    ensures { λ r. ⌜ SpanMeets clamping degree count (now (knots .entry)) u r ⌝ }
+{
+    find_by(true, degree, count, knots, u)
 }

@@ -15,7 +15,7 @@ array-read-result c = search needs
 
 returns-2 : tie.Need-returns-2
 unfolding listed classOf
-returns-2 c = entry classOf 34 (c .before .args .number) (omega arith)
+returns-2 c = entry classOf 55 (c .before .args .number) (omega arith)
 
 pub class-of-spec : {M : Type 1} → statement M
 class-of-spec = tie.close (tie.spec returns array-read-result returns-2)

@@ -1,8 +1,8 @@
 -- `knots::span::span_number` meets its contract.
 -- Assumes nothing.
-use mathlib.Core.Path.{sym, _∙_}
-use borrow.Author.Tests.{not-true, not-false}
+use mathlib.Core.Path.{sym, _∙_, ap}
 use Rattle.knots.specs.Span.{spanRefusal}
+use Rattle.knots.specs.declared.refusal.Refusal.{Refusal}
 use Rattle.knots.proofs.Refusals.{number-stop, number-skip}
 use borrow.Author.Needs.{needs}
 use Rattle.knots.proofs.span.span_number.Statement.{statement}
@@ -26,35 +26,17 @@ returns-2 c =
       number-stop (c .before .knot-number .ensures) (c .if2 .taken),
     ) (c .before .knot-number .ensures)
 
-is-finite-requires : tie.Need-is-finite-requires
-is-finite-requires c κs = search needs
+domain-refusal-requires : tie.Need-domain-refusal-requires
+domain-refusal-requires c κs = search needs
 
 returns-3 : tie.Need-returns-3
 unfolding spanRefusal
 returns-3 c =
     simp (
-      sym (c .before .before .before .before .before .over-long .ensures) ∙ c .before .before .before .before .if1 .left,
-      number-skip (c .before .before .before .knot-number .ensures) (c .before .before .if2 .left),
-      sym (c .before .is-finite .ensures) ∙ not-true _ (c .if3 .taken),
-    )
-
-returns-4 : tie.Need-returns-4
-unfolding spanRefusal
-returns-4 c =
-    simp (
-      sym (c .before .before .before .before .before .over-long .ensures) ∙ c .before .before .before .before .if1 .left,
-      number-skip (c .before .before .before .knot-number .ensures) (c .before .before .if2 .left),
-      sym (c .before .is-finite .ensures) ∙ not-false _ (c .if3 .left),
-    )
+      sym (c .before .before .before .before .over-long .ensures) ∙ c .before .before .before .if1 .left,
+      number-skip (c .before .before .knot-number .ensures) (c .before .if2 .left),
+    ) (ap (λ (r : Refusal). r .number) (c .domain-refusal .ensures))
 
 pub span-number-spec : {M : Type 1} → statement M
 span-number-spec =
-    tie.close
-    (tie.spec
-    over-long-requires
-    returns
-    knot-number-requires
-    returns-2
-    is-finite-requires
-    returns-3
-    returns-4)
+    tie.close (tie.spec over-long-requires returns knot-number-requires returns-2 domain-refusal-requires returns-3)

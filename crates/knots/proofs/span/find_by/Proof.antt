@@ -1,13 +1,13 @@
--- `knots::span::find_span` meets its contract.
+-- `knots::span::find_by` meets its contract.
 -- Assumes nothing.
 use mathlib.Core.Path.{sym, _∙_, ap}
 use denote.Ref.{now}
-use Rattle.knots.proofs.Answers.{unrefused}
+use Rattle.knots.proofs.Answers.{unrefused, spoken-span}
 use Rattle.knots.proofs.ByNumber.{span-told}
 use Rattle.knots.specs.declared.refusal.Refusal.{Refusal}
 use borrow.Author.Needs.{needs}
-use Rattle.knots.proofs.span.find_span.Statement.{statement}
-use Rattle.knots.proofs.span.find_span.Tie as tie
+use Rattle.knots.proofs.span.find_by.Statement.{statement}
+use Rattle.knots.proofs.span.find_by.Tie as tie
 
 span-number-requires : tie.Need-span-number-requires
 span-number-requires c κs = search needs
@@ -19,7 +19,7 @@ returns : tie.Need-returns
 returns c =
     let a = c .before .before .before .before .args in
     let number = c .before .before .span-number .ensures in
-    let told = c .knot-placed .ensures ∙ span-told (a .degree) (a .count) (now (a .knots)) (a .u) number in
+    let told = c .knot-placed .ensures ∙ span-told (a .clamping) (a .degree) (a .count) (now (a .knots)) (a .u) number in
     (sym told, λ z. c .before .if1 .taken (number ∙ (sym (ap (λ (r : Refusal). r .number) told) ∙ z)))
 
 span-of-requires : tie.Need-span-of-requires
@@ -29,10 +29,10 @@ returns-2 : tie.Need-returns-2
 returns-2 c =
     let a = c .before .before .before .before .args in
     let none = sym (c .before .before .span-number .ensures) ∙ c .before .if1 .left in
-    let q = unrefused (a .degree) (a .count) (now (a .knots)) (a .u) none in
-    (none, c .span-of .ensures .meets (q .0) (q .1))
+    let q = unrefused (a .degree) (a .count) (now (a .knots)) (a .u) (a .clamping) none in
+    (none, spoken-span (a .degree) (a .count) (now (a .knots)) (a .u) (a .clamping) (q .2) _ (c .span-of .ensures .meets (q .0) (q .1)))
 
-pub find-span-spec : {M : Type 1} → statement M
-find-span-spec =
+pub find-by-spec : {M : Type 1} → statement M
+find-by-spec =
     tie.close
     (tie.spec span-number-requires knot-placed-requires returns span-of-requires returns-2)
