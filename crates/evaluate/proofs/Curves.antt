@@ -8,17 +8,18 @@ use native.Mathlib.Omega.{arith}
 use lib.Ieee.{Float}
 use Rattle.exact.specs.Scheme.{dersOf}
 use Rattle.knots.specs.Refusal.{refuse, second-not-finite}
-use Rattle.knots.specs.Span.{searched}
+use Rattle.knots.specs.Span.{outside, refusing, clamping, searched}
 use Rattle.knots.specs.Curve.{countOf}
 use Rattle.knots.specs.declared.refusal.Refusal.{Refusal}
 use Rattle.knots.proofs.Refusals.{stop, skip}
+use Rattle.knots.proofs.Answers.{modes-same}
 use Rattle.basis.specs.Floats.{floats}
 use Rattle.basis.specs.Basis.{cell, leftOf, rightOf}
 use Rattle.basis.specs.Ders.{basisTable}
 use Rattle.basis.proofs.Whole.{Reach, basis-at}
 use Rattle.evaluate.specs.Controls.{scaleOf, rowSums}
 use Rattle.runs.specs.Point.{pointOf}
-use Rattle.evaluate.specs.Curve.{quotient, activeSums, curveOf, looked, stepRefusal, evalRefusal, evalAtOf, evalOf}
+use Rattle.evaluate.specs.Curve.{quotient, activeSums, curveOf, looked, parameterRefusal, stepRefusal, evalRefusal, evalAtOf, evalOf}
 use Rattle.evaluate.specs.Curve2.{quotient2, curve2Of, finite2, eval2AtOf, eval2Of}
 use Rattle.runs.specs.declared.vector.Vector.{Vector}
 use Rattle.evaluate.specs.declared.sums.Sums.{Sums}
@@ -55,49 +56,59 @@ module _ (p n : ℕ) (ks ps : List Float) (g : Bool) (ws : List Float) (s : ℕ)
       ∙ ap₂ (quotient2 (pointOf ps (s - p)) (activeSums p ks ps g ws true s v 0)) (active-is true 1 (omega arith) d B) (active-is true 2 N e C))
 
 -- ---- the answers
-module _ (p : ℕ) (ks ps : List Float) (g : Bool) (ws : List Float) (t : Float) where
+module _ (c : Bool) (p : ℕ) (ks ps : List Float) (g : Bool) (ws : List Float) (t : Float) where
   module _ (r : Refusal) (h : r .number ≡ 0 → ⊥) where
-    pub at-refused : r ≡ stepRefusal p ks ps g ws t → Refused r ≡ evalAtOf p ks ps g ws t
+    pub at-refused : r ≡ stepRefusal c p ks ps g ws t → Refused r ≡ evalAtOf c p ks ps g ws t
     unfolding evalAtOf
     at-refused e = simp (stop e h) (ap Refused e)
 
-    pub eval-refused : r ≡ evalRefusal p ks ps g ws t → Refused r ≡ evalOf p ks ps g ws t
+    pub eval-refused : r ≡ evalRefusal c p ks ps g ws t → Refused r ≡ evalOf c p ks ps g ws t
     unfolding evalOf
     eval-refused e = simp (stop e h) (ap Refused e)
 
-    pub at2-refused : r ≡ stepRefusal p ks ps g ws t → two.Refused r ≡ eval2AtOf p ks ps g ws t
+    pub at2-refused : r ≡ stepRefusal c p ks ps g ws t → two.Refused r ≡ eval2AtOf c p ks ps g ws t
     unfolding eval2AtOf
     at2-refused e = simp (stop e h) (ap two.Refused e)
 
-    pub eval2-refused : r ≡ evalRefusal p ks ps g ws t → two.Refused r ≡ eval2Of p ks ps g ws t
+    pub eval2-refused : r ≡ evalRefusal c p ks ps g ws t → two.Refused r ≡ eval2Of c p ks ps g ws t
     unfolding eval2Of
     eval2-refused e = simp (stop e h) (ap two.Refused e)
 
-  module _ (r : Refusal) (e : r ≡ stepRefusal p ks ps g ws t) (h : r .number ≡ 0) (s : ℕ) (v : Float) (S : s ≡ searched p (countOf ps) ks (looked p ks ps t)) (L : v ≡ looked p ks ps t) where
-    pub at-answered : (d : CurveDerivs) → d ≡ curveOf p ks ps g ws s v → At d ≡ evalAtOf p ks ps g ws t
+  module _ (r : Refusal) (e : r ≡ stepRefusal c p ks ps g ws t) (h : r .number ≡ 0) (s : ℕ) (v : Float) (S : s ≡ searched p (countOf ps) ks (looked p ks ps t)) (L : v ≡ looked p ks ps t) where
+    pub at-answered : (d : CurveDerivs) → d ≡ curveOf p ks ps g ws s v → At d ≡ evalAtOf c p ks ps g ws t
     unfolding evalAtOf
     at-answered d D = simp (skip e h) (ap At (D ∙ ap₂ (curveOf p ks ps g ws) S L))
 
     module _ (d : CurveDerivs2) (D : d ≡ curve2Of p ks ps g ws s v) where
-      at2-is : cond (finite2 d) (two.At d) (two.Refused (refuse second-not-finite)) ≡ eval2AtOf p ks ps g ws t
+      at2-is : cond (finite2 d) (two.At d) (two.Refused (refuse second-not-finite)) ≡ eval2AtOf c p ks ps g ws t
       unfolding eval2AtOf
       at2-is = simp (skip e h) (ap (λ (x : CurveDerivs2). cond (finite2 x) (two.At x) (two.Refused (refuse second-not-finite))) (D ∙ ap₂ (curve2Of p ks ps g ws) S L))
 
-      pub at2-answered : finite2 d ≡ true → two.At d ≡ eval2AtOf p ks ps g ws t
+      pub at2-answered : finite2 d ≡ true → two.At d ≡ eval2AtOf c p ks ps g ws t
       at2-answered f = ap (λ (b : Bool). cond b (two.At d) (two.Refused (refuse second-not-finite))) (sym f) ∙ at2-is
 
-      pub at2-degenerate : finite2 d ≡ false → two.Refused (refuse second-not-finite) ≡ eval2AtOf p ks ps g ws t
+      pub at2-degenerate : finite2 d ≡ false → two.Refused (refuse second-not-finite) ≡ eval2AtOf c p ks ps g ws t
       at2-degenerate f = ap (λ (b : Bool). cond b (two.At d) (two.Refused (refuse second-not-finite))) (sym f) ∙ at2-is
 
   -- on a curve that is not refused the step answers what the evaluation answers
-  module _ (r : Refusal) (e : r ≡ evalRefusal p ks ps g ws t) (h : r .number ≡ 0) where
-    opened : EvalOpen p ks ps g ws t
-    opened = eval-open p ks ps g ws t (sym (ap (λ (x : Refusal). x .number) e) ∙ h)
+  module _ (r : Refusal) (e : r ≡ evalRefusal c p ks ps g ws t) (h : r .number ≡ 0) where
+    opened : EvalOpen c p ks ps g ws t
+    opened = eval-open c p ks ps g ws t (sym (ap (λ (x : Refusal). x .number) e) ∙ h)
 
-    pub eval-answered : evalAtOf p ks ps g ws t ≡ evalOf p ks ps g ws t
+    pub eval-answered : evalAtOf c p ks ps g ws t ≡ evalOf c p ks ps g ws t
     unfolding evalAtOf evalOf
-    eval-answered = simp (skip e h, step-none p ks ps g ws t opened, open-span p ks ps g ws t opened)
+    eval-answered = simp (skip e h, step-none c p ks ps g ws t opened, open-span c p ks ps g ws t opened)
 
-    pub eval2-answered : eval2AtOf p ks ps g ws t ≡ eval2Of p ks ps g ws t
+    pub eval2-answered : eval2AtOf c p ks ps g ws t ≡ eval2Of c p ks ps g ws t
     unfolding eval2AtOf eval2Of
-    eval2-answered = simp (skip e h, step-none p ks ps g ws t opened, open-span p ks ps g ws t opened)
+    eval2-answered = simp (skip e h, step-none c p ks ps g ws t opened, open-span c p ks ps g ws t opened)
+
+-- ---- where the parameter is not outside the domain, both modes answer alike
+module _ (p : ℕ) (ks ps : List Float) (g : Bool) (ws : List Float) (t : Float) (i : outside p (countOf ps) ks t ≡ false) where
+  pub eval-inside-same : evalOf refusing p ks ps g ws t ≡ evalOf clamping p ks ps g ws t
+  unfolding evalOf evalRefusal parameterRefusal
+  eval-inside-same = simp (modes-same p (countOf ps) ks t i)
+
+  pub eval2-inside-same : eval2Of refusing p ks ps g ws t ≡ eval2Of clamping p ks ps g ws t
+  unfolding eval2Of evalRefusal parameterRefusal
+  eval2-inside-same = simp (modes-same p (countOf ps) ks t i)

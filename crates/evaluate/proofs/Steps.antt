@@ -10,13 +10,14 @@ use lib.Ieee.{Float}
 use lib.Ieee.Scale.{finite}
 use Rattle.knots.specs.Refusal.{accepted}
 use Rattle.knots.specs.Curve.{countOf, curveRefusal, ValidCurve}
-use Rattle.knots.specs.Span.{searched, spanOf}
+use Rattle.knots.specs.Span.{searched, spanOf, domainRefusal}
 use Rattle.knots.proofs.Refusals.{orElse-none}
 use Rattle.knots.proofs.Curves.{valid-curve}
-use Rattle.knots.specs.Shape.{degreeRefusal, finiteRefusal, curveShape}
-use Rattle.knots.proofs.Shapes.{degree-open, degree-none, finite-open, finite-none, Fitting, Shaped, shaped, shape-none}
+use Rattle.knots.specs.Shape.{degreeRefusal, curveShape}
+use Rattle.knots.proofs.Shapes.{degree-open, degree-none, Fitting, Shaped, shaped, shape-none}
 use Rattle.evaluate.specs.Curve.{parameterRefusal, stepRefusal, evalRefusal, looked}
 use Rattle.knots.proofs.Searches.{searched-in, searched-is}
+use Rattle.knots.proofs.Answers.{domain-open, domain-none}
 
 module _ (p n : ℕ) (ks : List Float) where
   -- where the search ends, whatever the knots are
@@ -33,25 +34,27 @@ module _ (p n : ℕ) (ks : List Float) where
       let b = r .1 in
       record { from = r .0; below = b; reach = omega arith }
 
-module _ (p : ℕ) (t : Float) where
-  pub parameter-open : parameterRefusal p t .number ≡ 0 → (p ≤ 64) × (finite t ≡ true)
+module _ (c : Bool) (p n : ℕ) (ks : List Float) (t : Float) where
+  pub parameter-open : parameterRefusal c p n ks t .number ≡ 0 → (p ≤ 64) × (finite t ≡ true)
   unfolding parameterRefusal
-  parameter-open h = let a = orElse-none (degreeRefusal p) (finiteRefusal t) h in (degree-open p (a .0), finite-open t (a .1))
+  parameter-open h = let a = orElse-none (degreeRefusal p) (domainRefusal c p n ks t) h in (degree-open p (a .0), domain-open p n ks t c (a .1) .0)
 
-  pub parameter-none : p ≤ 64 → finite t ≡ true → parameterRefusal p t ≡ accepted
+  pub parameter-none : parameterRefusal c p n ks t .number ≡ 0 → parameterRefusal c p n ks t ≡ accepted
   unfolding parameterRefusal
-  parameter-none h k = simp (degree-none p h) (finite-none t k)
+  parameter-none h =
+      let a = orElse-none (degreeRefusal p) (domainRefusal c p n ks t) h in
+      simp (degree-none p (degree-open p (a .0))) (domain-none p n ks t c (a .1))
 
-module _ (p : ℕ) (ks ps : List Float) (g : Bool) (ws : List Float) (t : Float) where
+module _ (c : Bool) (p : ℕ) (ks ps : List Float) (g : Bool) (ws : List Float) (t : Float) where
   pub record StepOpen : Type 0 where
     pub shape : Shaped p ks ps g ws
     pub high : p ≤ 64
 
-  pub step-open : stepRefusal p ks ps g ws t .number ≡ 0 → StepOpen
+  pub step-open : stepRefusal c p ks ps g ws t .number ≡ 0 → StepOpen
   unfolding stepRefusal
   step-open h =
-      let a = orElse-none (curveShape p ks ps g ws) (parameterRefusal p t) h in
-      record { shape = shaped p ks ps g ws (a .0); high = parameter-open p t (a .1) .0 }
+      let a = orElse-none (curveShape p ks ps g ws) (parameterRefusal c p (countOf ps) ks t) h in
+      record { shape = shaped p ks ps g ws (a .0); high = parameter-open c p (countOf ps) ks t (a .1) .0 }
 
   -- what the step reads lies in the runs
   pub points-reach : (o : StepOpen) (s : ℕ) → Found p (countOf ps) ks s → s * 3 + 2 < length ps
@@ -62,19 +65,22 @@ module _ (p : ℕ) (ks ps : List Float) (g : Bool) (ws : List Float) (t : Float)
 
   pub record EvalOpen : Type 0 where
     pub curve : ValidCurve p ks ps g ws
-    pub high : p ≤ 64
     pub parameter : finite t ≡ true
+    pub none : parameterRefusal c p (countOf ps) ks t ≡ accepted
 
-  pub eval-open : evalRefusal p ks ps g ws t .number ≡ 0 → EvalOpen
+  pub eval-open : evalRefusal c p ks ps g ws t .number ≡ 0 → EvalOpen
   unfolding evalRefusal
   eval-open h =
-      let a = orElse-none (curveRefusal p ks ps g ws) (parameterRefusal p t) h in
-      let b = parameter-open p t (a .1) in
-      record { curve = valid-curve p ks ps g ws (a .0); high = b .0; parameter = b .1 }
+      let a = orElse-none (curveRefusal p ks ps g ws) (parameterRefusal c p (countOf ps) ks t) h in
+      record {
+        curve = valid-curve p ks ps g ws (a .0);
+        parameter = parameter-open c p (countOf ps) ks t (a .1) .1;
+        none = parameter-none c p (countOf ps) ks t (a .1);
+      }
 
-  pub step-none : EvalOpen → stepRefusal p ks ps g ws t ≡ accepted
+  pub step-none : EvalOpen → stepRefusal c p ks ps g ws t ≡ accepted
   unfolding stepRefusal
-  step-none o = simp (shape-none p ks ps g ws (o .curve)) (parameter-none p t (o .high) (o .parameter))
+  step-none o = simp (shape-none p ks ps g ws (o .curve)) (o .none)
 
   pub open-span : EvalOpen → searched p (countOf ps) ks (looked p ks ps t) ≡ spanOf p (countOf ps) ks (looked p ks ps t)
   open-span o = searched-is p (countOf ps) ks t (o .curve .knots) (o .parameter)

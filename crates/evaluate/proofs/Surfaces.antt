@@ -1,7 +1,7 @@
 -- The answers of `eval_surface_at` and `eval_surface`.
 -- Assumes nothing.
 use Prim.Native.Nat.{ℕ, _+_, _-_, _*_, _/_, _%_, _≤_}
-use mathlib.Core.Bool.{Bool, true, not}
+use mathlib.Core.Bool.{Bool, true, false, not}
 use mathlib.Core.Path.{_≡_, sym, _∙_, ap, ap₂, subst}
 use mathlib.Core.List.{List}
 use native.Mathlib.Omega.{arith}
@@ -9,12 +9,11 @@ use native.Mathlib.Nat.{mul-mod-right, mul-div-right}
 use lib.ListN.{length}
 use lib.Dec.{eqb}
 use lib.Ieee.{Float}
-use lib.Ieee.Scale.{finite}
 use borrow.Author.Tests.{eqb-true, eq-eqb, not-false}
 use Rattle.exact.specs.Scheme.{dersOf}
 use Rattle.knots.specs.Refusal.{refuse, accepted, along, net-size, points-uneven}
 use Rattle.knots.specs.Curve.{countOf}
-use Rattle.knots.specs.Span.{clamped, searched}
+use Rattle.knots.specs.Span.{outside, clamped, refusing, clamping, domainRefusal, searched}
 use Rattle.knots.specs.Surface.{surfaceRefusal, ValidSurface}
 use Rattle.knots.specs.declared.refusal.Refusal.{Refusal}
 use Rattle.knots.proofs.Refusals.{passed, orElse-none, stop, skip}
@@ -23,7 +22,7 @@ use Rattle.basis.specs.Floats.{floats}
 use Rattle.basis.specs.Basis.{cell, leftOf, rightOf}
 use Rattle.basis.specs.Ders.{basisTable}
 use Rattle.basis.proofs.Whole.{Reach, basis-at}
-use Rattle.knots.specs.Shape.{degreeRefusal, finiteRefusal, weightShape, knotShape, surfaceShape}
+use Rattle.knots.specs.Shape.{degreeRefusal, weightShape, knotShape, surfaceShape}
 use Rattle.runs.specs.Point.{pointOf}
 use Rattle.evaluate.specs.Surface.{NetReach, netScale, netSums, surfaceQuotient, activeNet, surfaceOf, degreesRefusal, parametersRefusal, surfaceStepRefusal}
 use Rattle.evaluate.specs.Surface.{surfaceEvalRefusal, surfaceAtOf, evalSurfaceOf}
@@ -32,7 +31,8 @@ use Rattle.evaluate.specs.declared.sums.Sums.{Sums}
 use Rattle.evaluate.specs.declared.surface.SurfaceDerivs.{SurfaceDerivs}
 use Rattle.evaluate.specs.declared.surface.SurfaceAnswer.the-variants.{At, Refused}
 use Rattle.knots.proofs.Searches.{searched-is}
-use Rattle.knots.proofs.Shapes.{degree-open, degree-none, finite-open, finite-none, weights-open, weights-none, Fitting, knots-open, knots-none}
+use Rattle.knots.proofs.Answers.{domain-open, domain-none, modes-same}
+use Rattle.knots.proofs.Shapes.{degree-open, degree-none, weights-open, weights-none, Fitting, knots-open, knots-none}
 use Rattle.evaluate.proofs.Steps.{Found}
 use Rattle.evaluate.proofs.Nets.{net-place, net-cong}
 
@@ -62,22 +62,28 @@ module _ (p q : ℕ) (us vs : List Float) (n : ℕ) (ps : List Float) (g : Bool)
       (surfaceQuotient (pointOf ps ((s - p) * n + (t - q))) (activeNet p q us vs n ps g ws s t u v 0 0)) (net-is 1 0 (omega arith) (omega arith) d B) (net-is 0 1 (omega arith) (omega arith) e C))
 
 -- ---- what no refusal says
-module _ (p q : ℕ) (u v : Float) where
-  pub degrees-open : degreesRefusal p q .number ≡ 0 → (p ≤ 64) × (q ≤ 64)
-  unfolding degreesRefusal
-  degrees-open h = let a = orElse-none (degreeRefusal p) (degreeRefusal q) h in (degree-open p (a .0), degree-open q (a .1))
+pub degrees-open : (p q : ℕ) → degreesRefusal p q .number ≡ 0 → (p ≤ 64) × (q ≤ 64)
+unfolding degreesRefusal
+degrees-open p q h = let a = orElse-none (degreeRefusal p) (degreeRefusal q) h in (degree-open p (a .0), degree-open q (a .1))
 
-  pub parameters-open : parametersRefusal p q u v .number ≡ 0 → (p ≤ 64) × (q ≤ 64) × (finite u ≡ true) × (finite v ≡ true)
+module _ (c : Bool) (p q : ℕ) (us vs : List Float) (m n : ℕ) (u v : Float) where
+  record ParametersOpen : Type 0 where
+    u-high : p ≤ 64
+    v-high : q ≤ 64
+    u-open : domainRefusal c p m us u .number ≡ 0
+    v-open : domainRefusal c q n vs v .number ≡ 0
+
+  parameters-open : parametersRefusal c p q us vs m n u v .number ≡ 0 → ParametersOpen
   unfolding parametersRefusal
   parameters-open h =
       let a = orElse-none (degreesRefusal p q) _ h in
-      let b = degrees-open (a .0) in
-      let c = orElse-none (finiteRefusal u) (finiteRefusal v) (a .1) in
-      (b .0, b .1, finite-open u (c .0), finite-open v (c .1))
+      let b = degrees-open p q (a .0) in
+      let d = orElse-none (domainRefusal c p m us u) (domainRefusal c q n vs v) (a .1) in
+      record { u-high = b .0; v-high = b .1; u-open = d .0; v-open = d .1 }
 
-  parameters-none : p ≤ 64 → q ≤ 64 → finite u ≡ true → finite v ≡ true → parametersRefusal p q u v ≡ accepted
+  parameters-none : ParametersOpen → parametersRefusal c p q us vs m n u v ≡ accepted
   unfolding parametersRefusal degreesRefusal
-  parameters-none a b c d = simp (degree-none p a, degree-none q b, finite-none u c, finite-none v d)
+  parameters-none o = simp (degree-none p (o .u-high), degree-none q (o .v-high), domain-none p m us u c (o .u-open), domain-none q n vs v c (o .v-open))
 
 module _ (p q : ℕ) (us vs : List Float) (m n : ℕ) (ps : List Float) (g : Bool) (ws : List Float) where
   pub record SurfaceShaped : Type 0 where
@@ -116,18 +122,18 @@ module _ (p q : ℕ) (us vs : List Float) (m n : ℕ) (ps : List Float) (g : Boo
         weights-none (countOf ps) g ws (λ e. s .controls .weights e ∙ sym (size-is s)),
       )
 
-  module _ (u v : Float) where
+  module _ (c : Bool) (u v : Float) where
     pub record SurfaceStepOpen : Type 0 where
       pub shape : SurfaceShaped
       pub u-high : p ≤ 64
       pub v-high : q ≤ 64
 
-    pub surface-step-open : surfaceStepRefusal p q us vs m n ps g ws u v .number ≡ 0 → SurfaceStepOpen
+    pub surface-step-open : surfaceStepRefusal c p q us vs m n ps g ws u v .number ≡ 0 → SurfaceStepOpen
     unfolding surfaceStepRefusal
     surface-step-open h =
-        let a = orElse-none (surfaceShape p q us vs m n ps g ws) (parametersRefusal p q u v) h in
-        let b = parameters-open p q u v (a .1) in
-        record { shape = surface-shaped (a .0); u-high = b .0; v-high = b .1 }
+        let a = orElse-none (surfaceShape p q us vs m n ps g ws) (parametersRefusal c p q us vs m n u v) h in
+        let b = parameters-open c p q us vs m n u v (a .1) in
+        record { shape = surface-shaped (a .0); u-high = b .u-high; v-high = b .v-high }
 
     -- what the step reads lies in the net
     module _ (o : SurfaceStepOpen) (s t : ℕ) (S : Found p m us s) (T : Found q n vs t) where
@@ -148,17 +154,17 @@ module _ (p q : ℕ) (us vs : List Float) (m n : ℕ) (ps : List Float) (g : Boo
 
     -- ---- the answers
     module _ (r : Refusal) (h : r .number ≡ 0 → ⊥) where
-      pub surface-at-refused : r ≡ surfaceStepRefusal p q us vs m n ps g ws u v → Refused r ≡ surfaceAtOf p q us vs m n ps g ws u v
+      pub surface-at-refused : r ≡ surfaceStepRefusal c p q us vs m n ps g ws u v → Refused r ≡ surfaceAtOf c p q us vs m n ps g ws u v
       unfolding surfaceAtOf
       surface-at-refused e = simp (stop e h) (ap Refused e)
 
-      pub surface-refused : r ≡ surfaceEvalRefusal p q us vs m n ps g ws u v → Refused r ≡ evalSurfaceOf p q us vs m n ps g ws u v
+      pub surface-refused : r ≡ surfaceEvalRefusal c p q us vs m n ps g ws u v → Refused r ≡ evalSurfaceOf c p q us vs m n ps g ws u v
       unfolding evalSurfaceOf
       surface-refused e = simp (stop e h) (ap Refused e)
 
-    pub surface-at-answered : (r : Refusal) → r ≡ surfaceStepRefusal p q us vs m n ps g ws u v → r .number ≡ 0 → (s t : ℕ) (x y : Float)
+    pub surface-at-answered : (r : Refusal) → r ≡ surfaceStepRefusal c p q us vs m n ps g ws u v → r .number ≡ 0 → (s t : ℕ) (x y : Float)
         → s ≡ searched p m us (clamped p m us u) → x ≡ clamped p m us u → t ≡ searched q n vs (clamped q n vs v) → y ≡ clamped q n vs v
-        → (d : SurfaceDerivs) → d ≡ surfaceOf p q us vs n ps g ws s t x y → At d ≡ surfaceAtOf p q us vs m n ps g ws u v
+        → (d : SurfaceDerivs) → d ≡ surfaceOf p q us vs n ps g ws s t x y → At d ≡ surfaceAtOf c p q us vs m n ps g ws u v
     unfolding surfaceAtOf
     surface-at-answered r e h s t x y S X T Y d D =
         simp (skip e h) (ap At (D ∙ (ap₂ (λ (i j : ℕ). surfaceOf p q us vs n ps g ws i j x y) S T
@@ -167,24 +173,26 @@ module _ (p q : ℕ) (us vs : List Float) (m n : ℕ) (ps : List Float) (g : Boo
     -- on a surface that is not refused the step answers what the evaluation answers
     record SurfaceOpen : Type 0 where
       surface : ValidSurface p q us vs m n ps g ws
-      u-high : p ≤ 64
-      v-high : q ≤ 64
-      u-finite : finite u ≡ true
-      v-finite : finite v ≡ true
+      parameters : ParametersOpen c p q us vs m n u v
 
-    surface-open : surfaceEvalRefusal p q us vs m n ps g ws u v .number ≡ 0 → SurfaceOpen
+    surface-open : surfaceEvalRefusal c p q us vs m n ps g ws u v .number ≡ 0 → SurfaceOpen
     unfolding surfaceEvalRefusal
     surface-open h =
-        let a = orElse-none (surfaceRefusal p q us vs m n ps g ws) (parametersRefusal p q u v) h in
-        let b = parameters-open p q u v (a .1) in
-        record { surface = valid-surface p q us vs m n ps g ws (a .0); u-high = b .0; v-high = b .1; u-finite = b .2; v-finite = b .3 }
+        let a = orElse-none (surfaceRefusal p q us vs m n ps g ws) (parametersRefusal c p q us vs m n u v) h in
+        record { surface = valid-surface p q us vs m n ps g ws (a .0); parameters = parameters-open c p q us vs m n u v (a .1) }
 
-    surface-step-none : SurfaceOpen → surfaceStepRefusal p q us vs m n ps g ws u v ≡ accepted
+    surface-step-none : SurfaceOpen → surfaceStepRefusal c p q us vs m n ps g ws u v ≡ accepted
     unfolding surfaceStepRefusal
-    surface-step-none o = simp (surface-shape-none (o .surface)) (parameters-none p q u v (o .u-high) (o .v-high) (o .u-finite) (o .v-finite))
+    surface-step-none o = simp (surface-shape-none (o .surface)) (parameters-none c p q us vs m n u v (o .parameters))
 
-    pub surface-answered : (r : Refusal) → r ≡ surfaceEvalRefusal p q us vs m n ps g ws u v → r .number ≡ 0 → surfaceAtOf p q us vs m n ps g ws u v ≡ evalSurfaceOf p q us vs m n ps g ws u v
+    pub surface-answered : (r : Refusal) → r ≡ surfaceEvalRefusal c p q us vs m n ps g ws u v → r .number ≡ 0 → surfaceAtOf c p q us vs m n ps g ws u v ≡ evalSurfaceOf c p q us vs m n ps g ws u v
     unfolding surfaceAtOf evalSurfaceOf
     surface-answered r e h =
         let o = surface-open (sym (ap (λ (x : Refusal). x .number) e) ∙ h) in
-        simp (skip e h, surface-step-none o, searched-is p m us u (o .surface .u) (o .u-finite), searched-is q n vs v (o .surface .v) (o .v-finite))
+        simp (skip e h, surface-step-none o, searched-is p m us u (o .surface .u) (domain-open p m us u c (o .parameters .u-open) .0), searched-is q n vs v (o .surface .v) (domain-open q n vs v c (o .parameters .v-open) .0))
+
+  -- ---- where neither parameter is outside the domain, both modes answer alike
+  pub surface-inside-same : (u v : Float) → outside p m us u ≡ false → outside q n vs v ≡ false
+      → evalSurfaceOf refusing p q us vs m n ps g ws u v ≡ evalSurfaceOf clamping p q us vs m n ps g ws u v
+  unfolding evalSurfaceOf surfaceEvalRefusal parametersRefusal
+  surface-inside-same u v i j = simp (modes-same p m us u i, modes-same q n vs v j)

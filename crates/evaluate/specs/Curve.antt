@@ -1,4 +1,4 @@
--- The point and the first derivative of a curve, and the answers of `eval` and of its step `eval_at`.
+-- The point and the first derivative of a curve, and the answers of `eval` and of its step `eval_at`, by the mode: it stands in the refusals alone.
 -- Assumes nothing.
 use Prim.Native.Nat.{ℕ, _+_, _-_}
 use mathlib.Core.Bool.{Bool, false, cond}
@@ -7,12 +7,12 @@ use lib.Dec.{eqb}
 use lib.Ieee.{Float, binary64, add, sub, mul, div}
 use Rattle.exact.specs.Scheme.{dersOf}
 use Rattle.knots.specs.Refusal.{orElse}
-use Rattle.knots.specs.Span.{clamped, spanOf, searched}
+use Rattle.knots.specs.Span.{clamped, domainRefusal, spanOf, searched}
 use Rattle.knots.specs.Curve.{countOf, curveRefusal}
 use Rattle.knots.specs.declared.refusal.Refusal.{Refusal}
 use Rattle.basis.specs.Floats.{floats}
 use Rattle.basis.specs.Basis.{leftOf, rightOf}
-use Rattle.knots.specs.Shape.{degreeRefusal, finiteRefusal, curveShape}
+use Rattle.knots.specs.Shape.{degreeRefusal, curveShape}
 use Rattle.evaluate.specs.Controls.{scaleOf, rowSums}
 use Rattle.runs.specs.Point.{pointOf}
 use Rattle.runs.specs.declared.vector.Vector.{Vector}
@@ -46,17 +46,17 @@ module _ (p : ℕ) (ks ps : List Float) (g : Bool) (ws : List Float) where
   unfoldable pub curveOf : ℕ → Float → CurveDerivs
   curveOf s v = quotient (pointOf ps (s - p)) (activeSums false s v 0) (activeSums false s v 1)
 
--- ---- refusals
--- 31, 12
-unfoldable pub parameterRefusal : ℕ → Float → Refusal
-parameterRefusal p t = orElse (degreeRefusal p) (finiteRefusal t)
+-- ---- refusals, by the mode
+-- 31, 12, 43
+unfoldable pub parameterRefusal : Bool → ℕ → ℕ → List Float → Float → Refusal
+parameterRefusal c p n ks t = orElse (degreeRefusal p) (domainRefusal c p n ks t)
 
 -- of a step on a curve that was validated before, and of an evaluation
-unfoldable pub stepRefusal : ℕ → List Float → List Float → Bool → List Float → Float → Refusal
-stepRefusal p ks ps g ws t = orElse (curveShape p ks ps g ws) (parameterRefusal p t)
+unfoldable pub stepRefusal : Bool → ℕ → List Float → List Float → Bool → List Float → Float → Refusal
+stepRefusal c p ks ps g ws t = orElse (curveShape p ks ps g ws) (parameterRefusal c p (countOf ps) ks t)
 
-unfoldable pub evalRefusal : ℕ → List Float → List Float → Bool → List Float → Float → Refusal
-evalRefusal p ks ps g ws t = orElse (curveRefusal p ks ps g ws) (parameterRefusal p t)
+unfoldable pub evalRefusal : Bool → ℕ → List Float → List Float → Bool → List Float → Float → Refusal
+evalRefusal c p ks ps g ws t = orElse (curveRefusal p ks ps g ws) (parameterRefusal c p (countOf ps) ks t)
 
 -- ---- answers
 abbrev pub answer : Refusal → CurveDerivs → CurveAnswer
@@ -67,8 +67,8 @@ abbrev pub looked : ℕ → List Float → List Float → Float → Float
 looked p ks ps t = clamped p (countOf ps) ks t
 
 -- on any runs: the span is what the search finds
-unfoldable pub evalAtOf : ℕ → List Float → List Float → Bool → List Float → Float → CurveAnswer
-evalAtOf p ks ps g ws t = answer (stepRefusal p ks ps g ws t) (curveOf p ks ps g ws (searched p (countOf ps) ks (looked p ks ps t)) (looked p ks ps t))
+unfoldable pub evalAtOf : Bool → ℕ → List Float → List Float → Bool → List Float → Float → CurveAnswer
+evalAtOf c p ks ps g ws t = answer (stepRefusal c p ks ps g ws t) (curveOf p ks ps g ws (searched p (countOf ps) ks (looked p ks ps t)) (looked p ks ps t))
 
-unfoldable pub evalOf : ℕ → List Float → List Float → Bool → List Float → Float → CurveAnswer
-evalOf p ks ps g ws t = answer (evalRefusal p ks ps g ws t) (curveOf p ks ps g ws (spanOf p (countOf ps) ks (looked p ks ps t)) (looked p ks ps t))
+unfoldable pub evalOf : Bool → ℕ → List Float → List Float → Bool → List Float → Float → CurveAnswer
+evalOf c p ks ps g ws t = answer (evalRefusal c p ks ps g ws t) (curveOf p ks ps g ws (spanOf p (countOf ps) ks (looked p ks ps t)) (looked p ks ps t))

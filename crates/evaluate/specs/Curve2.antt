@@ -1,4 +1,4 @@
--- The point and two derivatives of a curve, and the answers of `eval2` and of its step `eval2_at`.
+-- The point and two derivatives of a curve, and the answers of `eval2` and of its step `eval2_at`, by the mode.
 -- Assumes nothing.
 use Prim.Native.Nat.{ℕ, _-_}
 use mathlib.Core.Bool.{Bool, true, cond, _&&_}
@@ -48,8 +48,8 @@ abbrev pub answer2 : Refusal → CurveDerivs2 → CurveAnswer2
 answer2 r d = cond (eqb (r .number) 0) (cond (finite2 d) (At d) (Refused (refuse second-not-finite))) (Refused r)
 
 -- on any runs: the span is what the search finds
-unfoldable pub eval2AtOf : ℕ → List Float → List Float → Bool → List Float → Float → CurveAnswer2
-eval2AtOf p ks ps g ws t = answer2 (stepRefusal p ks ps g ws t) (curve2Of p ks ps g ws (searched p (countOf ps) ks (looked p ks ps t)) (looked p ks ps t))
+unfoldable pub eval2AtOf : Bool → ℕ → List Float → List Float → Bool → List Float → Float → CurveAnswer2
+eval2AtOf c p ks ps g ws t = answer2 (stepRefusal c p ks ps g ws t) (curve2Of p ks ps g ws (searched p (countOf ps) ks (looked p ks ps t)) (looked p ks ps t))
 
-unfoldable pub eval2Of : ℕ → List Float → List Float → Bool → List Float → Float → CurveAnswer2
-eval2Of p ks ps g ws t = answer2 (evalRefusal p ks ps g ws t) (curve2Of p ks ps g ws (spanOf p (countOf ps) ks (looked p ks ps t)) (looked p ks ps t))
+unfoldable pub eval2Of : Bool → ℕ → List Float → List Float → Bool → List Float → Float → CurveAnswer2
+eval2Of c p ks ps g ws t = answer2 (evalRefusal c p ks ps g ws t) (curve2Of p ks ps g ws (spanOf p (countOf ps) ks (looked p ks ps t)) (looked p ks ps t))

@@ -1,4 +1,4 @@
--- The point and the first partial derivatives of a surface, and the answers of `eval_surface` and of its step `eval_surface_at`.
+-- The point and the first partial derivatives of a surface, and the answers of `eval_surface` and of its step `eval_surface_at`, by the mode.
 -- Along u a surface has the degree p, knots us and m points; along v q, vs and n.
 -- Assumes nothing.
 use Prim.Native.Nat.{ℕ, zero, suc, _+_, _-_, _*_, _≤_, _<_}
@@ -10,12 +10,12 @@ use Rattle.exact.specs.Scheme.{dersOf}
 use Rattle.doubles.specs.Run.{at}
 use Rattle.doubles.specs.Value.{zero+, one+}
 use Rattle.knots.specs.Refusal.{orElse}
-use Rattle.knots.specs.Span.{clamped, spanOf, searched}
+use Rattle.knots.specs.Span.{clamped, domainRefusal, spanOf, searched}
 use Rattle.knots.specs.Surface.{surfaceRefusal}
 use Rattle.knots.specs.declared.refusal.Refusal.{Refusal}
 use Rattle.basis.specs.Floats.{floats}
 use Rattle.basis.specs.Basis.{leftOf, rightOf}
-use Rattle.knots.specs.Shape.{degreeRefusal, finiteRefusal, surfaceShape}
+use Rattle.knots.specs.Shape.{degreeRefusal, surfaceShape}
 use Rattle.evaluate.specs.Controls.{noSums, sumsFrom, rowTerm}
 use Rattle.runs.specs.Larger.{largestFrom}
 use Rattle.runs.specs.Point.{pointOf}
@@ -57,34 +57,35 @@ module _ (p q : ℕ) (us vs : List Float) (n : ℕ) (ps : List Float) (g : Bool)
   unfoldable pub surfaceOf : SurfaceDerivs
   surfaceOf = surfaceQuotient (pointOf ps ((s - p) * n + (t - q))) (activeNet 0 0) (activeNet 1 0) (activeNet 0 1)
 
--- ---- refusals
--- 31 of either direction, then 12
+-- ---- refusals, by the mode
+-- 31 of either direction
 unfoldable pub degreesRefusal : ℕ → ℕ → Refusal
 degreesRefusal p q = orElse (degreeRefusal p) (degreeRefusal q)
 
-unfoldable pub parametersRefusal : ℕ → ℕ → Float → Float → Refusal
-parametersRefusal p q u v = orElse (degreesRefusal p q) (orElse (finiteRefusal u) (finiteRefusal v))
+-- 31, then 12 and 43 of u, then 12 and 43 of v
+unfoldable pub parametersRefusal : Bool → ℕ → ℕ → List Float → List Float → ℕ → ℕ → Float → Float → Refusal
+parametersRefusal c p q us vs m n u v = orElse (degreesRefusal p q) (orElse (domainRefusal c p m us u) (domainRefusal c q n vs v))
 
-module _ (p q : ℕ) (us vs : List Float) (m n : ℕ) (ps : List Float) (g : Bool) (ws : List Float) (u v : Float) where
+module _ (c : Bool) (p q : ℕ) (us vs : List Float) (m n : ℕ) (ps : List Float) (g : Bool) (ws : List Float) (u v : Float) where
   -- of a step on a surface that was validated before, and of an evaluation
   unfoldable pub surfaceStepRefusal : Refusal
-  surfaceStepRefusal = orElse (surfaceShape p q us vs m n ps g ws) (parametersRefusal p q u v)
+  surfaceStepRefusal = orElse (surfaceShape p q us vs m n ps g ws) (parametersRefusal c p q us vs m n u v)
 
   unfoldable pub surfaceEvalRefusal : Refusal
-  surfaceEvalRefusal = orElse (surfaceRefusal p q us vs m n ps g ws) (parametersRefusal p q u v)
+  surfaceEvalRefusal = orElse (surfaceRefusal p q us vs m n ps g ws) (parametersRefusal c p q us vs m n u v)
 
 -- ---- answers
 abbrev pub surfaceAnswer : Refusal → SurfaceDerivs → SurfaceAnswer
 surfaceAnswer r d = cond (eqb (r .number) 0) (At d) (Refused r)
 
-module _ (p q : ℕ) (us vs : List Float) (m n : ℕ) (ps : List Float) (g : Bool) (ws : List Float) (u v : Float) where
+module _ (c : Bool) (p q : ℕ) (us vs : List Float) (m n : ℕ) (ps : List Float) (g : Bool) (ws : List Float) (u v : Float) where
   -- on any runs: the spans are what the search finds
   unfoldable pub surfaceAtOf : SurfaceAnswer
   surfaceAtOf =
-      surfaceAnswer (surfaceStepRefusal p q us vs m n ps g ws u v)
+      surfaceAnswer (surfaceStepRefusal c p q us vs m n ps g ws u v)
       (surfaceOf p q us vs n ps g ws (searched p m us (clamped p m us u)) (searched q n vs (clamped q n vs v)) (clamped p m us u) (clamped q n vs v))
 
   unfoldable pub evalSurfaceOf : SurfaceAnswer
   evalSurfaceOf =
-      surfaceAnswer (surfaceEvalRefusal p q us vs m n ps g ws u v)
+      surfaceAnswer (surfaceEvalRefusal c p q us vs m n ps g ws u v)
       (surfaceOf p q us vs n ps g ws (spanOf p m us (clamped p m us u)) (spanOf q n vs (clamped q n vs v)) (clamped p m us u) (clamped q n vs v))

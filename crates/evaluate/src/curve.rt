@@ -14,6 +14,7 @@ ghost use mathlib.Core.Path.{_≡_};
 ghost use mathlib.Core.Bool.{true};
 ghost use Prim.Native.Nat.{_+_, _*_, _<_, _≤_};
 ghost use lib.ListN.{length};
+ghost use Rattle.knots.specs.Span.{refusing, clamping};
 ghost use Rattle.evaluate.specs.Curve.{quotient, curveOf, evalAtOf, evalOf};
 
 pub struct CurveDerivs {
@@ -74,7 +75,8 @@ fn curve_at(
 }
 
 // The point and the first derivative at t of a curve that was validated before: only lengths are tested, so that many calls validate once.
-pub fn eval_at(
+fn eval_step(
+    clamping: bool,
     degree: usize,
     knots: &[f64],
     points: &[f64],
@@ -82,9 +84,9 @@ pub fn eval_at(
     weights: &[f64],
     t: f64,
 ) -> CurveAnswer
-    ensures { λ r. ⌜ r ≡ evalAtOf degree (now (knots .entry)) (now (points .entry)) rational (now (weights .entry)) t ⌝ }
+    ensures { λ r. ⌜ r ≡ evalAtOf clamping degree (now (knots .entry)) (now (points .entry)) rational (now (weights .entry)) t ⌝ }
 {
-    let refusal = step_refusal(degree, knots, points, rational, weights, t);
+    let refusal = step_refusal(clamping, degree, knots, points, rational, weights, t);
     if refusal.number != 0 {
         return CurveAnswer::Refused(refusal);
     }
@@ -94,7 +96,54 @@ pub fn eval_at(
     CurveAnswer::At(curve_at(span, u, degree, knots, points, rational, weights))
 }
 
-// The point and the first derivative of a curve at t, or a refusal. A finite t outside the domain becomes the nearer end.
+// The step of eval: a t outside the domain is refused.
+pub fn eval_at(
+    degree: usize,
+    knots: &[f64],
+    points: &[f64],
+    rational: bool,
+    weights: &[f64],
+    t: f64,
+) -> CurveAnswer
+    ensures { λ r. ⌜ r ≡ evalAtOf refusing degree (now (knots .entry)) (now (points .entry)) rational (now (weights .entry)) t ⌝ }
+{
+    eval_step(false, degree, knots, points, rational, weights, t)
+}
+
+// The step of eval_clamped: a t outside the domain becomes the nearer end.
+pub fn eval_at_clamped(
+    degree: usize,
+    knots: &[f64],
+    points: &[f64],
+    rational: bool,
+    weights: &[f64],
+    t: f64,
+) -> CurveAnswer
+    ensures { λ r. ⌜ r ≡ evalAtOf clamping degree (now (knots .entry)) (now (points .entry)) rational (now (weights .entry)) t ⌝ }
+{
+    eval_step(true, degree, knots, points, rational, weights, t)
+}
+
+// The point and the first derivative of a curve at t, by either mode.
+fn eval_by(
+    clamping: bool,
+    degree: usize,
+    knots: &[f64],
+    points: &[f64],
+    rational: bool,
+    weights: &[f64],
+    t: f64,
+) -> CurveAnswer
+    ensures { λ r. ⌜ r ≡ evalOf clamping degree (now (knots .entry)) (now (points .entry)) rational (now (weights .entry)) t ⌝ }
+{
+    let refusal = eval_refusal(clamping, degree, knots, points, rational, weights, t);
+    if refusal.number != 0 {
+        return CurveAnswer::Refused(refusal);
+    }
+    eval_step(clamping, degree, knots, points, rational, weights, t)
+}
+
+// The point and the first derivative of a curve at t, or a refusal: 43 where t lies outside the domain.
 pub fn eval(
     degree: usize,
     knots: &[f64],
@@ -103,11 +152,21 @@ pub fn eval(
     weights: &[f64],
     t: f64,
 ) -> CurveAnswer
-    ensures { λ r. ⌜ r ≡ evalOf degree (now (knots .entry)) (now (points .entry)) rational (now (weights .entry)) t ⌝ }
+    ensures { λ r. ⌜ r ≡ evalOf refusing degree (now (knots .entry)) (now (points .entry)) rational (now (weights .entry)) t ⌝ }
 {
-    let refusal = eval_refusal(degree, knots, points, rational, weights, t);
-    if refusal.number != 0 {
-        return CurveAnswer::Refused(refusal);
-    }
-    eval_at(degree, knots, points, rational, weights, t)
+    eval_by(false, degree, knots, points, rational, weights, t)
+}
+
+// The same, where a finite t outside the domain becomes the nearer end.
+pub fn eval_clamped(
+    degree: usize,
+    knots: &[f64],
+    points: &[f64],
+    rational: bool,
+    weights: &[f64],
+    t: f64,
+) -> CurveAnswer
+    ensures { λ r. ⌜ r ≡ evalOf clamping degree (now (knots .entry)) (now (points .entry)) rational (now (weights .entry)) t ⌝ }
+{
+    eval_by(true, degree, knots, points, rational, weights, t)
 }

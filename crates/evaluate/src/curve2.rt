@@ -16,6 +16,7 @@ ghost use mathlib.Core.Path.{_≡_};
 ghost use mathlib.Core.Bool.{true};
 ghost use Prim.Native.Nat.{_+_, _*_, _<_, _≤_};
 ghost use lib.ListN.{length};
+ghost use Rattle.knots.specs.Span.{refusing, clamping};
 ghost use Rattle.evaluate.specs.Curve2.{quotient2, curve2Of, finite2, eval2AtOf, eval2Of};
 
 pub struct CurveDerivs2 {
@@ -103,7 +104,8 @@ fn finite2_of(r: CurveDerivs2) -> bool
 }
 
 // The point and two derivatives at t of a curve that was validated before: only lengths are tested, so that many calls validate once.
-pub fn eval2_at(
+fn eval2_step(
+    clamping: bool,
     degree: usize,
     knots: &[f64],
     points: &[f64],
@@ -111,9 +113,9 @@ pub fn eval2_at(
     weights: &[f64],
     t: f64,
 ) -> CurveAnswer2
-    ensures { λ r. ⌜ r ≡ eval2AtOf degree (now (knots .entry)) (now (points .entry)) rational (now (weights .entry)) t ⌝ }
+    ensures { λ r. ⌜ r ≡ eval2AtOf clamping degree (now (knots .entry)) (now (points .entry)) rational (now (weights .entry)) t ⌝ }
 {
-    let refusal = step_refusal(degree, knots, points, rational, weights, t);
+    let refusal = step_refusal(clamping, degree, knots, points, rational, weights, t);
     if refusal.number != 0 {
         return CurveAnswer2::Refused(refusal);
     }
@@ -127,7 +129,54 @@ pub fn eval2_at(
     CurveAnswer2::Refused(refuse(21))
 }
 
-// The point and two derivatives of a curve at t, or a refusal: 21 where one of the numbers is not finite.
+// The step of eval2: a t outside the domain is refused.
+pub fn eval2_at(
+    degree: usize,
+    knots: &[f64],
+    points: &[f64],
+    rational: bool,
+    weights: &[f64],
+    t: f64,
+) -> CurveAnswer2
+    ensures { λ r. ⌜ r ≡ eval2AtOf refusing degree (now (knots .entry)) (now (points .entry)) rational (now (weights .entry)) t ⌝ }
+{
+    eval2_step(false, degree, knots, points, rational, weights, t)
+}
+
+// The step of eval2_clamped: a t outside the domain becomes the nearer end.
+pub fn eval2_at_clamped(
+    degree: usize,
+    knots: &[f64],
+    points: &[f64],
+    rational: bool,
+    weights: &[f64],
+    t: f64,
+) -> CurveAnswer2
+    ensures { λ r. ⌜ r ≡ eval2AtOf clamping degree (now (knots .entry)) (now (points .entry)) rational (now (weights .entry)) t ⌝ }
+{
+    eval2_step(true, degree, knots, points, rational, weights, t)
+}
+
+// The point and two derivatives of a curve at t, by either mode: 21 where one of the numbers is not finite.
+fn eval2_by(
+    clamping: bool,
+    degree: usize,
+    knots: &[f64],
+    points: &[f64],
+    rational: bool,
+    weights: &[f64],
+    t: f64,
+) -> CurveAnswer2
+    ensures { λ r. ⌜ r ≡ eval2Of clamping degree (now (knots .entry)) (now (points .entry)) rational (now (weights .entry)) t ⌝ }
+{
+    let refusal = eval_refusal(clamping, degree, knots, points, rational, weights, t);
+    if refusal.number != 0 {
+        return CurveAnswer2::Refused(refusal);
+    }
+    eval2_step(clamping, degree, knots, points, rational, weights, t)
+}
+
+// The point and two derivatives of a curve at t, or a refusal: 43 where t lies outside the domain.
 pub fn eval2(
     degree: usize,
     knots: &[f64],
@@ -136,11 +185,21 @@ pub fn eval2(
     weights: &[f64],
     t: f64,
 ) -> CurveAnswer2
-    ensures { λ r. ⌜ r ≡ eval2Of degree (now (knots .entry)) (now (points .entry)) rational (now (weights .entry)) t ⌝ }
+    ensures { λ r. ⌜ r ≡ eval2Of refusing degree (now (knots .entry)) (now (points .entry)) rational (now (weights .entry)) t ⌝ }
 {
-    let refusal = eval_refusal(degree, knots, points, rational, weights, t);
-    if refusal.number != 0 {
-        return CurveAnswer2::Refused(refusal);
-    }
-    eval2_at(degree, knots, points, rational, weights, t)
+    eval2_by(false, degree, knots, points, rational, weights, t)
+}
+
+// The same, where a finite t outside the domain becomes the nearer end.
+pub fn eval2_clamped(
+    degree: usize,
+    knots: &[f64],
+    points: &[f64],
+    rational: bool,
+    weights: &[f64],
+    t: f64,
+) -> CurveAnswer2
+    ensures { λ r. ⌜ r ≡ eval2Of clamping degree (now (knots .entry)) (now (points .entry)) rational (now (weights .entry)) t ⌝ }
+{
+    eval2_by(true, degree, knots, points, rational, weights, t)
 }

@@ -1,28 +1,35 @@
-// The refusals of a call: those of the curve or surface, then 31 and 12; and of a step on what was validated before, with its lengths alone in their place.
+// The refusals of a call, by its mode: those of the curve or surface, then 31, 12 and 43; and of a step on what was validated before, with its lengths alone in their place.
 use knots::curve::curve_refusal;
 use knots::refusal::Refusal;
 use knots::shape::curve_shape;
 use knots::shape::degree_refusal;
-use knots::shape::finite_refusal;
 use knots::shape::surface_shape;
+use knots::span::domain_refusal;
 use knots::surface::surface_refusal;
 ghost use mathlib.Core.Path.{_≡_};
 ghost use Rattle.evaluate.specs.Curve.{parameterRefusal, stepRefusal, evalRefusal};
 ghost use Rattle.evaluate.specs.Surface.{degreesRefusal, parametersRefusal, surfaceStepRefusal, surfaceEvalRefusal};
 
-// Refusals 31 and 12.
-pub fn parameter_refusal(degree: usize, t: f64) -> Refusal
-    ensures { λ r. ⌜ r ≡ parameterRefusal degree t ⌝ }
+// Refusals 31, 12 and 43.
+pub fn parameter_refusal(
+    clamping: bool,
+    degree: usize,
+    count: usize,
+    knots: &[f64],
+    t: f64,
+) -> Refusal
+    ensures { λ r. ⌜ r ≡ parameterRefusal clamping degree count (now (knots .entry)) t ⌝ }
 {
     let refusal = degree_refusal(degree);
     if refusal.number != 0 {
         return refusal;
     }
-    finite_refusal(t)
+    domain_refusal(clamping, degree, count, knots, t)
 }
 
-// The refusal of a step on a curve that was validated before: the runs' lengths, 31, 12.
+// The refusal of a step on a curve that was validated before: the runs' lengths, 31, 12, 43.
 pub fn step_refusal(
+    clamping: bool,
     degree: usize,
     knots: &[f64],
     points: &[f64],
@@ -30,17 +37,19 @@ pub fn step_refusal(
     weights: &[f64],
     t: f64,
 ) -> Refusal
-    ensures { λ r. ⌜ r ≡ stepRefusal degree (now (knots .entry)) (now (points .entry)) rational (now (weights .entry)) t ⌝ }
+    ensures { λ r. ⌜ r ≡ stepRefusal clamping degree (now (knots .entry)) (now (points .entry)) rational (now (weights .entry)) t ⌝ }
 {
     let refusal = curve_shape(degree, knots, points, rational, weights);
     if refusal.number != 0 {
         return refusal;
     }
-    parameter_refusal(degree, t)
+    let count = points.len() / 3;
+    parameter_refusal(clamping, degree, count, knots, t)
 }
 
-// The refusal of an evaluation of a curve: the curve's, 31, 12.
+// The refusal of an evaluation of a curve: the curve's, 31, 12, 43.
 pub fn eval_refusal(
+    clamping: bool,
     degree: usize,
     knots: &[f64],
     points: &[f64],
@@ -48,13 +57,14 @@ pub fn eval_refusal(
     weights: &[f64],
     t: f64,
 ) -> Refusal
-    ensures { λ r. ⌜ r ≡ evalRefusal degree (now (knots .entry)) (now (points .entry)) rational (now (weights .entry)) t ⌝ }
+    ensures { λ r. ⌜ r ≡ evalRefusal clamping degree (now (knots .entry)) (now (points .entry)) rational (now (weights .entry)) t ⌝ }
 {
     let refusal = curve_refusal(degree, knots, points, rational, weights);
     if refusal.number != 0 {
         return refusal;
     }
-    parameter_refusal(degree, t)
+    let count = points.len() / 3;
+    parameter_refusal(clamping, degree, count, knots, t)
 }
 
 // Refusal 31 of either direction.
@@ -68,23 +78,34 @@ pub fn degrees_refusal(u_degree: usize, v_degree: usize) -> Refusal
     degree_refusal(v_degree)
 }
 
-// Refusals 31 and 12 of either direction.
-pub fn parameters_refusal(u_degree: usize, v_degree: usize, u: f64, v: f64) -> Refusal
-    ensures { λ r. ⌜ r ≡ parametersRefusal «u_degree» «v_degree» u v ⌝ }
+// Refusals 31 of either direction, then 12 and 43 of u, then of v.
+pub fn parameters_refusal(
+    clamping: bool,
+    p: usize,
+    q: usize,
+    uk: &[f64],
+    vk: &[f64],
+    m: usize,
+    n: usize,
+    u: f64,
+    v: f64,
+) -> Refusal
+    ensures { λ r. ⌜ r ≡ parametersRefusal clamping p q (now (uk .entry)) (now (vk .entry)) m n u v ⌝ }
 {
-    let refusal = degrees_refusal(u_degree, v_degree);
+    let refusal = degrees_refusal(p, q);
     if refusal.number != 0 {
         return refusal;
     }
-    let refusal = finite_refusal(u);
+    let refusal = domain_refusal(clamping, p, m, uk, u);
     if refusal.number != 0 {
         return refusal;
     }
-    finite_refusal(v)
+    domain_refusal(clamping, q, n, vk, v)
 }
 
-// The refusal of a step on a surface that was validated before: the runs' lengths, 31, 12.
+// The refusal of a step on a surface that was validated before: the runs' lengths, 31, 12, 43.
 pub fn surface_step_refusal(
+    clamping: bool,
     p: usize,
     q: usize,
     uk: &[f64],
@@ -97,17 +118,18 @@ pub fn surface_step_refusal(
     u: f64,
     v: f64,
 ) -> Refusal
-    ensures { λ r. ⌜ r ≡ surfaceStepRefusal p q (now (uk .entry)) (now (vk .entry)) m n (now (points .entry)) rational (now (weights .entry)) u v ⌝ }
+    ensures { λ r. ⌜ r ≡ surfaceStepRefusal clamping p q (now (uk .entry)) (now (vk .entry)) m n (now (points .entry)) rational (now (weights .entry)) u v ⌝ }
 {
     let refusal = surface_shape(p, q, uk, vk, m, n, points, rational, weights);
     if refusal.number != 0 {
         return refusal;
     }
-    parameters_refusal(p, q, u, v)
+    parameters_refusal(clamping, p, q, uk, vk, m, n, u, v)
 }
 
-// The refusal of an evaluation of a surface: the surface's, 31, 12.
+// The refusal of an evaluation of a surface: the surface's, 31, 12, 43.
 pub fn surface_eval_refusal(
+    clamping: bool,
     u_degree: usize,
     v_degree: usize,
     u_knots: &[f64],
@@ -120,7 +142,7 @@ pub fn surface_eval_refusal(
     u: f64,
     v: f64,
 ) -> Refusal
-    ensures { λ r. ⌜ r ≡ surfaceEvalRefusal «u_degree» «v_degree» (now («u_knots» .entry)) (now («v_knots» .entry)) «u_count» «v_count» (now (points .entry)) rational (now (weights .entry)) u v ⌝ }
+    ensures { λ r. ⌜ r ≡ surfaceEvalRefusal clamping «u_degree» «v_degree» (now («u_knots» .entry)) (now («v_knots» .entry)) «u_count» «v_count» (now (points .entry)) rational (now (weights .entry)) u v ⌝ }
 {
     let refusal = surface_refusal(
         u_degree,
@@ -136,5 +158,15 @@ pub fn surface_eval_refusal(
     if refusal.number != 0 {
         return refusal;
     }
-    parameters_refusal(u_degree, v_degree, u, v)
+    parameters_refusal(
+        clamping,
+        u_degree,
+        v_degree,
+        u_knots,
+        v_knots,
+        u_count,
+        v_count,
+        u,
+        v,
+    )
 }

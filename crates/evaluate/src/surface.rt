@@ -15,6 +15,7 @@ ghost use mathlib.Core.Path.{_≡_};
 ghost use mathlib.Core.Bool.{true};
 ghost use Prim.Native.Nat.{_+_, _-_, _*_, _/_, _<_, _≤_};
 ghost use lib.ListN.{length};
+ghost use Rattle.knots.specs.Span.{refusing, clamping};
 ghost use Rattle.evaluate.specs.Surface.{NetReach, surfaceQuotient, surfaceOf, surfaceAtOf, evalSurfaceOf};
 
 pub struct SurfaceDerivs {
@@ -103,6 +104,47 @@ fn surface_at(
 }
 
 // The point and the first partial derivatives at u and v of a surface that was validated before: only lengths are tested.
+fn surface_step(
+    clamping: bool,
+    p: usize,
+    q: usize,
+    uk: &[f64],
+    vk: &[f64],
+    m: usize,
+    n: usize,
+    points: &[f64],
+    rational: bool,
+    weights: &[f64],
+    u: f64,
+    v: f64,
+) -> SurfaceAnswer
+    ensures { λ r. ⌜ r ≡ surfaceAtOf clamping p q (now (uk .entry)) (now (vk .entry)) m n (now (points .entry)) rational (now (weights .entry)) u v ⌝ }
+{
+    let refusal = surface_step_refusal(
+        clamping,
+        p,
+        q,
+        uk,
+        vk,
+        m,
+        n,
+        points,
+        rational,
+        weights,
+        u,
+        v,
+    );
+    if refusal.number != 0 {
+        return SurfaceAnswer::Refused(refusal);
+    }
+    let s = span_of(p, m, u, uk);
+    let x = clamp(p, m, u, uk);
+    let t = span_of(q, n, v, vk);
+    let y = clamp(q, n, v, vk);
+    SurfaceAnswer::At(surface_at(s, t, x, y, p, q, uk, vk, n, points, rational, weights))
+}
+
+// The step of eval_surface: a parameter outside the domain is refused.
 pub fn eval_surface_at(
     p: usize,
     q: usize,
@@ -116,20 +158,81 @@ pub fn eval_surface_at(
     u: f64,
     v: f64,
 ) -> SurfaceAnswer
-    ensures { λ r. ⌜ r ≡ surfaceAtOf p q (now (uk .entry)) (now (vk .entry)) m n (now (points .entry)) rational (now (weights .entry)) u v ⌝ }
+    ensures { λ r. ⌜ r ≡ surfaceAtOf refusing p q (now (uk .entry)) (now (vk .entry)) m n (now (points .entry)) rational (now (weights .entry)) u v ⌝ }
 {
-    let refusal = surface_step_refusal(p, q, uk, vk, m, n, points, rational, weights, u, v);
+    surface_step(false, p, q, uk, vk, m, n, points, rational, weights, u, v)
+}
+
+// The step of eval_surface_clamped: a parameter outside the domain becomes the nearer end.
+pub fn eval_surface_at_clamped(
+    p: usize,
+    q: usize,
+    uk: &[f64],
+    vk: &[f64],
+    m: usize,
+    n: usize,
+    points: &[f64],
+    rational: bool,
+    weights: &[f64],
+    u: f64,
+    v: f64,
+) -> SurfaceAnswer
+    ensures { λ r. ⌜ r ≡ surfaceAtOf clamping p q (now (uk .entry)) (now (vk .entry)) m n (now (points .entry)) rational (now (weights .entry)) u v ⌝ }
+{
+    surface_step(true, p, q, uk, vk, m, n, points, rational, weights, u, v)
+}
+
+// The point and the first partial derivatives of a surface, by either mode.
+fn surface_by(
+    clamping: bool,
+    p: usize,
+    q: usize,
+    uk: &[f64],
+    vk: &[f64],
+    m: usize,
+    n: usize,
+    points: &[f64],
+    rational: bool,
+    weights: &[f64],
+    u: f64,
+    v: f64,
+) -> SurfaceAnswer
+    ensures { λ r. ⌜ r ≡ evalSurfaceOf clamping p q (now (uk .entry)) (now (vk .entry)) m n (now (points .entry)) rational (now (weights .entry)) u v ⌝ }
+{
+    let refusal = surface_eval_refusal(
+        clamping,
+        p,
+        q,
+        uk,
+        vk,
+        m,
+        n,
+        points,
+        rational,
+        weights,
+        u,
+        v,
+    );
     if refusal.number != 0 {
         return SurfaceAnswer::Refused(refusal);
     }
-    let s = span_of(p, m, u, uk);
-    let x = clamp(p, m, u, uk);
-    let t = span_of(q, n, v, vk);
-    let y = clamp(q, n, v, vk);
-    SurfaceAnswer::At(surface_at(s, t, x, y, p, q, uk, vk, n, points, rational, weights))
+    surface_step(
+        clamping,
+        p,
+        q,
+        uk,
+        vk,
+        m,
+        n,
+        points,
+        rational,
+        weights,
+        u,
+        v,
+    )
 }
 
-// The point and the first partial derivatives of a surface, or a refusal. Finite parameters outside the domain become the nearer ends.
+// The point and the first partial derivatives of a surface, or a refusal: 43 where u or v lies outside the domain.
 pub fn eval_surface(
     u_degree: usize,
     v_degree: usize,
@@ -143,9 +246,10 @@ pub fn eval_surface(
     u: f64,
     v: f64,
 ) -> SurfaceAnswer
-    ensures { λ r. ⌜ r ≡ evalSurfaceOf «u_degree» «v_degree» (now («u_knots» .entry)) (now («v_knots» .entry)) «u_count» «v_count» (now (points .entry)) rational (now (weights .entry)) u v ⌝ }
+    ensures { λ r. ⌜ r ≡ evalSurfaceOf refusing «u_degree» «v_degree» (now («u_knots» .entry)) (now («v_knots» .entry)) «u_count» «v_count» (now (points .entry)) rational (now (weights .entry)) u v ⌝ }
 {
-    let refusal = surface_eval_refusal(
+    surface_by(
+        false,
         u_degree,
         v_degree,
         u_knots,
@@ -157,11 +261,27 @@ pub fn eval_surface(
         weights,
         u,
         v,
-    );
-    if refusal.number != 0 {
-        return SurfaceAnswer::Refused(refusal);
-    }
-    eval_surface_at(
+    )
+}
+
+// The same, where finite parameters outside the domain become the nearer ends.
+pub fn eval_surface_clamped(
+    u_degree: usize,
+    v_degree: usize,
+    u_knots: &[f64],
+    v_knots: &[f64],
+    u_count: usize,
+    v_count: usize,
+    points: &[f64],
+    rational: bool,
+    weights: &[f64],
+    u: f64,
+    v: f64,
+) -> SurfaceAnswer
+    ensures { λ r. ⌜ r ≡ evalSurfaceOf clamping «u_degree» «v_degree» (now («u_knots» .entry)) (now («v_knots» .entry)) «u_count» «v_count» (now (points .entry)) rational (now (weights .entry)) u v ⌝ }
+{
+    surface_by(
+        true,
         u_degree,
         v_degree,
         u_knots,

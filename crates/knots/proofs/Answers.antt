@@ -109,6 +109,10 @@ module _ (p n : ℕ) (ks : List Float) (u : Float) where
         let b = passed (not c && outside p n ks u) (refuse parameter-outside) accepted (λ e. omega arith) (a .1) in
         (not-false (finite u) (a .0), b .0)
 
+    pub domain-none : domainRefusal c p n ks u .number ≡ 0 → domainRefusal c p n ks u ≡ accepted
+    unfolding domainRefusal
+    domain-none h = let o = domain-open h in simp (o .0, o .1)
+
     -- the parameter that an answer speaks of is the one that is looked up
     pub spoken : (not c && outside p n ks u) ≡ false → cond c (clamped p n ks u) u ≡ clamped p n ks u
     spoken = go c

@@ -13,13 +13,13 @@ returns : tie.Need-returns
 unfolding parameterRefusal
 returns c = simp (stop (c .before .before .degree-refusal .ensures) (c .if1 .taken)) (c .before .before .degree-refusal .ensures)
 
-finite-refusal-requires : tie.Need-finite-refusal-requires
-finite-refusal-requires c κs = search needs
+domain-refusal-requires : tie.Need-domain-refusal-requires
+domain-refusal-requires c κs = search needs
 
 returns-2 : tie.Need-returns-2
 unfolding parameterRefusal
-returns-2 c = simp (skip (c .before .before .before .degree-refusal .ensures) (c .before .if1 .left)) (c .finite-refusal .ensures)
+returns-2 c = simp (skip (c .before .before .before .degree-refusal .ensures) (c .before .if1 .left)) (c .domain-refusal .ensures)
 
 pub parameter-refusal-spec : {M : Type 1} → statement M
 parameter-refusal-spec =
-    tie.close (tie.spec degree-refusal-requires returns finite-refusal-requires returns-2)
+    tie.close (tie.spec degree-refusal-requires returns domain-refusal-requires returns-2)

@@ -13,27 +13,27 @@ returns : tie.Need-returns
 unfolding parametersRefusal
 returns c = simp (stop (c .before .before .degrees-refusal .ensures) (c .if1 .taken)) (c .before .before .degrees-refusal .ensures)
 
-finite-refusal-requires : tie.Need-finite-refusal-requires
-finite-refusal-requires c κs = search needs
+domain-refusal-requires : tie.Need-domain-refusal-requires
+domain-refusal-requires c κs = search needs
 
 returns-2 : tie.Need-returns-2
 unfolding parametersRefusal
 returns-2 c =
     simp
-    (skip (c .before .before .before .before .before .degrees-refusal .ensures) (c .before .before .before .if1 .left), stop (c .before .before .finite-refusal .ensures) (c .if2 .taken))
-    (c .before .before .finite-refusal .ensures)
+    (skip (c .before .before .before .before .before .degrees-refusal .ensures) (c .before .before .before .if1 .left), stop (c .before .before .domain-refusal .ensures) (c .if2 .taken))
+    (c .before .before .domain-refusal .ensures)
 
-finite-refusal-requires-2 : tie.Need-finite-refusal-requires-2
-finite-refusal-requires-2 c κs = search needs
+domain-refusal-requires-2 : tie.Need-domain-refusal-requires-2
+domain-refusal-requires-2 c κs = search needs
 
 returns-3 : tie.Need-returns-3
 unfolding parametersRefusal
 returns-3 c =
     simp (
       skip (c .before .before .before .before .before .before .degrees-refusal .ensures) (c .before .before .before .before .if1 .left),
-      skip (c .before .before .before .finite-refusal .ensures) (c .before .if2 .left),
+      skip (c .before .before .before .domain-refusal .ensures) (c .before .if2 .left),
     )
-    (c .finite-refusal2 .ensures)
+    (c .domain-refusal2 .ensures)
 
 pub parameters-refusal-spec : {M : Type 1} → statement M
 parameters-refusal-spec =
@@ -41,7 +41,7 @@ parameters-refusal-spec =
     (tie.spec
     degrees-refusal-requires
     returns
-    finite-refusal-requires
+    domain-refusal-requires
     returns-2
-    finite-refusal-requires-2
+    domain-refusal-requires-2
     returns-3)

@@ -1,4 +1,4 @@
--- `evaluate::curve::eval_at` meets its contract.
+-- `evaluate::curve::eval_step` meets its contract.
 -- Assumes nothing.
 use mathlib.Core.Path.{_≡_, sym, _∙_, ap, subst}
 use denote.Ref.{now}
@@ -8,8 +8,8 @@ use Rattle.evaluate.specs.Curve.{looked, stepRefusal}
 use Rattle.evaluate.proofs.Steps.{step-open, Found, found, points-reach, weights-reach}
 use Rattle.evaluate.proofs.Curves.{at-refused, at-answered}
 use borrow.Author.Needs.{needs}
-use Rattle.evaluate.proofs.curve.eval_at.Statement.{statement}
-use Rattle.evaluate.proofs.curve.eval_at.Tie as tie
+use Rattle.evaluate.proofs.curve.eval_step.Statement.{statement}
+use Rattle.evaluate.proofs.curve.eval_step.Tie as tie
 
 step-refusal-requires : tie.Need-step-refusal-requires
 step-refusal-requires c κs = search needs
@@ -17,7 +17,7 @@ step-refusal-requires c κs = search needs
 returns : tie.Need-returns
 returns c =
     let a = c .before .before .before .before .before .before .args in
-    at-refused (a .degree) (now (a .knots)) (now (a .points)) (a .rational) (now (a .weights)) (a .t) _ (c .if1 .taken) (c .before .before .step-refusal .ensures)
+    at-refused (a .clamping) (a .degree) (now (a .knots)) (now (a .points)) (a .rational) (now (a .weights)) (a .t) _ (c .if1 .taken) (c .before .before .step-refusal .ensures)
 
 span-of-requires : tie.Need-span-of-requires
 span-of-requires c κs = search needs
@@ -28,10 +28,10 @@ clamp-requires c κs = search needs
 curve-at-requires : tie.Need-curve-at-requires
 curve-at-requires c κs =
     let a = c .before .before .before .before .before .before .before .before .args in
-    let none : stepRefusal (a .degree) (now (a .knots)) (now (a .points)) (a .rational) (now (a .weights)) (a .t) .number ≡ 0 = sym
+    let none : stepRefusal (a .clamping) (a .degree) (now (a .knots)) (now (a .points)) (a .rational) (now (a .weights)) (a .t) .number ≡ 0 = sym
     (ap (λ (r : Refusal). r .number) (c .before .before .before .before .step-refusal .ensures))
     ∙ c .before .before .if1 .left in
-    let o = step-open (a .degree) (now (a .knots)) (now (a .points)) (a .rational) (now (a .weights)) (a .t) none in
+    let o = step-open (a .clamping) (a .degree) (now (a .knots)) (now (a .points)) (a .rational) (now (a .weights)) (a .t) none in
     let n = countOf (now (a .points)) in
     let f =
     subst
@@ -45,8 +45,8 @@ curve-at-requires c κs =
           (
             f .reach,
             (
-              points-reach (a .degree) (now (a .knots)) (now (a .points)) (a .rational) (now (a .weights)) (a .t) o _ f,
-              weights-reach (a .degree) (now (a .knots)) (now (a .points)) (a .rational) (now (a .weights)) (a .t) o _ f,
+              points-reach (a .clamping) (a .degree) (now (a .knots)) (now (a .points)) (a .rational) (now (a .weights)) (a .t) o _ f,
+              weights-reach (a .clamping) (a .degree) (now (a .knots)) (now (a .points)) (a .rational) (now (a .weights)) (a .t) o _ f,
             ),
           ),
         ),
@@ -57,12 +57,12 @@ returns-2 : tie.Need-returns-2
 returns-2 c =
     let a = c .before .before .before .before .before .before .before .before .before .args in
     at-answered
-    (a .degree) (now (a .knots)) (now (a .points)) (a .rational) (now (a .weights)) (a .t) (c .before .before .before .before .before .step-refusal .result)
+    (a .clamping) (a .degree) (now (a .knots)) (now (a .points)) (a .rational) (now (a .weights)) (a .t) (c .before .before .before .before .before .step-refusal .result)
     (c .before .before .before .before .before .step-refusal .ensures) (c .before .before .before .if1 .left) _ _ (c .before .before .span-of .ensures .found) (c .before .clamp .ensures) _
     (c .curve-at .ensures)
 
-pub eval-at-spec : {M : Type 1} → statement M
-eval-at-spec =
+pub eval-step-spec : {M : Type 1} → statement M
+eval-step-spec =
     tie.close
     (tie.spec
     step-refusal-requires

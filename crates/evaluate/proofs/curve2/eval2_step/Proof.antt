@@ -1,4 +1,4 @@
--- `evaluate::curve2::eval2_at` meets its contract.
+-- `evaluate::curve2::eval2_step` meets its contract.
 -- Assumes nothing.
 use mathlib.Core.Path.{_≡_, sym, _∙_, ap, subst}
 use denote.Ref.{now}
@@ -9,8 +9,8 @@ use Rattle.evaluate.proofs.Steps.{step-open, Found, found, points-reach
 use Rattle.evaluate.proofs.Curves.{at2-refused, at2-answered, at2-degenerate}
 use Rattle.evaluate.specs.declared.curve2.CurveAnswer2.the-variants.{Refused}
 use borrow.Author.Needs.{needs}
-use Rattle.evaluate.proofs.curve2.eval2_at.Statement.{statement}
-use Rattle.evaluate.proofs.curve2.eval2_at.Tie as tie
+use Rattle.evaluate.proofs.curve2.eval2_step.Statement.{statement}
+use Rattle.evaluate.proofs.curve2.eval2_step.Tie as tie
 
 step-refusal-requires : tie.Need-step-refusal-requires
 step-refusal-requires c κs = search needs
@@ -18,7 +18,7 @@ step-refusal-requires c κs = search needs
 returns : tie.Need-returns
 returns c =
     let given = c .before .before .before .before .before .before .args in
-    at2-refused (given .degree) (now (given .knots)) (now (given .points)) (given .rational) (now (given .weights)) (given .t) _ (c .if1 .taken) (c .before .before .step-refusal .ensures)
+    at2-refused (given .clamping) (given .degree) (now (given .knots)) (now (given .points)) (given .rational) (now (given .weights)) (given .t) _ (c .if1 .taken) (c .before .before .step-refusal .ensures)
 
 span-of-requires : tie.Need-span-of-requires
 span-of-requires c κs = search needs
@@ -29,10 +29,10 @@ clamp-requires c κs = search needs
 curve2-at-requires : tie.Need-curve2-at-requires
 curve2-at-requires c κs =
     let given = c .before .before .before .before .before .before .before .before .args in
-    let none : stepRefusal (given .degree) (now (given .knots)) (now (given .points)) (given .rational) (now (given .weights)) (given .t) .number ≡ 0 = sym
+    let none : stepRefusal (given .clamping) (given .degree) (now (given .knots)) (now (given .points)) (given .rational) (now (given .weights)) (given .t) .number ≡ 0 = sym
     (ap (λ (r : Refusal). r .number) (c .before .before .before .before .step-refusal .ensures))
     ∙ c .before .before .if1 .left in
-    let o = step-open (given .degree) (now (given .knots)) (now (given .points)) (given .rational) (now (given .weights)) (given .t) none in
+    let o = step-open (given .clamping) (given .degree) (now (given .knots)) (now (given .points)) (given .rational) (now (given .weights)) (given .t) none in
     let n = countOf (now (given .points)) in
     let f =
     subst
@@ -46,8 +46,8 @@ curve2-at-requires c κs =
           (
             f .reach,
             (
-              points-reach (given .degree) (now (given .knots)) (now (given .points)) (given .rational) (now (given .weights)) (given .t) o _ f,
-              weights-reach (given .degree) (now (given .knots)) (now (given .points)) (given .rational) (now (given .weights)) (given .t) o _ f,
+              points-reach (given .clamping) (given .degree) (now (given .knots)) (now (given .points)) (given .rational) (now (given .weights)) (given .t) o _ f,
+              weights-reach (given .clamping) (given .degree) (now (given .knots)) (now (given .points)) (given .rational) (now (given .weights)) (given .t) o _ f,
             ),
           ),
         ),
@@ -61,7 +61,7 @@ returns-2 : tie.Need-returns-2
 returns-2 c =
     let given = c .before .before .before .before .before .before .before .before .before .before .before .args in
     at2-answered
-    (given .degree) (now (given .knots)) (now (given .points)) (given .rational) (now (given .weights)) (given .t) (c .before .before .before .before .before .before .before .step-refusal .result)
+    (given .clamping) (given .degree) (now (given .knots)) (now (given .points)) (given .rational) (now (given .weights)) (given .t) (c .before .before .before .before .before .before .before .step-refusal .result)
     (c .before .before .before .before .before .before .before .step-refusal .ensures) (c .before .before .before .before .before .if1 .left) _ _
     (c .before .before .before .before .span-of .ensures .found) (c .before .before .before .clamp .ensures) _ (c .before .before .curve2-at .ensures)
     (sym (c .before .finite2-of .ensures) ∙ c .if2 .taken)
@@ -74,14 +74,14 @@ returns-3 c =
     let given = c .before .before .before .before .before .before .before .before .before .before .before .before .args in
     ap Refused (c .refuse .ensures)
     ∙ at2-degenerate
-    (given .degree) (now (given .knots)) (now (given .points)) (given .rational) (now (given .weights)) (given .t)
+    (given .clamping) (given .degree) (now (given .knots)) (now (given .points)) (given .rational) (now (given .weights)) (given .t)
     (c .before .before .before .before .before .before .before .before .step-refusal .result)
     (c .before .before .before .before .before .before .before .before .step-refusal .ensures) (c .before .before .before .before .before .before .if1 .left) _ _
     (c .before .before .before .before .before .span-of .ensures .found) (c .before .before .before .before .clamp .ensures) _ (c .before .before .before .curve2-at .ensures)
     (sym (c .before .before .finite2-of .ensures) ∙ c .before .if2 .left)
 
-pub eval2-at-spec : {M : Type 1} → statement M
-eval2-at-spec =
+pub eval2-step-spec : {M : Type 1} → statement M
+eval2-step-spec =
     tie.close
     (tie.spec
     step-refusal-requires

@@ -1,4 +1,4 @@
--- `evaluate::surface::eval_surface_at` meets its contract.
+-- `evaluate::surface::surface_step` meets its contract.
 -- Assumes nothing.
 use mathlib.Core.Path.{_≡_, sym, _∙_, ap, subst}
 use denote.Ref.{now}
@@ -8,8 +8,8 @@ use Rattle.evaluate.specs.Surface.{surfaceStepRefusal}
 use Rattle.evaluate.proofs.Steps.{Found, found}
 use Rattle.evaluate.proofs.Surfaces.{surface-step-open, points-net, weights-net, surface-at-refused, surface-at-answered}
 use borrow.Author.Needs.{needs}
-use Rattle.evaluate.proofs.surface.eval_surface_at.Statement.{statement}
-use Rattle.evaluate.proofs.surface.eval_surface_at.Tie as tie
+use Rattle.evaluate.proofs.surface.surface_step.Statement.{statement}
+use Rattle.evaluate.proofs.surface.surface_step.Tie as tie
 
 surface-step-refusal-requires : tie.Need-surface-step-refusal-requires
 surface-step-refusal-requires c κs = search needs
@@ -18,7 +18,7 @@ returns : tie.Need-returns
 returns c =
     let a = c .before .before .before .before .before .before .before .args in
     surface-at-refused
-    (a .p) (a .q) (now (a .uk)) (now (a .vk)) (a .m) (a .n) (now (a .points)) (a .rational) (now (a .weights)) (a .u) (a .v) _ (c .if1 .taken) (c .before .before .surface-step-refusal .ensures)
+    (a .p) (a .q) (now (a .uk)) (now (a .vk)) (a .m) (a .n) (now (a .points)) (a .rational) (now (a .weights)) (a .clamping) (a .u) (a .v) _ (c .if1 .taken) (c .before .before .surface-step-refusal .ensures)
 
 span-of-requires : tie.Need-span-of-requires
 span-of-requires c κs = search needs
@@ -35,10 +35,10 @@ clamp-requires-2 c κs = search needs
 surface-at-requires : tie.Need-surface-at-requires
 surface-at-requires c κs =
     let a = c .before .before .before .before .before .before .before .before .before .before .before .args in
-    let none : surfaceStepRefusal (a .p) (a .q) (now (a .uk)) (now (a .vk)) (a .m) (a .n) (now (a .points)) (a .rational) (now (a .weights)) (a .u) (a .v) .number ≡ 0 = sym
+    let none : surfaceStepRefusal (a .clamping) (a .p) (a .q) (now (a .uk)) (now (a .vk)) (a .m) (a .n) (now (a .points)) (a .rational) (now (a .weights)) (a .u) (a .v) .number ≡ 0 = sym
     (ap (λ (r : Refusal). r .number) (c .before .before .before .before .before .before .surface-step-refusal .ensures))
     ∙ c .before .before .before .before .if1 .left in
-    let o = surface-step-open (a .p) (a .q) (now (a .uk)) (now (a .vk)) (a .m) (a .n) (now (a .points)) (a .rational) (now (a .weights)) (a .u) (a .v) none in
+    let o = surface-step-open (a .p) (a .q) (now (a .uk)) (now (a .vk)) (a .m) (a .n) (now (a .points)) (a .rational) (now (a .weights)) (a .clamping) (a .u) (a .v) none in
     let s =
     subst
     (Found (a .p) (a .m) (now (a .uk))) (sym (c .before .before .before .span-of .ensures .found)) (found (a .p) (a .m) (now (a .uk)) (o .shape .u) (clamped (a .p) (a .m) (now (a .uk)) (a .u))) in
@@ -59,8 +59,8 @@ surface-at-requires c κs =
                   (
                     t .reach,
                     (
-                      points-net (a .p) (a .q) (now (a .uk)) (now (a .vk)) (a .m) (a .n) (now (a .points)) (a .rational) (now (a .weights)) (a .u) (a .v) o _ _ s t,
-                      weights-net (a .p) (a .q) (now (a .uk)) (now (a .vk)) (a .m) (a .n) (now (a .points)) (a .rational) (now (a .weights)) (a .u) (a .v) o _ _ s t,
+                      points-net (a .p) (a .q) (now (a .uk)) (now (a .vk)) (a .m) (a .n) (now (a .points)) (a .rational) (now (a .weights)) (a .clamping) (a .u) (a .v) o _ _ s t,
+                      weights-net (a .p) (a .q) (now (a .uk)) (now (a .vk)) (a .m) (a .n) (now (a .points)) (a .rational) (now (a .weights)) (a .clamping) (a .u) (a .v) o _ _ s t,
                     ),
                   ),
                 ),
@@ -75,13 +75,13 @@ returns-2 : tie.Need-returns-2
 returns-2 c =
     let a = c .before .before .before .before .before .before .before .before .before .before .before .before .args in
     surface-at-answered
-    (a .p) (a .q) (now (a .uk)) (now (a .vk)) (a .m) (a .n) (now (a .points)) (a .rational) (now (a .weights)) (a .u) (a .v) _
+    (a .p) (a .q) (now (a .uk)) (now (a .vk)) (a .m) (a .n) (now (a .points)) (a .rational) (now (a .weights)) (a .clamping) (a .u) (a .v) _
     (c .before .before .before .before .before .before .before .surface-step-refusal .ensures) (c .before .before .before .before .before .if1 .left) _ _ _ _
     (c .before .before .before .before .span-of .ensures .found) (c .before .before .before .clamp .ensures) (c .before .before .span-of2 .ensures .found) (c .before .clamp2 .ensures) _
     (c .surface-at .ensures)
 
-pub eval-surface-at-spec : {M : Type 1} → statement M
-eval-surface-at-spec =
+pub surface-step-spec : {M : Type 1} → statement M
+surface-step-spec =
     tie.close
     (tie.spec
     surface-step-refusal-requires

@@ -1,0 +1,28 @@
+-- `evaluate::curve::eval_by` meets its contract.
+-- Assumes nothing.
+use mathlib.Core.Path.{_∙_}
+use denote.Ref.{now}
+use Rattle.evaluate.proofs.Curves.{eval-refused, eval-answered}
+use borrow.Author.Needs.{needs}
+use Rattle.evaluate.proofs.curve.eval_by.Statement.{statement}
+use Rattle.evaluate.proofs.curve.eval_by.Tie as tie
+
+eval-refusal-requires : tie.Need-eval-refusal-requires
+eval-refusal-requires c κs = search needs
+
+returns : tie.Need-returns
+returns c =
+    let a = c .before .before .before .before .before .before .args in
+    eval-refused (a .clamping) (a .degree) (now (a .knots)) (now (a .points)) (a .rational) (now (a .weights)) (a .t) _ (c .if1 .taken) (c .before .before .eval-refusal .ensures)
+
+eval-step-requires : tie.Need-eval-step-requires
+eval-step-requires c κs = search needs
+
+returns-2 : tie.Need-returns-2
+returns-2 c =
+    let a = c .before .before .before .before .before .before .before .args in
+    c .eval-step .ensures
+    ∙ eval-answered (a .clamping) (a .degree) (now (a .knots)) (now (a .points)) (a .rational) (now (a .weights)) (a .t) _ (c .before .before .before .eval-refusal .ensures) (c .before .if1 .left)
+
+pub eval-by-spec : {M : Type 1} → statement M
+eval-by-spec = tie.close (tie.spec eval-refusal-requires returns eval-step-requires returns-2)
