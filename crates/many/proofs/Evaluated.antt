@@ -63,43 +63,43 @@ module _ (b : Bool) (r : PointRow) (l : List Float) (i w : ℕ) (l₁ l₂ : Lis
       ∙ (sets-three (threeOf (r .point)) (threeOf (r .d1)) (threeOf (r .d2)) l (i * w) (i * w + 3) (i * w + 6) refl (omega arith)
       ∙ is-row (threeOf (r .d2)) (ap (λ (x : Bool). cond x (threeOf (r .d2)) []) f))
 
-module _ (p : ℕ) (ks ps : List Float) (g : Bool) (ws : List Float) where
+module _ (c : Bool) (p : ℕ) (ks ps : List Float) (g : Bool) (ws : List Float) where
   -- ---- one answer
   module _ (v : ValidCurve p ks ps g ws) (t : Float) where
-    step-is : stepRefusal p ks ps g ws t ≡ parameterRefusal p t
+    step-is : stepRefusal c p ks ps g ws t ≡ parameterRefusal c p (countOf ps) ks t
     unfolding stepRefusal
     step-is = simp (shape-none p ks ps g ws v)
 
-    eval-is : evalRefusal p ks ps g ws t ≡ parameterRefusal p t
+    eval-is : evalRefusal c p ks ps g ws t ≡ parameterRefusal c p (countOf ps) ks t
     unfolding evalRefusal
     eval-is = simp (curve-not-refused p ks ps g ws v)
 
     -- a parameter that is not refused is looked up in the same span, and of another no point is asked
-    pub valid-answered : evalAtOf p ks ps g ws t ≡ evalOf p ks ps g ws t
+    pub valid-answered : evalAtOf c p ks ps g ws t ≡ evalOf c p ks ps g ws t
     unfolding evalAtOf evalOf
     valid-answered = ap (λ (r : Refusal). answer r (curveOf p ks ps g ws (searched p (countOf ps) ks (looked p ks ps t)) (looked p ks ps t))) step-is
-        ∙ (go (eqb (parameterRefusal p t .number) 0) refl
+        ∙ (go (eqb (parameterRefusal c p (countOf ps) ks t .number) 0) refl
         ∙ ap (λ (r : Refusal). answer r (curveOf p ks ps g ws (spanOf p (countOf ps) ks (looked p ks ps t)) (looked p ks ps t))) (sym eval-is))
       where
-        go : (b : Bool) → eqb (parameterRefusal p t .number) 0 ≡ b
-            → cond b (At (curveOf p ks ps g ws (searched p (countOf ps) ks (looked p ks ps t)) (looked p ks ps t))) (Refused (parameterRefusal p t))
-            ≡ cond b (At (curveOf p ks ps g ws (spanOf p (countOf ps) ks (looked p ks ps t)) (looked p ks ps t))) (Refused (parameterRefusal p t))
-        go true e = ap (λ (s : ℕ). At (curveOf p ks ps g ws s (looked p ks ps t))) (searched-is p (countOf ps) ks t (v .knots) (parameter-open p t (eqb-true (parameterRefusal p t .number) 0 e) .1))
+        go : (b : Bool) → eqb (parameterRefusal c p (countOf ps) ks t .number) 0 ≡ b
+            → cond b (At (curveOf p ks ps g ws (searched p (countOf ps) ks (looked p ks ps t)) (looked p ks ps t))) (Refused (parameterRefusal c p (countOf ps) ks t))
+            ≡ cond b (At (curveOf p ks ps g ws (spanOf p (countOf ps) ks (looked p ks ps t)) (looked p ks ps t))) (Refused (parameterRefusal c p (countOf ps) ks t))
+        go true e = ap (λ (s : ℕ). At (curveOf p ks ps g ws s (looked p ks ps t))) (searched-is p (countOf ps) ks t (v .knots) (parameter-open c p (countOf ps) ks t (eqb-true (parameterRefusal c p (countOf ps) ks t .number) 0 e) .1))
         go false e = refl
 
-    pub valid-answered2 : eval2AtOf p ks ps g ws t ≡ eval2Of p ks ps g ws t
+    pub valid-answered2 : eval2AtOf c p ks ps g ws t ≡ eval2Of c p ks ps g ws t
     unfolding eval2AtOf eval2Of
     valid-answered2 = ap (λ (r : Refusal). answer2 r (curve2Of p ks ps g ws (searched p (countOf ps) ks (looked p ks ps t)) (looked p ks ps t))) step-is
-        ∙ (go (eqb (parameterRefusal p t .number) 0) refl
+        ∙ (go (eqb (parameterRefusal c p (countOf ps) ks t .number) 0) refl
         ∙ ap (λ (r : Refusal). answer2 r (curve2Of p ks ps g ws (spanOf p (countOf ps) ks (looked p ks ps t)) (looked p ks ps t))) (sym eval-is))
       where
         given : ℕ → CurveAnswer2
         given s = let d = curve2Of p ks ps g ws s (looked p ks ps t) in cond (finite2 d) (two.At d) (two.Refused (refuse second-not-finite))
 
-        go : (b : Bool) → eqb (parameterRefusal p t .number) 0 ≡ b
-            → cond b (given (searched p (countOf ps) ks (looked p ks ps t))) (two.Refused (parameterRefusal p t)) ≡ cond b (given (spanOf p (countOf ps) ks (looked p ks ps t)))
-            (two.Refused (parameterRefusal p t))
-        go true e = ap given (searched-is p (countOf ps) ks t (v .knots) (parameter-open p t (eqb-true (parameterRefusal p t .number) 0 e) .1))
+        go : (b : Bool) → eqb (parameterRefusal c p (countOf ps) ks t .number) 0 ≡ b
+            → cond b (given (searched p (countOf ps) ks (looked p ks ps t))) (two.Refused (parameterRefusal c p (countOf ps) ks t)) ≡ cond b (given (spanOf p (countOf ps) ks (looked p ks ps t)))
+            (two.Refused (parameterRefusal c p (countOf ps) ks t))
+        go true e = ap given (searched-is p (countOf ps) ks t (v .knots) (parameter-open c p (countOf ps) ks t (eqb-true (parameterRefusal c p (countOf ps) ks t .number) 0 e) .1))
         go false e = refl
 
 -- ---- the loop, whatever a row holds

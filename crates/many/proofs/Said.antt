@@ -33,10 +33,10 @@ point2-says : (a : CurveAnswer2) → Says (pointRow2 a .number) (curveAnswer2Ref
 point2-says (D.At d) = record { number = refl; numbers = refl; count = refl }
 point2-says (D.Refused r) = record { number = refl; numbers = refl; count = refl }
 
-pub row-says : (p : ℕ) (ks ps : List Float) (g : Bool) (ws : List Float) (two : Bool) (t : Float)
-    → Says (rowAt p ks ps g ws two t .number ∷ []) (numberAt p ks ps g ws two t) (numbersOf two (rowAt p ks ps g ws two t)) (numbersAt p ks ps g ws two t) length (width two)
-row-says p ks ps g ws true t = let s = point2-says (eval2Of p ks ps g ws t) in record { number = ap (λ (n : ℕ). n ∷ []) (s .number); numbers = s .numbers; count = s .count }
-row-says p ks ps g ws false t = let s = point-says (evalOf p ks ps g ws t) in record { number = ap (λ (n : ℕ). n ∷ []) (s .number); numbers = s .numbers; count = s .count }
+pub row-says : (c : Bool) (p : ℕ) (ks ps : List Float) (g : Bool) (ws : List Float) (two : Bool) (t : Float)
+    → Says (rowAt c p ks ps g ws two t .number ∷ []) (numberAt c p ks ps g ws two t) (numbersOf two (rowAt c p ks ps g ws two t)) (numbersAt c p ks ps g ws two t) length (width two)
+row-says c p ks ps g ws true t = let s = point2-says (eval2Of c p ks ps g ws t) in record { number = ap (λ (n : ℕ). n ∷ []) (s .number); numbers = s .numbers; count = s .count }
+row-says c p ks ps g ws false t = let s = point-says (evalOf c p ks ps g ws t) in record { number = ap (λ (n : ℕ). n ∷ []) (s .number); numbers = s .numbers; count = s .count }
 
 pub box-says : (a : Bounded) → Says (boxRow a .number) (boundedRefusal a .number) (boxOf (boxRow a)) (rowOf 18 (boundedValues a)) length 18
 box-says (B.Are b) = record { number = refl; numbers = refl; count = refl }

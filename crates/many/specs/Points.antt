@@ -1,4 +1,4 @@
--- The answers of `eval_many` and `eval2_many`: for each parameter what `eval` and `eval2` answer, in a row.
+-- The answers of `eval_many` and `eval2_many`, by the mode: for each parameter what `eval` and `eval2` answer in it, in a row.
 -- Assumes nothing.
 use Prim.Native.Nat.{ℕ, _*_}
 use mathlib.Core.Bool.{Bool, true, false, cond}
@@ -26,23 +26,24 @@ use Rattle.many.specs.declared.points.PointRow.{PointRow}
 abbrev pub width : Bool → ℕ
 width b = cond b 9 6
 
-module _ (p : ℕ) (ks ps : List Float) (g : Bool) (ws : List Float) where
+-- 30 for too many parameters, the curve's, 31, 30 for lent runs of a and b numbers where a row has w
+unfoldable pub pointsStart : ℕ → List Float → List Float → Bool → List Float → List Float → ℕ → ℕ → ℕ → Refusal
+pointsStart p ks ps g ws ts w a b =
+    cond (overLong true ts) (refuse length-bad)
+    (orElse (tableRefusal p ks ps g ws) (roomsRefusal a (length ts) b (length ts * w)))
+
+-- c is the mode
+module _ (c : Bool) (p : ℕ) (ks ps : List Float) (g : Bool) (ws : List Float) where
   -- the number of a refusal or 0, and the point with its derivatives
   abbrev pub numberAt : Bool → Float → List ℕ
-  numberAt b t = cond b (curveAnswer2Refusal (eval2Of p ks ps g ws t)) (curveAnswerRefusal (evalOf p ks ps g ws t)) .number ∷ []
+  numberAt b t = cond b (curveAnswer2Refusal (eval2Of c p ks ps g ws t)) (curveAnswerRefusal (evalOf c p ks ps g ws t)) .number ∷ []
 
   abbrev pub numbersAt : Bool → Float → List Float
-  numbersAt b t = rowOf (width b) (cond b (curveAnswer2Values (eval2Of p ks ps g ws t)) (curveAnswerValues (evalOf p ks ps g ws t)))
-
-  -- 30 for too many parameters, the curve's, 31, 30 for lent runs of a and b numbers where a row has w
-  unfoldable pub pointsStart : List Float → ℕ → ℕ → ℕ → Refusal
-  pointsStart ts w a b =
-      cond (overLong true ts) (refuse length-bad)
-      (orElse (tableRefusal p ks ps g ws) (roomsRefusal a (length ts) b (length ts * w)))
+  numbersAt b t = rowOf (width b) (cond b (curveAnswer2Values (eval2Of c p ks ps g ws t)) (curveAnswerValues (evalOf c p ks ps g ws t)))
 
   -- the promises
   abbrev pub EachMeets : Bool → List Float → ℕ → ℕ → List ℕ → List Float → ManyAnswer → Type 0
-  EachMeets d ts a b = RowsMeet (pointsStart ts (width d) a b) ts (numberAt d) (numbersAt d) a b
+  EachMeets d ts a b = RowsMeet (pointsStart p ks ps g ws ts (width d) a b) ts (numberAt d) (numbersAt d) a b
 
   abbrev pub PointsMeet : List Float → ℕ → ℕ → List ℕ → List Float → ManyAnswer → Type 0
   PointsMeet = EachMeets false
@@ -66,8 +67,8 @@ abbrev pub pointRow2 : CurveAnswer2 → PointRow
 pointRow2 (two.At d) = record { number = 0; point = d .point; d1 = d .d1; d2 = d .d2 }
 pointRow2 (two.Refused r) = noRow r
 
-abbrev pub rowAt : ℕ → List Float → List Float → Bool → List Float → Bool → Float → PointRow
-rowAt p ks ps g ws b t = cond b (pointRow2 (eval2Of p ks ps g ws t)) (pointRow (evalOf p ks ps g ws t))
+abbrev pub rowAt : Bool → ℕ → List Float → List Float → Bool → List Float → Bool → Float → PointRow
+rowAt c p ks ps g ws b t = cond b (pointRow2 (eval2Of c p ks ps g ws t)) (pointRow (evalOf c p ks ps g ws t))
 
 abbrev pub numbersOf : Bool → PointRow → List Float
 numbersOf b r = threeOf (r .point) ++ (threeOf (r .d1) ++ cond b (threeOf (r .d2)) [])

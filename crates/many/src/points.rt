@@ -5,8 +5,10 @@ use crate::store::clear_numbers;
 use crate::store::origin;
 use evaluate::curve::CurveAnswer;
 use evaluate::curve::eval_at;
+use evaluate::curve::eval_at_clamped;
 use evaluate::curve2::CurveAnswer2;
 use evaluate::curve2::eval2_at;
+use evaluate::curve2::eval2_at_clamped;
 use knots::clear::clear;
 use knots::refusal::Refusal;
 use runs::store::store_vector;
@@ -17,6 +19,9 @@ ghost use Prim.Native.Nat.{_*_, _<_, _≤_};
 ghost use lib.ListN.{length, drop, set};
 ghost use lib.Seq.{sets};
 ghost use Rattle.knots.specs.Curve.{ValidCurve};
+ghost use Rattle.knots.specs.Span.{refusing, clamping};
+ghost use Rattle.evaluate.specs.Curve.{evalOf};
+ghost use Rattle.evaluate.specs.Curve2.{eval2Of};
 ghost use Rattle.many.specs.Rows.{rowsBy};
 ghost use Rattle.many.specs.Points.{width as widthOf, noRow, pointRow, pointRow2, rowAt, numbersOf, numberAt, numbersAt, EachMeets, PointsMeet, Points2Meet};
 
@@ -86,8 +91,47 @@ fn row2_of(a: CurveAnswer2) -> PointRow
     }
 }
 
-// The row of one parameter, on a curve that was validated.
+// The row of one parameter with one derivative, by the mode, on a curve that was validated.
+fn row1_at(
+    clamping: bool,
+    degree: usize,
+    knots: &[f64],
+    points: &[f64],
+    rational: bool,
+    weights: &[f64],
+    t: f64,
+) -> PointRow
+    requires { ⌜ ValidCurve degree (now knots) (now points) rational (now weights) ⌝ }
+    ensures { λ r. ⌜ r ≡ pointRow (evalOf clamping degree (now (knots .entry)) (now (points .entry)) rational (now (weights .entry)) t) ⌝ }
+{
+    if clamping {
+        return row_of(eval_at_clamped(degree, knots, points, rational, weights, t));
+    }
+    row_of(eval_at(degree, knots, points, rational, weights, t))
+}
+
+// The same with two derivatives.
+fn row2_at(
+    clamping: bool,
+    degree: usize,
+    knots: &[f64],
+    points: &[f64],
+    rational: bool,
+    weights: &[f64],
+    t: f64,
+) -> PointRow
+    requires { ⌜ ValidCurve degree (now knots) (now points) rational (now weights) ⌝ }
+    ensures { λ r. ⌜ r ≡ pointRow2 (eval2Of clamping degree (now (knots .entry)) (now (points .entry)) rational (now (weights .entry)) t) ⌝ }
+{
+    if clamping {
+        return row2_of(eval2_at_clamped(degree, knots, points, rational, weights, t));
+    }
+    row2_of(eval2_at(degree, knots, points, rational, weights, t))
+}
+
+// The row of one parameter.
 fn row_at(
+    clamping: bool,
     two: bool,
     degree: usize,
     knots: &[f64],
@@ -97,12 +141,12 @@ fn row_at(
     t: f64,
 ) -> PointRow
     requires { ⌜ ValidCurve degree (now knots) (now points) rational (now weights) ⌝ }
-    ensures { λ r. ⌜ r ≡ rowAt degree (now (knots .entry)) (now (points .entry)) rational (now (weights .entry)) two t ⌝ }
+    ensures { λ r. ⌜ r ≡ rowAt clamping degree (now (knots .entry)) (now (points .entry)) rational (now (weights .entry)) two t ⌝ }
 {
     if two {
-        return row2_of(eval2_at(degree, knots, points, rational, weights, t));
+        return row2_at(clamping, degree, knots, points, rational, weights, t);
     }
-    row_of(eval_at(degree, knots, points, rational, weights, t))
+    row1_at(clamping, degree, knots, points, rational, weights, t)
 }
 
 // Row i of both runs.
@@ -123,6 +167,7 @@ fn put_row(two: bool, numbers: &mut [u32], rows: &mut [f64], i: usize, row: Poin
 
 // A row for each parameter, on a curve that was validated.
 fn eval_each(
+    clamping: bool,
     two: bool,
     degree: usize,
     knots: &[f64],
@@ -137,12 +182,21 @@ fn eval_each(
     requires { ⌜ length (now ts) ≤ 1048576 ⌝ }
     requires { ⌜ length (now ts) ≤ length (now numbers) ⌝ }
     requires { ⌜ length (now ts) * widthOf two ≤ length (now rows) ⌝ }
-    ensures { λ _. ⌜ now (numbers .exit) ≡ rowsBy (numberAt degree (now (knots .entry)) (now (points .entry)) rational (now (weights .entry)) two) (now (ts .entry)) ++ drop (length (now (ts .entry))) (now (numbers .entry)) ⌝ }
-    ensures { λ _. ⌜ now (rows .exit) ≡ rowsBy (numbersAt degree (now (knots .entry)) (now (points .entry)) rational (now (weights .entry)) two) (now (ts .entry)) ++ drop (length (now (ts .entry)) * widthOf two) (now (rows .entry)) ⌝ }
+    ensures { λ _. ⌜ now (numbers .exit) ≡ rowsBy (numberAt clamping degree (now (knots .entry)) (now (points .entry)) rational (now (weights .entry)) two) (now (ts .entry)) ++ drop (length (now (ts .entry))) (now (numbers .entry)) ⌝ }
+    ensures { λ _. ⌜ now (rows .exit) ≡ rowsBy (numbersAt clamping degree (now (knots .entry)) (now (points .entry)) rational (now (weights .entry)) two) (now (ts .entry)) ++ drop (length (now (ts .entry)) * widthOf two) (now (rows .entry)) ⌝ }
 {
     let mut i = 0usize;
     while i < ts.len() {
-        let row = row_at(two, degree, knots, points, rational, weights, ts[i]);
+        let row = row_at(
+            clamping,
+            two,
+            degree,
+            knots,
+            points,
+            rational,
+            weights,
+            ts[i],
+        );
         put_row(two, numbers, rows, i, row);
         i += 1;
     }
@@ -150,6 +204,7 @@ fn eval_each(
 
 // The point and its derivatives at each parameter, one validation for all: a row of numbers a parameter, and the number of its own refusal or 0.
 fn eval_all(
+    clamping: bool,
     two: bool,
     degree: usize,
     knots: &[f64],
@@ -160,7 +215,7 @@ fn eval_all(
     numbers: &mut [u32],
     rows: &mut [f64],
 ) -> ManyAnswer
-    ensures { λ r. ⌜ EachMeets degree (now (knots .entry)) (now (points .entry)) rational (now (weights .entry)) two (now (ts .entry)) (length (now (numbers .entry))) (length (now (rows .entry))) (now (numbers .exit)) (now (rows .exit)) r ⌝ }
+    ensures { λ r. ⌜ EachMeets clamping degree (now (knots .entry)) (now (points .entry)) rational (now (weights .entry)) two (now (ts .entry)) (length (now (numbers .entry))) (length (now (rows .entry))) (now (numbers .exit)) (now (rows .exit)) r ⌝ }
 {
     clear_numbers(numbers);
     clear(rows);
@@ -172,6 +227,7 @@ fn eval_all(
         return ManyAnswer::Refused(refusal);
     }
     eval_each(
+        clamping,
         two,
         degree,
         knots,
@@ -185,7 +241,7 @@ fn eval_all(
     ManyAnswer::Rows(ts.len())
 }
 
-// The point and the first derivative at each parameter: six numbers a row.
+// The point and the first derivative at each parameter: six numbers a row. One outside the domain is refused in its row.
 pub fn eval_many(
     degree: usize,
     knots: &[f64],
@@ -196,9 +252,10 @@ pub fn eval_many(
     numbers: &mut [u32],
     rows: &mut [f64],
 ) -> ManyAnswer
-    ensures { λ r. ⌜ PointsMeet degree (now (knots .entry)) (now (points .entry)) rational (now (weights .entry)) (now (ts .entry)) (length (now (numbers .entry))) (length (now (rows .entry))) (now (numbers .exit)) (now (rows .exit)) r ⌝ }
+    ensures { λ r. ⌜ PointsMeet refusing degree (now (knots .entry)) (now (points .entry)) rational (now (weights .entry)) (now (ts .entry)) (length (now (numbers .entry))) (length (now (rows .entry))) (now (numbers .exit)) (now (rows .exit)) r ⌝ }
 {
     eval_all(
+        false,
         false,
         degree,
         knots,
@@ -211,7 +268,34 @@ pub fn eval_many(
     )
 }
 
-// The point and two derivatives at each parameter: nine numbers a row.
+// The same, where a parameter outside the domain becomes the nearer end.
+pub fn eval_many_clamped(
+    degree: usize,
+    knots: &[f64],
+    points: &[f64],
+    rational: bool,
+    weights: &[f64],
+    ts: &[f64],
+    numbers: &mut [u32],
+    rows: &mut [f64],
+) -> ManyAnswer
+    ensures { λ r. ⌜ PointsMeet clamping degree (now (knots .entry)) (now (points .entry)) rational (now (weights .entry)) (now (ts .entry)) (length (now (numbers .entry))) (length (now (rows .entry))) (now (numbers .exit)) (now (rows .exit)) r ⌝ }
+{
+    eval_all(
+        true,
+        false,
+        degree,
+        knots,
+        points,
+        rational,
+        weights,
+        ts,
+        numbers,
+        rows,
+    )
+}
+
+// The point and two derivatives at each parameter: nine numbers a row. One outside the domain is refused in its row.
 pub fn eval2_many(
     degree: usize,
     knots: &[f64],
@@ -222,9 +306,37 @@ pub fn eval2_many(
     numbers: &mut [u32],
     rows: &mut [f64],
 ) -> ManyAnswer
-    ensures { λ r. ⌜ Points2Meet degree (now (knots .entry)) (now (points .entry)) rational (now (weights .entry)) (now (ts .entry)) (length (now (numbers .entry))) (length (now (rows .entry))) (now (numbers .exit)) (now (rows .exit)) r ⌝ }
+    ensures { λ r. ⌜ Points2Meet refusing degree (now (knots .entry)) (now (points .entry)) rational (now (weights .entry)) (now (ts .entry)) (length (now (numbers .entry))) (length (now (rows .entry))) (now (numbers .exit)) (now (rows .exit)) r ⌝ }
 {
     eval_all(
+        false,
+        true,
+        degree,
+        knots,
+        points,
+        rational,
+        weights,
+        ts,
+        numbers,
+        rows,
+    )
+}
+
+// The same, where a parameter outside the domain becomes the nearer end.
+pub fn eval2_many_clamped(
+    degree: usize,
+    knots: &[f64],
+    points: &[f64],
+    rational: bool,
+    weights: &[f64],
+    ts: &[f64],
+    numbers: &mut [u32],
+    rows: &mut [f64],
+) -> ManyAnswer
+    ensures { λ r. ⌜ Points2Meet clamping degree (now (knots .entry)) (now (points .entry)) rational (now (weights .entry)) (now (ts .entry)) (length (now (numbers .entry))) (length (now (rows .entry))) (now (numbers .exit)) (now (rows .exit)) r ⌝ }
+{
+    eval_all(
+        true,
         true,
         degree,
         knots,
