@@ -5,7 +5,7 @@ use knots::refusal::Refusal;
 use knots::span::SpanAnswer;
 ghost use mathlib.Core.Path.{_≡_};
 ghost use Rattle.knots.specs.Curve.{countOf, curveRefusal};
-ghost use Rattle.knots.specs.Span.{spanAnswer};
+ghost use Rattle.knots.specs.Span.{refusing, clamping, spanAnswer};
 ghost use Rattle.evaluate.specs.Curve.{evalOf};
 ghost use Rattle.bounds.specs.Curve.{boundOf};
 ghost use Rattle.bounds.specs.Holds.{Holds};
@@ -41,9 +41,23 @@ pub fn span_in<'a>(
     weights: &'a [f64],
     u: f64,
 ) -> SpanAnswer
-    ensures { λ r. ⌜ r ≡ spanAnswer degree (countOf (now (points .entry))) (now (knots .entry)) u ⌝ }
+    ensures { λ r. ⌜ r ≡ spanAnswer refusing degree (countOf (now (points .entry))) (now (knots .entry)) u ⌝ }
 {
     knots::span::find_span(degree, points.len() / 3, knots, u)
+}
+
+// The same, where a u outside the domain becomes the nearer end.
+pub fn span_clamped_in<'a>(
+    degree: usize,
+    knots: &'a [f64],
+    points: &'a [f64],
+    rational: bool,
+    weights: &'a [f64],
+    u: f64,
+) -> SpanAnswer
+    ensures { λ r. ⌜ r ≡ spanAnswer clamping degree (countOf (now (points .entry))) (now (knots .entry)) u ⌝ }
+{
+    knots::span::find_span_clamped(degree, points.len() / 3, knots, u)
 }
 
 // The point and the first derivative at t, or a refusal.
@@ -55,9 +69,23 @@ pub fn eval_in<'a>(
     weights: &'a [f64],
     t: f64,
 ) -> CurveAnswer
-    ensures { λ r. ⌜ r ≡ evalOf degree (now (knots .entry)) (now (points .entry)) rational (now (weights .entry)) t ⌝ }
+    ensures { λ r. ⌜ r ≡ evalOf refusing degree (now (knots .entry)) (now (points .entry)) rational (now (weights .entry)) t ⌝ }
 {
     evaluate::curve::eval(degree, knots, points, rational, weights, t)
+}
+
+// The same, where a t outside the domain becomes the nearer end.
+pub fn eval_clamped_in<'a>(
+    degree: usize,
+    knots: &'a [f64],
+    points: &'a [f64],
+    rational: bool,
+    weights: &'a [f64],
+    t: f64,
+) -> CurveAnswer
+    ensures { λ r. ⌜ r ≡ evalOf clamping degree (now (knots .entry)) (now (points .entry)) rational (now (weights .entry)) t ⌝ }
+{
+    evaluate::curve::eval_clamped(degree, knots, points, rational, weights, t)
 }
 
 // The bounds over the closed range [lo, hi]: the answer, and that a box holds the exact point.
@@ -91,7 +119,7 @@ impl<'a> Curve<'a> {
     }
 
     pub fn span(self, u: f64) -> SpanAnswer
-        ensures { λ r. ⌜ r ≡ spanAnswer (self .entry .degree) (countOf (now (self .entry .points))) (now (self .entry .knots)) u ⌝ }
+        ensures { λ r. ⌜ r ≡ spanAnswer refusing (self .entry .degree) (countOf (now (self .entry .points))) (now (self .entry .knots)) u ⌝ }
     {
         span_in(
             self.degree,
@@ -103,10 +131,36 @@ impl<'a> Curve<'a> {
         )
     }
 
+    pub fn span_clamped(self, u: f64) -> SpanAnswer
+        ensures { λ r. ⌜ r ≡ spanAnswer clamping (self .entry .degree) (countOf (now (self .entry .points))) (now (self .entry .knots)) u ⌝ }
+    {
+        span_clamped_in(
+            self.degree,
+            self.knots,
+            self.points,
+            self.rational,
+            self.weights,
+            u,
+        )
+    }
+
     pub fn eval(self, t: f64) -> CurveAnswer
-        ensures { λ r. ⌜ r ≡ evalOf (self .entry .degree) (now (self .entry .knots)) (now (self .entry .points)) (self .entry .rational) (now (self .entry .weights)) t ⌝ }
+        ensures { λ r. ⌜ r ≡ evalOf refusing (self .entry .degree) (now (self .entry .knots)) (now (self .entry .points)) (self .entry .rational) (now (self .entry .weights)) t ⌝ }
     {
         eval_in(
+            self.degree,
+            self.knots,
+            self.points,
+            self.rational,
+            self.weights,
+            t,
+        )
+    }
+
+    pub fn eval_clamped(self, t: f64) -> CurveAnswer
+        ensures { λ r. ⌜ r ≡ evalOf clamping (self .entry .degree) (now (self .entry .knots)) (now (self .entry .points)) (self .entry .rational) (now (self .entry .weights)) t ⌝ }
+    {
+        eval_clamped_in(
             self.degree,
             self.knots,
             self.points,

@@ -17,7 +17,7 @@ use Rattle.knots.specs.Refusal.{refuse, iso-outside, iso-weight-bad}
 use Rattle.knots.specs.Knots.{ValidKnots}
 use Rattle.knots.specs.Curve.{isWeight, formedRefusal}
 use Rattle.knots.specs.Surface.{surfaceRefusal, ValidSurface}
-use Rattle.knots.specs.Span.{spanOf}
+use Rattle.knots.specs.Span.{outside, spanOf}
 use Rattle.knots.specs.declared.refusal.Refusal.{Refusal}
 use Rattle.knots.proofs.Refusals.{passed, orElse-none, stop, skip}
 use Rattle.knots.proofs.Curves.{or-false}
@@ -36,7 +36,7 @@ use Rattle.evaluate.specs.Controls.{noSums}
 use Rattle.runs.specs.Weight.{weightAt}
 use Rattle.runs.specs.Point.{pointOf}
 use Rattle.made.specs.Iso.{placeOf, isoTerm, isoPart, isoSums, isoCoordinate, isoWeight, IsoReach, IsoDone}
-use Rattle.made.specs.IsoCurve.{Side, hullOf, isoPoints, isoWeights, outside, alongStart, alongRefusal, AlongDone, isoSide, isoHull, isoStart, isoRefusal, IsoMeets}
+use Rattle.made.specs.IsoCurve.{Side, hullOf, isoPoints, isoWeights, isoOutside, alongStart, alongRefusal, AlongDone, isoSide, isoHull, isoStart, isoRefusal, IsoMeets}
 use Rattle.evaluate.specs.declared.sums.Sums.{Sums}
 use Rattle.evaluate.proofs.Summed.{sums-cong}
 use Rattle.knots.proofs.Shapes.{room-open}
@@ -45,17 +45,12 @@ use Rattle.evaluate.proofs.Surfaces.{degrees-open, size-is}
 use Rattle.runs.proofs.Overlays.{stored, take-padded, left-refused, left-answered}
 
 -- ---- a parameter that is not outside
-module _ (p n : ℕ) (ks : List Float) (t : Float) where
-  pub within : outside p n ks t ≡ false → Within p n ks t
-  unfolding outside
-  within h =
-      let f = or-false (not (finite t)) _ h in
-      let l = or-false (lt t (at ks p)) _ (f .1) in
-      record { parameter = not-false _ (f .0); low = l .0; high = l .1 }
-
-  pub outside-rest : finite t ≡ true → lt t (at ks p) ≡ false → lt (at ks n) t ≡ outside p n ks t
-  unfolding outside
-  outside-rest f l = sym (ap₂ (λ (x y : Bool). not x || (y || lt (at ks n) t)) f l)
+pub within : (p n : ℕ) (ks : List Float) (t : Float) → isoOutside p n ks t ≡ false → Within p n ks t
+unfolding isoOutside outside
+within p n ks t h =
+    let f = or-false (not (finite t)) _ h in
+    let l = or-false (lt t (at ks p)) _ (f .1) in
+    record { parameter = not-false _ (f .0); low = l .0; high = l .1 }
 
 -- ---- what is made of the table is the hull
 module _ (ps : List Float) (g : Bool) (ws : List Float) (u : Bool) (n : ℕ) where
@@ -153,7 +148,7 @@ module _ (p q : ℕ) (us vs : List Float) (m n : ℕ) (ps : List Float) (g : Boo
   pub record HeldOpen (u : Bool) (t : Float) (a b : ℕ) : Type 0 where
     pub high : isoSide p q us vs m n ps g ws u t .degree ≤ 64
     pub knots : ValidKnots (isoSide p q us vs m n ps g ws u t .degree) (isoSide p q us vs m n ps g ws u t .count) (isoSide p q us vs m n ps g ws u t .knots)
-    pub inside : outside (isoSide p q us vs m n ps g ws u t .degree) (isoSide p q us vs m n ps g ws u t .count) (isoSide p q us vs m n ps g ws u t .knots) t ≡ false
+    pub inside : isoOutside (isoSide p q us vs m n ps g ws u t .degree) (isoSide p q us vs m n ps g ws u t .count) (isoSide p q us vs m n ps g ws u t .knots) t ≡ false
     pub places : (i : ℕ) → i < isoSide p q us vs m n ps g ws u t .count → (k : ℕ) → k < isoSide p q us vs m n ps g ws u t .other-count → placeOf u n i k < length ps / 3
     pub weights : g ≡ true → (i : ℕ) → i < isoSide p q us vs m n ps g ws u t .count → (k : ℕ) → k < isoSide p q us vs m n ps g ws u t .other-count → placeOf u n i k < length ws
     pub points-room : isoSide p q us vs m n ps g ws u t .other-count * 3 ≤ a
@@ -175,10 +170,10 @@ module _ (p q : ℕ) (us vs : List Float) (m n : ℕ) (ps : List Float) (g : Boo
   place-v i I k K = net-place m n k i K I
 
   module _ (t : Float) (a b : ℕ) where
-    along-open : (x y : ℕ) (ks : List Float) (c : ℕ) → alongStart x y ks t c a b .number ≡ 0 → (outside x y ks t ≡ false) × (c * 3 ≤ a) × (c ≤ b)
+    along-open : (x y : ℕ) (ks : List Float) (c : ℕ) → alongStart x y ks t c a b .number ≡ 0 → (isoOutside x y ks t ≡ false) × (c * 3 ≤ a) × (c ≤ b)
     unfolding alongStart
     along-open x y ks c h =
-        let d = passed (outside x y ks t) (refuse iso-outside) _ (λ e. omega arith) h in
+        let d = passed (isoOutside x y ks t) (refuse iso-outside) _ (λ e. omega arith) h in
         let e = orElse-none (roomRefusal a (c * 3)) (roomRefusal b c) (d .1) in
         (d .0, room-open a (c * 3) (e .0), room-open b c (e .1))
 
@@ -188,7 +183,7 @@ module _ (p q : ℕ) (us vs : List Float) (m n : ℕ) (ps : List Float) (g : Boo
         let x = orElse-none (surfaceRefusal p q us vs m n ps g ws) _ h in
         let y = orElse-none (degreesRefusal p q) _ (x .1) in
         let s = valid-surface p q us vs m n ps g ws (x .0) in
-        let d = degrees-open p q t t (y .0) in
+        let d = degrees-open p q (y .0) in
         let o = along-open p m us n (y .1) in
         record {
           high = d .0;
@@ -204,7 +199,7 @@ module _ (p q : ℕ) (us vs : List Float) (m n : ℕ) (ps : List Float) (g : Boo
         let x = orElse-none (surfaceRefusal p q us vs m n ps g ws) _ h in
         let y = orElse-none (degreesRefusal p q) _ (x .1) in
         let s = valid-surface p q us vs m n ps g ws (x .0) in
-        let d = degrees-open p q t t (y .0) in
+        let d = degrees-open p q (y .0) in
         let o = along-open q n vs m (y .1) in
         record {
           high = d .1;

@@ -4,13 +4,12 @@ use Prim.Native.Nat.{ℕ, _+_, _-_, _*_}
 use mathlib.Core.Bool.{Bool, true, false, not, _||_, cond}
 use mathlib.Core.Path.{_≡_}
 use mathlib.Core.List.{List}
-use lib.Ieee.{Float, lt}
+use lib.Ieee.{Float}
 use lib.Ieee.Scale.{finite}
 use Rattle.exact.specs.Scheme.{dersOf}
-use Rattle.doubles.specs.Run.{at}
 use Rattle.knots.specs.Below.{allBelow}
 use Rattle.knots.specs.Refusal.{refuse, orElse, iso-outside, iso-weight-bad}
-use Rattle.knots.specs.Span.{spanOf}
+use Rattle.knots.specs.Span.{outside, spanOf}
 use Rattle.knots.specs.Curve.{isWeight, formedRefusal}
 use Rattle.knots.specs.Surface.{surfaceRefusal}
 use Rattle.knots.specs.declared.refusal.Refusal.{Refusal}
@@ -56,12 +55,12 @@ isoWeights h c = tabulate c (isoWeight h)
 
 -- ---- refusals
 -- t is not finite, or lies outside the domain
-unfoldable pub outside : ℕ → ℕ → List Float → Float → Bool
-outside p n ks t = not (finite t) || (lt t (at ks p) || lt (at ks n) t)
+unfoldable pub isoOutside : ℕ → ℕ → List Float → Float → Bool
+isoOutside p n ks t = not (finite t) || outside p n ks t
 
 -- 22, then 30 for outputs of a and b numbers of a curve of c points
 unfoldable pub alongStart : ℕ → ℕ → List Float → Float → ℕ → ℕ → ℕ → Refusal
-alongStart p n ks t c a b = cond (outside p n ks t) (refuse iso-outside) (orElse (roomRefusal a (c * 3)) (roomRefusal b c))
+alongStart p n ks t c a b = cond (isoOutside p n ks t) (refuse iso-outside) (orElse (roomRefusal a (c * 3)) (roomRefusal b c))
 
 -- 23, then 1 to 10 of the curve that is formed
 unfoldable pub alongRefusal : (ℕ → Sums) → Side → Refusal

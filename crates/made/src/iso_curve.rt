@@ -9,6 +9,7 @@ use interval::float::is_finite;
 use knots::refusal::Refusal;
 use knots::refusal::refuse;
 use knots::shape::room_refusal;
+use knots::span::is_outside;
 use knots::span::span_of;
 use knots::surface::surface_refusal;
 ghost use mathlib.Core.Path.{_≡_};
@@ -18,7 +19,7 @@ ghost use lib.ListN.{length};
 ghost use Rattle.knots.specs.Clear.{zeros};
 ghost use Rattle.knots.specs.Knots.{ValidKnots};
 ghost use Rattle.made.specs.Iso.{placeOf};
-ghost use Rattle.made.specs.IsoCurve.{sideFrom, sideOf, hullOf, outside, alongStart, isoStart, AlongDone, IsoMeets};
+ghost use Rattle.made.specs.IsoCurve.{sideFrom, sideOf, hullOf, isoOutside, alongStart, isoStart, AlongDone, IsoMeets};
 
 // The knots of the isocurve: the caller's own run of the other direction.
 pub fn iso_knots<'a>(constant_u: bool, u_knots: &'a [f64], v_knots: &'a [f64]) -> &'a [f64]
@@ -48,18 +49,13 @@ struct Held {
 }
 
 // t is not finite, or lies outside the domain.
-fn is_outside(degree: usize, count: usize, knots: &[f64], t: f64) -> bool
-    requires { ⌜ degree < length (now knots) ⌝ }
-    requires { ⌜ count < length (now knots) ⌝ }
-    ensures { λ r. ⌜ r ≡ outside degree count (now (knots .entry)) t ⌝ }
+fn iso_outside(degree: usize, count: usize, knots: &[f64], t: f64) -> bool
+    ensures { λ r. ⌜ r ≡ isoOutside degree count (now (knots .entry)) t ⌝ }
 {
     if !is_finite(t) {
         return true;
     }
-    if t < knots[degree] {
-        return true;
-    }
-    knots[count] < t
+    is_outside(degree, count, knots, t)
 }
 
 // Refusals 22 and 30 along one direction, for an isocurve of c points and outputs of a and b numbers.
@@ -72,12 +68,10 @@ fn along_start(
     a: usize,
     b: usize,
 ) -> Refusal
-    requires { ⌜ degree < length (now knots) ⌝ }
-    requires { ⌜ count < length (now knots) ⌝ }
     requires { ⌜ c ≤ 1048576 ⌝ }
     ensures { λ r. ⌜ r ≡ alongStart degree count (now (knots .entry)) t c a b ⌝ }
 {
-    if is_outside(degree, count, knots, t) {
+    if iso_outside(degree, count, knots, t) {
         return refuse(22);
     }
     let refusal = room_refusal(a, c * 3);
@@ -133,7 +127,7 @@ fn iso_along(
 ) -> Refusal
     requires { ⌜ held .degree ≤ 64 ⌝ }
     requires { ⌜ ValidKnots (held .degree) (held .count) (now fixed) ⌝ }
-    requires { ⌜ outside (held .degree) (held .count) (now fixed) (held .t) ≡ false ⌝ }
+    requires { ⌜ isoOutside (held .degree) (held .count) (now fixed) (held .t) ≡ false ⌝ }
     requires { ⌜ ((i : ℕ) → i < held .count → (k : ℕ) → k < held .«other_count» → placeOf (held .«constant_u») (held .columns) i k < length (now points) / 3) ⌝ }
     requires { ⌜ (rational ≡ true → (i : ℕ) → i < held .count → (k : ℕ) → k < held .«other_count» → placeOf (held .«constant_u») (held .columns) i k < length (now weights)) ⌝ }
     requires { ⌜ held .«other_count» * 3 ≤ length (now «out_points») ⌝ }

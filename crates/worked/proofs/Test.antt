@@ -14,7 +14,7 @@ use Rattle.knots.specs.Below.{allBelow}
 use Rattle.knots.specs.Knots.{allFinite, inOrder, ordered, apart, orderRefusal, knotRefusal}
 use Rattle.knots.specs.Curve.{overLong, anyLong, isWeight, allWeights, controlRefusal, formedRefusal, curveRefusal}
 use Rattle.knots.specs.Shape.{roomRefusal}
-use Rattle.knots.specs.Span.{clamped, lastAfter, spanOf, spanRefusal, spanAnswer}
+use Rattle.knots.specs.Span.{outside, clamped, domainRefusal, lastAfter, spanOf, spanRefusal, spanAnswer}
 use Rattle.basis.specs.Basis.{leftOf, rightOf}
 use Rattle.basis.specs.Ders.{inReach, dersAt, dersTable, basisTable}
 use Rattle.runs.specs.Weight.{weightAt}
@@ -44,7 +44,7 @@ use Rattle.worked.specs.Table.{Row, rows, same, all}
 
 pub all-hold : T (all rows)
 unfolding rows nextOf basisOf tableOf derivativeOf factorOf dersOf upFrom downFrom newOf pointOf containsOf checkedOf addOf subOf mulOf sqrOf someNan reciprocalOf divideOf allBelow
-    allFinite inOrder ordered apart orderRefusal knotRefusal overLong anyLong isWeight allWeights controlRefusal formedRefusal curveRefusal roomRefusal clamped lastAfter spanOf
+    allFinite inOrder ordered apart orderRefusal knotRefusal overLong anyLong isWeight allWeights controlRefusal formedRefusal curveRefusal roomRefusal outside clamped domainRefusal lastAfter spanOf
     spanRefusal spanAnswer leftOf rightOf inReach dersAt dersTable basisTable largestFrom weightOf padded C.liftOf C.isLifted C.isBlended C.shareOf C.blendOf C.lowerOf countBelow
     multiplicityOf belowOf largestOf allEqual scaleOf liftAt blendAt lowerAt knotAt moreKnots inside spotRefusal morePoints moreWeights formRefusal insertedKnots insertedPoints
     insertedWeights insertRefusal insertAll clampedEnds editStart outRoom scratchRoom insertStart insertOutcome Trim.inRange Trim.endsOf Trim.keptOf Trim.rangeRefusal Trim.cutRefusal

@@ -11,7 +11,7 @@ use Rattle.interval.specs.declared.Interval.{Interval}
 use Rattle.interval.specs.Ops.{addOf, mulOf, sqrOf}
 use Rattle.interval.specs.Numbers.{endsOnto}
 use Rattle.knots.specs.Curve.{curveRefusal}
-use Rattle.knots.specs.Span.{spanAnswer}
+use Rattle.knots.specs.Span.{refusing, spanAnswer}
 use Rattle.knots.specs.Numbers.{spanAnswerValues}
 use Rattle.basis.specs.Basis.{cell}
 use Rattle.basis.specs.Ders.{basisTable}
@@ -103,7 +103,7 @@ knotsShort = doubles (0 ∷ 0 ∷ tiny ∷ tiny ∷ [])
 -- ---- what the calls answer on them
 -- the span of a parameter of A; no number where it is refused
 abbrev spanA : ℕ → List ℕ
-spanA u = spanAnswerValues (spanAnswer 2 4 knotsA (d u))
+spanA u = spanAnswerValues (spanAnswer refusing 2 4 knotsA (d u))
 
 -- derivative k of the three functions of A at 0.5, of the table that `basis_derivatives` leaves
 abbrev basisA : ℕ → List ℕ

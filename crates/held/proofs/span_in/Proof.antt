@@ -9,7 +9,7 @@ find-span-requires : tie.Need-find-span-requires
 find-span-requires c κs = search needs
 
 returns : tie.Need-returns
-returns c = answer-is _ _ _ _ _ (c .find-span .ensures)
+returns c = answer-is _ _ _ _ _ _ (c .find-span .ensures)
 
 pub span-in-spec : {M : Type 1} → statement M
 span-in-spec = tie.close (tie.spec find-span-requires returns)

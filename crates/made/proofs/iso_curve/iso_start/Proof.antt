@@ -39,15 +39,7 @@ along-start-requires c κs =
     let s =
     valid-surface
     (a .form .«u_degree») (a .form .«v_degree») (now (a .u-knots)) (now (a .v-knots)) (a .form .«u_count») (a .form .«v_count») (now (a .points)) (a .form .rational) (now (a .weights)) none in
-    let k = s .u in
-    let c = k .count in
-    let l = k .long in (
-      omega arith,
-      (
-        omega arith,
-        few-v (a .form .«u_degree») (a .form .«v_degree») (now (a .u-knots)) (now (a .v-knots)) (a .form .«u_count») (a .form .«v_count») (now (a .points)) (a .form .rational) (now (a .weights)) s,
-      ),
-    )
+    few-v (a .form .«u_degree») (a .form .«v_degree») (now (a .u-knots)) (now (a .v-knots)) (a .form .«u_count») (a .form .«v_count») (now (a .points)) (a .form .rational) (now (a .weights)) s
 
 returns-3 : tie.Need-returns-3
 unfolding isoStart
@@ -68,15 +60,7 @@ along-start-requires-2 c κs =
     let s =
     valid-surface
     (a .form .«u_degree») (a .form .«v_degree») (now (a .u-knots)) (now (a .v-knots)) (a .form .«u_count») (a .form .«v_count») (now (a .points)) (a .form .rational) (now (a .weights)) none in
-    let k = s .v in
-    let c = k .count in
-    let l = k .long in (
-      omega arith,
-      (
-        omega arith,
-        few-u (a .form .«u_degree») (a .form .«v_degree») (now (a .u-knots)) (now (a .v-knots)) (a .form .«u_count») (a .form .«v_count») (now (a .points)) (a .form .rational) (now (a .weights)) s,
-      ),
-    )
+    few-u (a .form .«u_degree») (a .form .«v_degree») (now (a .u-knots)) (now (a .v-knots)) (a .form .«u_count») (a .form .«v_count») (now (a .points)) (a .form .rational) (now (a .weights)) s
 
 returns-4 : tie.Need-returns-4
 unfolding isoStart
