@@ -4,9 +4,12 @@ use crate::tables::packed;
 use many::answer::ManyAnswer;
 use many::boxes::bound_spans;
 use many::points::eval_many;
+use many::points::eval_many_clamped;
 use many::points::eval2_many;
+use many::points::eval2_many_clamped;
 ghost use mathlib.Core.Path.{_≡_};
 ghost use lib.ListN.{length};
+ghost use Rattle.knots.specs.Span.{refusing, clamping};
 ghost use Rattle.many.specs.Rows.{answer};
 ghost use Rattle.many.specs.Points.{pointsStart, PointsMeet, Points2Meet};
 ghost use Rattle.many.specs.Spans.{spansOf, spansStart, SpansMeet};
@@ -45,9 +48,27 @@ pub extern "C" fn tasulogi_eval_many(
     rows: &mut [f64],
 ) -> u64
     ensures { λ n. ⌜ n ≡ rowsNumber (answer (pointsStart degree (now (knots .entry)) (now (points .entry)) rational (now (weights .entry)) (now (ts .entry)) 6 (length (now (numbers .entry))) (length (now (rows .entry)))) (length (now (ts .entry)))) ⌝ }
-    ensures { λ n. ⌜ PointsMeet degree (now (knots .entry)) (now (points .entry)) rational (now (weights .entry)) (now (ts .entry)) (length (now (numbers .entry))) (length (now (rows .entry))) (now (numbers .exit)) (now (rows .exit)) (answer (pointsStart degree (now (knots .entry)) (now (points .entry)) rational (now (weights .entry)) (now (ts .entry)) 6 (length (now (numbers .entry))) (length (now (rows .entry)))) (length (now (ts .entry)))) ⌝ }
+    ensures { λ n. ⌜ PointsMeet refusing degree (now (knots .entry)) (now (points .entry)) rational (now (weights .entry)) (now (ts .entry)) (length (now (numbers .entry))) (length (now (rows .entry))) (now (numbers .exit)) (now (rows .exit)) (answer (pointsStart degree (now (knots .entry)) (now (points .entry)) rational (now (weights .entry)) (now (ts .entry)) 6 (length (now (numbers .entry))) (length (now (rows .entry)))) (length (now (ts .entry)))) ⌝ }
 {
     rows_number(eval_many(degree, knots, points, rational, weights, ts, numbers, rows))
+}
+
+// The same, where a parameter outside the domain becomes the nearer end.
+#[no_mangle]
+pub extern "C" fn tasulogi_eval_many_clamped(
+    degree: usize,
+    knots: &[f64],
+    points: &[f64],
+    rational: bool,
+    weights: &[f64],
+    ts: &[f64],
+    numbers: &mut [u32],
+    rows: &mut [f64],
+) -> u64
+    ensures { λ n. ⌜ n ≡ rowsNumber (answer (pointsStart degree (now (knots .entry)) (now (points .entry)) rational (now (weights .entry)) (now (ts .entry)) 6 (length (now (numbers .entry))) (length (now (rows .entry)))) (length (now (ts .entry)))) ⌝ }
+    ensures { λ n. ⌜ PointsMeet clamping degree (now (knots .entry)) (now (points .entry)) rational (now (weights .entry)) (now (ts .entry)) (length (now (numbers .entry))) (length (now (rows .entry))) (now (numbers .exit)) (now (rows .exit)) (answer (pointsStart degree (now (knots .entry)) (now (points .entry)) rational (now (weights .entry)) (now (ts .entry)) 6 (length (now (numbers .entry))) (length (now (rows .entry)))) (length (now (ts .entry)))) ⌝ }
+{
+    rows_number(eval_many_clamped(degree, knots, points, rational, weights, ts, numbers, rows))
 }
 
 // The point and two derivatives at each parameter.
@@ -63,9 +84,27 @@ pub extern "C" fn tasulogi_eval2_many(
     rows: &mut [f64],
 ) -> u64
     ensures { λ n. ⌜ n ≡ rowsNumber (answer (pointsStart degree (now (knots .entry)) (now (points .entry)) rational (now (weights .entry)) (now (ts .entry)) 9 (length (now (numbers .entry))) (length (now (rows .entry)))) (length (now (ts .entry)))) ⌝ }
-    ensures { λ n. ⌜ Points2Meet degree (now (knots .entry)) (now (points .entry)) rational (now (weights .entry)) (now (ts .entry)) (length (now (numbers .entry))) (length (now (rows .entry))) (now (numbers .exit)) (now (rows .exit)) (answer (pointsStart degree (now (knots .entry)) (now (points .entry)) rational (now (weights .entry)) (now (ts .entry)) 9 (length (now (numbers .entry))) (length (now (rows .entry)))) (length (now (ts .entry)))) ⌝ }
+    ensures { λ n. ⌜ Points2Meet refusing degree (now (knots .entry)) (now (points .entry)) rational (now (weights .entry)) (now (ts .entry)) (length (now (numbers .entry))) (length (now (rows .entry))) (now (numbers .exit)) (now (rows .exit)) (answer (pointsStart degree (now (knots .entry)) (now (points .entry)) rational (now (weights .entry)) (now (ts .entry)) 9 (length (now (numbers .entry))) (length (now (rows .entry)))) (length (now (ts .entry)))) ⌝ }
 {
     rows_number(eval2_many(degree, knots, points, rational, weights, ts, numbers, rows))
+}
+
+// The same, where a parameter outside the domain becomes the nearer end.
+#[no_mangle]
+pub extern "C" fn tasulogi_eval2_many_clamped(
+    degree: usize,
+    knots: &[f64],
+    points: &[f64],
+    rational: bool,
+    weights: &[f64],
+    ts: &[f64],
+    numbers: &mut [u32],
+    rows: &mut [f64],
+) -> u64
+    ensures { λ n. ⌜ n ≡ rowsNumber (answer (pointsStart degree (now (knots .entry)) (now (points .entry)) rational (now (weights .entry)) (now (ts .entry)) 9 (length (now (numbers .entry))) (length (now (rows .entry)))) (length (now (ts .entry)))) ⌝ }
+    ensures { λ n. ⌜ Points2Meet clamping degree (now (knots .entry)) (now (points .entry)) rational (now (weights .entry)) (now (ts .entry)) (length (now (numbers .entry))) (length (now (rows .entry))) (now (numbers .exit)) (now (rows .exit)) (answer (pointsStart degree (now (knots .entry)) (now (points .entry)) rational (now (weights .entry)) (now (ts .entry)) 9 (length (now (numbers .entry))) (length (now (rows .entry)))) (length (now (ts .entry)))) ⌝ }
+{
+    rows_number(eval2_many_clamped(degree, knots, points, rational, weights, ts, numbers, rows))
 }
 
 // The bounds on each nonempty span.

@@ -5,7 +5,7 @@ use exports::points::put_curve;
 use knots::span::span_of;
 ghost use mathlib.Core.Path.{_≡_};
 ghost use lib.ListN.{length};
-ghost use Rattle.knots.specs.Span.{SpanFound};
+ghost use Rattle.knots.specs.Span.{refusing, SpanFound};
 ghost use Rattle.basis.specs.Ders.{basisTable};
 ghost use Rattle.evaluate.specs.Curve.{evalAtOf};
 ghost use Rattle.exports.specs.Answer.{Leaves};
@@ -45,7 +45,7 @@ pub extern "C" fn tasulogi_step_eval_at(
     t: f64,
     out: &mut [f64],
 ) -> u64
-    ensures { λ r. ⌜ Leaves (curveAnswer (evalAtOf degree (now (knots .entry)) (now (points .entry)) rational (now (weights .entry)) t)) (now (out .entry)) (now (out .exit)) r ⌝ }
+    ensures { λ r. ⌜ Leaves (curveAnswer (evalAtOf refusing degree (now (knots .entry)) (now (points .entry)) rational (now (weights .entry)) t)) (now (out .entry)) (now (out .exit)) r ⌝ }
 {
     put_curve(out, eval_at(degree, knots, points, rational, weights, t))
 }

@@ -1,3 +1,5 @@
+-- `exports::points::tasulogi_eval` meets its contract.
+-- Assumes nothing.
 use Rattle.exports.specs.Points.{curveAnswer}
 use Rattle.exports.proofs.Put.{leaves-by}
 use mathlib.Core.Path.{ap}
