@@ -6,13 +6,15 @@ use mathlib.Core.Path.{_≡_, sym, _∙_, ap, ap₂}
 use mathlib.Core.List.{List}
 use native.Mathlib.Omega.{arith}
 use lib.Ieee.{Float}
+use borrow.Author.Tests.{eq-eqb}
 use Rattle.exact.specs.Scheme.{dersOf}
-use Rattle.knots.specs.Refusal.{refuse, second-not-finite}
-use Rattle.knots.specs.Span.{outside, refusing, clamping, searched}
-use Rattle.knots.specs.Curve.{countOf}
+use Rattle.knots.specs.Refusal.{refuse, second-not-finite, parameter-outside}
+use Rattle.knots.specs.Span.{outside, refusing, clamping, domainRefusal, searched}
+use Rattle.knots.specs.Curve.{countOf, curveRefusal}
+use Rattle.knots.specs.Shape.{degreeRefusal}
 use Rattle.knots.specs.declared.refusal.Refusal.{Refusal}
-use Rattle.knots.proofs.Refusals.{stop, skip}
-use Rattle.knots.proofs.Answers.{modes-same}
+use Rattle.knots.proofs.Refusals.{stop, skip, orElse-none}
+use Rattle.knots.proofs.Answers.{modes-same, outside-refused}
 use Rattle.basis.specs.Floats.{floats}
 use Rattle.basis.specs.Basis.{cell, leftOf, rightOf}
 use Rattle.basis.specs.Ders.{basisTable}
@@ -112,3 +114,12 @@ module _ (p : ℕ) (ks ps : List Float) (g : Bool) (ws : List Float) (t : Float)
   pub eval2-inside-same : eval2Of refusing p ks ps g ws t ≡ eval2Of clamping p ks ps g ws t
   unfolding eval2Of evalRefusal parameterRefusal
   eval2-inside-same = simp (modes-same p (countOf ps) ks t i)
+
+-- where it is, and the clamped call is not refused, the other is refused by 43: so are eval and eval2
+pub eval-outside : (p : ℕ) (ks ps : List Float) (g : Bool) (ws : List Float) (t : Float) → evalRefusal clamping p ks ps g ws t .number ≡ 0
+    → outside p (countOf ps) ks t ≡ true → evalRefusal refusing p ks ps g ws t ≡ refuse parameter-outside
+unfolding evalRefusal parameterRefusal
+eval-outside p ks ps g ws t h o =
+    let a = orElse-none (curveRefusal p ks ps g ws) _ h in
+    let b = orElse-none (degreeRefusal p) (domainRefusal clamping p (countOf ps) ks t) (a .1) in
+    simp (eq-eqb (curveRefusal p ks ps g ws .number) 0 (a .0), eq-eqb (degreeRefusal p .number) 0 (b .0)) (outside-refused p (countOf ps) ks t (b .1) o)

@@ -1,8 +1,8 @@
 -- The answers of `eval_surface_at` and `eval_surface`.
 -- Assumes nothing.
 use Prim.Native.Nat.{ℕ, _+_, _-_, _*_, _/_, _%_, _≤_}
-use mathlib.Core.Bool.{Bool, true, false, not}
-use mathlib.Core.Path.{_≡_, sym, _∙_, ap, ap₂, subst}
+use mathlib.Core.Bool.{Bool, true, false, not, _||_}
+use mathlib.Core.Path.{_≡_, refl, sym, _∙_, ap, ap₂, subst}
 use mathlib.Core.List.{List}
 use native.Mathlib.Omega.{arith}
 use native.Mathlib.Nat.{mul-mod-right, mul-div-right}
@@ -11,7 +11,7 @@ use lib.Dec.{eqb}
 use lib.Ieee.{Float}
 use borrow.Author.Tests.{eqb-true, eq-eqb, not-false}
 use Rattle.exact.specs.Scheme.{dersOf}
-use Rattle.knots.specs.Refusal.{refuse, accepted, along, net-size, points-uneven}
+use Rattle.knots.specs.Refusal.{refuse, accepted, along, orElse, net-size, points-uneven, parameter-outside}
 use Rattle.knots.specs.Curve.{countOf}
 use Rattle.knots.specs.Span.{outside, clamped, refusing, clamping, domainRefusal, searched}
 use Rattle.knots.specs.Surface.{surfaceRefusal, ValidSurface}
@@ -31,7 +31,7 @@ use Rattle.evaluate.specs.declared.sums.Sums.{Sums}
 use Rattle.evaluate.specs.declared.surface.SurfaceDerivs.{SurfaceDerivs}
 use Rattle.evaluate.specs.declared.surface.SurfaceAnswer.the-variants.{At, Refused}
 use Rattle.knots.proofs.Searches.{searched-is}
-use Rattle.knots.proofs.Answers.{domain-open, domain-none, modes-same}
+use Rattle.knots.proofs.Answers.{domain-open, domain-none, modes-same, outside-refused}
 use Rattle.knots.proofs.Shapes.{degree-open, degree-none, weights-open, weights-none, Fitting, knots-open, knots-none}
 use Rattle.evaluate.proofs.Steps.{Found}
 use Rattle.evaluate.proofs.Nets.{net-place, net-cong}
@@ -196,3 +196,18 @@ module _ (p q : ℕ) (us vs : List Float) (m n : ℕ) (ps : List Float) (g : Boo
       → evalSurfaceOf refusing p q us vs m n ps g ws u v ≡ evalSurfaceOf clamping p q us vs m n ps g ws u v
   unfolding evalSurfaceOf surfaceEvalRefusal parametersRefusal
   surface-inside-same u v i j = simp (modes-same p m us u i, modes-same q n vs v j)
+
+  -- where one is, and the clamped call is not refused, the other is refused by 43
+  pub surface-outside : (u v : Float) → surfaceEvalRefusal clamping p q us vs m n ps g ws u v .number ≡ 0 → (outside p m us u || outside q n vs v) ≡ true
+      → surfaceEvalRefusal refusing p q us vs m n ps g ws u v ≡ refuse parameter-outside
+  unfolding surfaceEvalRefusal parametersRefusal
+  surface-outside u v h o =
+      let a = orElse-none (surfaceRefusal p q us vs m n ps g ws) _ h in
+      let b = orElse-none (degreesRefusal p q) _ (a .1) in
+      let d = orElse-none (domainRefusal clamping p m us u) (domainRefusal clamping q n vs v) (b .1) in
+      simp (eq-eqb (surfaceRefusal p q us vs m n ps g ws .number) 0 (a .0), eq-eqb (degreesRefusal p q .number) 0 (b .0)) (go (d .0) (d .1) (outside p m us u) refl o)
+    where
+      go : domainRefusal clamping p m us u .number ≡ 0 → domainRefusal clamping q n vs v .number ≡ 0 → (x : Bool) → outside p m us u ≡ x → (x || outside q n vs v) ≡ true
+          → orElse (domainRefusal refusing p m us u) (domainRefusal refusing q n vs v) ≡ refuse parameter-outside
+      go x y true e o = simp (outside-refused p m us u x e)
+      go x y false e o = simp (modes-same p m us u e, domain-none p m us u clamping x) (outside-refused q n vs v y o)

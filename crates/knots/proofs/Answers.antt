@@ -161,6 +161,14 @@ module _ (p n : ℕ) (ks : List Float) (u : Float) where
   unfolding spanAnswer spanRefusal
   span-inside-same h = simp (modes-same h)
 
+  -- where it is, and the one answers, the other refuses by 43
+  pub span-outside : spanRefusal clamping p n ks u .number ≡ 0 → outside p n ks u ≡ true → spanAnswer refusing p n ks u ≡ Refused (refuse parameter-outside)
+  unfolding spanAnswer spanRefusal
+  span-outside h o =
+      let a = passed (overLong true ks) (refuse length-bad) _ (λ e. omega arith) h in
+      let b = orElse-none (knotRefusal p n ks) (domainRefusal clamping p n ks u) (a .1) in
+      simp (a .0, eq-eqb (knotRefusal p n ks .number) 0 (b .0), outside-refused (b .1) o)
+
 -- ---- the search where no place is tested
 module _ (p n : ℕ) (ks : List Float) (w : Float) where
   pub searched-short : length ks ≤ n → p ≡ searched p n ks w

@@ -14,7 +14,7 @@ use lib.Seq.{sets, take-suc, take-length}
 use lib.Ieee.{Float, nan}
 use Rattle.doubles.specs.Run.{at}
 use Rattle.doubles.specs.Value.{zero+}
-use Rattle.knots.specs.Span.{spanOf, searched}
+use Rattle.knots.specs.Span.{outside, refusing, clamping, spanOf, searched}
 use Rattle.knots.specs.Clear.{zeros}
 use Rattle.knots.specs.Refusal.{refuse, length-bad, second-not-finite}
 use Rattle.knots.specs.Curve.{overLong, countOf, ValidCurve}
@@ -29,11 +29,12 @@ use Rattle.runs.proofs.Stores.{sets-more, sets-three}
 use Rattle.evaluate.specs.declared.curve.CurveAnswer.the-variants.{At, Refused}
 use Rattle.knots.proofs.Shapes.{shape-none}
 use Rattle.evaluate.proofs.Steps.{parameter-open}
+use Rattle.evaluate.proofs.Curves.{eval-inside-same, eval2-inside-same}
 use Rattle.knots.proofs.Searches.{searched-is}
 use Rattle.evaluate.specs.declared.curve2.CurveAnswer2.{CurveAnswer2}
 use Rattle.evaluate.specs.declared.curve2.CurveAnswer2.the-variants as two
 use Rattle.many.specs.Rows.{tableRefusal}
-use Rattle.many.specs.Points.{width, numbersOf, pointsStart}
+use Rattle.many.specs.Points.{width, numberAt, numbersAt, numbersOf, pointsStart}
 use Rattle.many.specs.declared.points.PointRow.{PointRow}
 use Rattle.many.proofs.Rows.{InRows, in-start, in-more, table-open, rooms-open}
 
@@ -101,6 +102,11 @@ module _ (c : Bool) (p : ℕ) (ks ps : List Float) (g : Bool) (ws : List Float) 
             (two.Refused (parameterRefusal c p (countOf ps) ks t))
         go true e = ap given (searched-is p (countOf ps) ks t (v .knots) (parameter-open c p (countOf ps) ks t (eqb-true (parameterRefusal c p (countOf ps) ks t .number) 0 e) .1))
         go false e = refl
+
+-- ---- where a parameter is not outside the domain, its row is the same in both modes
+pub row-inside-same : (p : ℕ) (ks ps : List Float) (g : Bool) (ws : List Float) (b : Bool) (t : Float) → outside p (countOf ps) ks t ≡ false
+    → (numberAt refusing p ks ps g ws b t ≡ numberAt clamping p ks ps g ws b t) × (numbersAt refusing p ks ps g ws b t ≡ numbersAt clamping p ks ps g ws b t)
+row-inside-same p ks ps g ws b t i = simp (eval-inside-same p ks ps g ws t i, eval2-inside-same p ks ps g ws t i) (refl, refl)
 
 -- ---- the loop, whatever a row holds
 module _ (f : Float → List ℕ) (h : Float → List Float) (w : ℕ) where
