@@ -1,10 +1,13 @@
 // Points, the reversed curve and the isocurve: what is read behind a table, and what the Rust answers.
 use evaluate::curve::CurveAnswer;
 use evaluate::curve::eval;
+use evaluate::curve::eval_clamped;
 use evaluate::curve2::CurveAnswer2;
 use evaluate::curve2::eval2;
+use evaluate::curve2::eval2_clamped;
 use evaluate::surface::SurfaceAnswer;
 use evaluate::surface::eval_surface;
+use evaluate::surface::eval_surface_clamped;
 use made::iso_curve::iso_curve;
 use made::iso_curve::iso_knots;
 use made::reverse::reversed;
@@ -68,15 +71,9 @@ fn all(a: bool, b: bool, c: bool, d: bool) -> bool {
     false
 }
 
-pub fn eval_agrees(
-    degree: usize,
-    knots: &[f64],
-    points: &[f64],
-    rational: bool,
-    weights: &[f64],
-) -> bool {
-    let t = double();
-    match eval(degree, knots, points, rational, weights, t) {
+// Reads what `eval` answers, by either mode.
+fn curve_agrees(a: CurveAnswer) -> bool {
+    match a {
         CurveAnswer::At(d) => if accepted() {
             two(d.point, d.d1)
         } else {
@@ -86,7 +83,8 @@ pub fn eval_agrees(
     }
 }
 
-pub fn eval2_agrees(
+pub fn eval_agrees(
+    clamping: bool,
     degree: usize,
     knots: &[f64],
     points: &[f64],
@@ -94,7 +92,15 @@ pub fn eval2_agrees(
     weights: &[f64],
 ) -> bool {
     let t = double();
-    match eval2(degree, knots, points, rational, weights, t) {
+    if clamping {
+        return curve_agrees(eval_clamped(degree, knots, points, rational, weights, t));
+    }
+    curve_agrees(eval(degree, knots, points, rational, weights, t))
+}
+
+// Reads what `eval2` answers, by either mode.
+fn curve2_agrees(a: CurveAnswer2) -> bool {
+    match a {
         CurveAnswer2::At(d) => if accepted() {
             three(d.point, d.d1, d.d2)
         } else {
@@ -104,7 +110,22 @@ pub fn eval2_agrees(
     }
 }
 
-// Reads what `eval_surface` answers.
+pub fn eval2_agrees(
+    clamping: bool,
+    degree: usize,
+    knots: &[f64],
+    points: &[f64],
+    rational: bool,
+    weights: &[f64],
+) -> bool {
+    let t = double();
+    if clamping {
+        return curve2_agrees(eval2_clamped(degree, knots, points, rational, weights, t));
+    }
+    curve2_agrees(eval2(degree, knots, points, rational, weights, t))
+}
+
+// Reads what `eval_surface` answers, by either mode.
 fn surface_agrees(a: SurfaceAnswer) -> bool {
     match a {
         SurfaceAnswer::At(d) => if accepted() {
@@ -116,32 +137,26 @@ fn surface_agrees(a: SurfaceAnswer) -> bool {
     }
 }
 
+// Degrees p and q, knots uk and vk, counts m and n.
 pub fn surface(
-    u_degree: usize,
-    v_degree: usize,
-    u_knots: &[f64],
-    v_knots: &[f64],
-    u_count: usize,
-    v_count: usize,
+    clamping: bool,
+    p: usize,
+    q: usize,
+    uk: &[f64],
+    vk: &[f64],
+    m: usize,
+    n: usize,
     points: &[f64],
     rational: bool,
     weights: &[f64],
 ) -> bool {
     let u = double();
     let v = double();
-    surface_agrees(eval_surface(
-        u_degree,
-        v_degree,
-        u_knots,
-        v_knots,
-        u_count,
-        v_count,
-        points,
-        rational,
-        weights,
-        u,
-        v,
-    ))
+    if clamping {
+        let a = eval_surface_clamped(p, q, uk, vk, m, n, points, rational, weights, u, v);
+        return surface_agrees(a);
+    }
+    surface_agrees(eval_surface(p, q, uk, vk, m, n, points, rational, weights, u, v))
 }
 
 pub fn reversal(

@@ -4,6 +4,7 @@ use knots::refusal::class_of;
 use knots::span::SpanAnswer;
 use knots::span::clamp;
 use knots::span::find_span;
+use knots::span::find_span_clamped;
 use knots::surface::surface_refusal;
 use knots::walk::NextSpan;
 use knots::walk::next_span;
@@ -49,12 +50,11 @@ pub fn surface(
     refused(r.number, r.direction, r.place)
 }
 
-// The number of a refusal and its place, or 0 and the span.
-pub fn found(degree: usize, count: usize, knots: &[f64]) -> bool {
-    let u = double();
+// Reads the number of a refusal and its place, or 0 and the span.
+fn spanned(a: SpanAnswer) -> bool {
     let number = word();
     let at = size();
-    match find_span(degree, count, knots, u) {
+    match a {
         SpanAnswer::Span(s) => if number == 0 { s == at } else { false },
         SpanAnswer::Refused(r) => if r.number as u64 == number {
             r.place == at
@@ -62,6 +62,14 @@ pub fn found(degree: usize, count: usize, knots: &[f64]) -> bool {
             false
         },
     }
+}
+
+pub fn found(clamping: bool, degree: usize, count: usize, knots: &[f64]) -> bool {
+    let u = double();
+    if clamping {
+        return spanned(find_span_clamped(degree, count, knots, u));
+    }
+    spanned(find_span(degree, count, knots, u))
 }
 
 // The span, or the count where there is none.

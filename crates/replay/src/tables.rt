@@ -8,8 +8,8 @@ use replaying::runs::size;
 
 fn knots_call(call: u32, degree: usize, count: usize, knots: &[f64]) -> bool {
     match call {
-        21 => spans::found(degree, count, knots),
-        22 => spans::next(degree, count, knots),
+        21..=22 => spans::found(call == 22, degree, count, knots),
+        23 => spans::next(degree, count, knots),
         _ => spans::clamped(degree, count, knots),
     }
 }
@@ -33,9 +33,9 @@ fn curve_call(
 ) -> bool {
     match call {
         19 => spans::curve(degree, knots, points, rational, weights),
-        25 => points::eval_agrees(degree, knots, points, rational, weights),
-        26 => points::eval2_agrees(degree, knots, points, rational, weights),
-        28 => points::reversal(degree, knots, points, rational, weights),
+        26..=27 => points::eval_agrees(call == 27, degree, knots, points, rational, weights),
+        28..=29 => points::eval2_agrees(call == 29, degree, knots, points, rational, weights),
+        32 => points::reversal(degree, knots, points, rational, weights),
         _ => boxes::curve(degree, knots, points, rational, weights),
     }
 }
@@ -68,8 +68,8 @@ fn surface_call<'a>(
 ) -> bool {
     match call {
         20 => spans::surface(p, q, u, v, m, n, points, rational, weights),
-        27 => points::surface(p, q, u, v, m, n, points, rational, weights),
-        29 => points::along(p, q, u, v, m, n, points, rational, weights),
+        30..=31 => points::surface(call == 31, p, q, u, v, m, n, points, rational, weights),
+        33 => points::along(p, q, u, v, m, n, points, rational, weights),
         _ => boxes::surface(p, q, u, v, m, n, points, rational, weights),
     }
 }

@@ -11,8 +11,8 @@ use Rattle.interval.specs.declared.Interval.{Interval}
 use Rattle.interval.specs.Ops.{addOf, mulOf, sqrOf}
 use Rattle.interval.specs.Numbers.{endsOnto}
 use Rattle.knots.specs.Curve.{curveRefusal}
-use Rattle.knots.specs.Span.{refusing, spanAnswer}
-use Rattle.knots.specs.Numbers.{spanAnswerValues}
+use Rattle.knots.specs.Span.{refusing, clamping, spanAnswer}
+use Rattle.knots.specs.Numbers.{spanAnswerRefusal, spanAnswerValues}
 use Rattle.basis.specs.Basis.{cell}
 use Rattle.basis.specs.Ders.{basisTable}
 use Rattle.edits.specs.Outcome.{Outcome}
@@ -101,9 +101,12 @@ abbrev knotsShort : List Float
 knotsShort = doubles (0 ∷ 0 ∷ tiny ∷ tiny ∷ [])
 
 -- ---- what the calls answer on them
--- the span of a parameter of A; no number where it is refused
+-- the refusal of a parameter of A, 0 for none, and its span where there is none
+abbrev spanBy : Bool → ℕ → List ℕ
+spanBy c u = let a = spanAnswer c 2 4 knotsA (d u) in spanAnswerRefusal a .number ∷ spanAnswerValues a
+
 abbrev spanA : ℕ → List ℕ
-spanA u = spanAnswerValues (spanAnswer refusing 2 4 knotsA (d u))
+spanA = spanBy refusing
 
 -- derivative k of the three functions of A at 0.5, of the table that `basis_derivatives` leaves
 abbrev basisA : ℕ → List ℕ
@@ -157,10 +160,16 @@ row n c p = record { name = n; computed = c; paper = p }
 unfoldable pub rows : List Row
 rows =
     -- spans of A at 0, 0.5, 1, 2 are 2, 2, 3, 3
-    row "span of A at 0" (spanA 0) (2 ∷ [])
-    ∷ row "span of A at 0.5" (spanA half) (2 ∷ [])
-    ∷ row "span of A at 1" (spanA one) (3 ∷ [])
-    ∷ row "span of A at 2" (spanA two) (3 ∷ [])
+    row "span of A at 0" (spanA 0) (0 ∷ 2 ∷ [])
+    ∷ row "span of A at 0.5" (spanA half) (0 ∷ 2 ∷ [])
+    ∷ row "span of A at 1" (spanA one) (0 ∷ 3 ∷ [])
+    ∷ row "span of A at 2" (spanA two) (0 ∷ 3 ∷ [])
+    -- at -0.0 it is 2; -2^-1074 and 3 are 43; clamped, their spans are 2 and 3
+    ∷ row "span of A at -0.0" (spanA (minus 0)) (0 ∷ 2 ∷ [])
+    ∷ row "span of A at -2^-1074" (spanA (minus tiny)) (43 ∷ [])
+    ∷ row "span of A at 3" (spanA three) (43 ∷ [])
+    ∷ row "clamped span of A at -2^-1074" (spanBy clamping (minus tiny)) (0 ∷ 2 ∷ [])
+    ∷ row "clamped span of A at 3" (spanBy clamping three) (0 ∷ 3 ∷ [])
     -- basis of A at 0.5 is 0.25, 0.625, 0.125; first derivatives -1, 0.5, 0.5
     ∷ row "basis of A at 0.5" (basisA 0) (quarter ∷ five-eighths ∷ eighth ∷ [])
     ∷ row "first derivatives of A's basis at 0.5" (basisA 1) (minus one ∷ half ∷ half ∷ [])

@@ -6,10 +6,10 @@ use Rattle.replay.proofs.main.Statement.{statement}
 use Rattle.replay.proofs.main.Tie as tie
 
 abbrev Inv-loop : tie.InvT-loop
-Inv-loop call₀ call = call ≤ 32
+Inv-loop call₀ call = call ≤ 36
 
 abbrev μ-loop : tie.MeasureT-loop
-μ-loop call₀ call = 32 - call
+μ-loop call₀ call = 36 - call
 
 loop-holds : tie.Need-loop-holds Inv-loop μ-loop
 loop-holds c = search needs
