@@ -23,8 +23,8 @@ size_t tasulogi_step_span_of(size_t degree, size_t count, double u, const double
 void tasulogi_step_basis_derivatives(size_t span, double u, size_t degree, size_t n, const double *knots,
                                      size_t knots_n, double *out, size_t out_n);
 
-/* tasulogi_eval without validation: only lengths, the degree and the parameter are looked at. Refusals in this order:
- * 32, 1, 2, 3, 9, 31, 12, then 30 for the lent run. None of them has a place: the high half is 0. */
+/* tasulogi_eval without validation: only lengths, the degree, the parameter and the two ends of the domain are looked at.
+ * Refusals in this order: 32, 1, 2, 3, 9, 31, 12, 43, then 30 for the lent run. None has a place: the high half is 0. */
 uint64_t tasulogi_step_eval_at(
     size_t degree, const double *knots, size_t knots_n, const double *points, size_t points_n, bool rational,
     const double *weights, size_t weights_n,

@@ -20,10 +20,11 @@
  *   finite, the first that exceeds the next. 7: the first of the equal knots. Of a surface both count in the knots of their
  *   direction. 8: the first point with a coordinate that is not finite. 10: the first weight that is none; of a surface both
  *   are i * v_count + j. Where a call refuses the curve that it has formed, the place is in that curve.
+ * - 43: a finite parameter lies outside the domain, knots[degree] to knots[count] with both ends, both zeros being one
+ *   number. A function whose name ends in _clamped takes the nearer end instead, and is else the one without.
  * - What a call on curves or surfaces returns has the refusal in its low half, which a uint32_t keeps, and the place in
  *   its high half: at most 2^32 - 1, and 0 where there is none; of an edit that forms a curve the high half is the count of
- *   its points. tasulogi_find_span and tasulogi_bound_spans answer in the low half: they have the number in the high half
- *   and the place in the low one.
+ *   its points. The two find_span and tasulogi_bound_spans answer in the low half: their refusals have the halves exchanged.
  * - A function with no lent run returns its answer.
  * - An interval is passed by its ends, low before high, and answered as two doubles, low before high. Infinite ends
  *   are allowed.
@@ -43,22 +44,23 @@
 extern "C" {
 #endif
 
-/* The returned numbers of the interval functions. */
+/* The returned numbers of the interval functions, and that by which a loop sees that it ran past the end of a table. */
 enum {
     TASULOGI_DONE = 0,
     TASULOGI_DIVISOR_CONTAINS_ZERO = 26,
     TASULOGI_NO_QUOTIENT = 28,
     TASULOGI_TOO_LITTLE_ROOM = 30,
+    TASULOGI_OUTSIDE_DOMAIN = 43,
     TASULOGI_NO_INTERVAL = 99
 };
 
-/* Of what a call returns, but tasulogi_find_span and tasulogi_bound_spans: the number without its direction; the direction:
+/* Of what a call returns, but the two find_span and tasulogi_bound_spans: the number without its direction; the direction:
  * 0 none, 1 u, 2 v; and the place of 4, 7, 8 and 10. Compare these, and not the whole that was returned. */
 #define TASULOGI_REFUSAL(r) ((uint32_t)(r) % 100)
 #define TASULOGI_DIRECTION(r) ((uint32_t)(r) / 100)
 #define TASULOGI_PLACE(r) ((size_t)((uint64_t)(r) >> 32))
 
-/* The refusal of tasulogi_find_span and tasulogi_bound_spans, and its place; where the refusal is 0, what was returned is
+/* The refusal of the two find_span and tasulogi_bound_spans, and its place; where the refusal is 0, what was returned is
  * the span or the count. */
 #define TASULOGI_SPAN_REFUSAL(r) ((uint32_t)((r) >> 32))
 #define TASULOGI_SPAN_PLACE(r) ((size_t)(uint32_t)(r))
@@ -162,9 +164,9 @@ uint64_t tasulogi_surface_refusal(size_t u_degree, size_t v_degree, const double
                                   const double *points, size_t points_n, bool rational, const double *weights,
                                   size_t weights_n);
 
-/* The span of u for `count` points: a parameter outside the domain becomes the nearer end. Else a refusal:
- * 30, 1 to 7, 12, the first in this order. */
+/* The span of u for `count` points, else a refusal: 30, 1 to 7, 12, 43, the first in this order. */
 uint64_t tasulogi_find_span(size_t degree, size_t count, const double *knots, size_t knots_n, double u);
+uint64_t tasulogi_find_span_clamped(size_t degree, size_t count, const double *knots, size_t knots_n, double u);
 
 /* The first nonempty span from `from` on, in degree..=count-1, or `count` where there is none. Any knots are taken. */
 size_t tasulogi_next_span(size_t degree, size_t count, const double *knots, size_t knots_n, size_t from);
@@ -188,69 +190,72 @@ uint64_t tasulogi_bound_surface(size_t u_degree, size_t v_degree, const double *
 
 /* Points and derivatives: x, y, z of each. */
 
-/* The point and the first derivative: 6 numbers. A parameter outside the domain becomes the nearer end. Refusals in
- * this order: those of the curve, 31, 12, then 30 for the lent run. */
-uint64_t tasulogi_eval(
-    size_t degree, const double *knots, size_t knots_n, const double *points, size_t points_n, bool rational,
-    const double *weights, size_t weights_n,
-    double t, double *out, size_t n);
+/* The point and the first derivative: 6 numbers. Refusals: those of the curve, 31, 12, 43, then 30 for the lent run. */
+uint64_t tasulogi_eval(size_t degree, const double *knots, size_t knots_n, const double *points, size_t points_n,
+                       bool rational, const double *weights, size_t weights_n, double t, double *out, size_t n);
+uint64_t tasulogi_eval_clamped(size_t degree, const double *knots, size_t knots_n, const double *points, size_t points_n,
+                               bool rational, const double *weights, size_t weights_n, double t, double *out, size_t n);
 
-/* The point and two derivatives: 9 numbers. 21 after 12 where one of them is not finite. */
-uint64_t tasulogi_eval2(
-    size_t degree, const double *knots, size_t knots_n, const double *points, size_t points_n, bool rational,
-    const double *weights, size_t weights_n,
-    double t, double *out, size_t n);
+/* The point and two derivatives: 9 numbers. 21 after 43 where one of them is not finite. */
+uint64_t tasulogi_eval2(size_t degree, const double *knots, size_t knots_n, const double *points, size_t points_n,
+                        bool rational, const double *weights, size_t weights_n, double t, double *out, size_t n);
+uint64_t tasulogi_eval2_clamped(size_t degree, const double *knots, size_t knots_n, const double *points, size_t points_n,
+                                bool rational, const double *weights, size_t weights_n, double t, double *out, size_t n);
 
-/* The point and the derivatives along u and v: 9 numbers. Parameters outside the domain become the nearer ends. Refusals in
- * this order: those of the surface, 31, 12, then 30 for the lent run. */
-uint64_t tasulogi_eval_surface(
-    size_t u_degree, size_t v_degree, const double *u_knots, size_t u_knots_n, const double *v_knots, size_t v_knots_n,
-    size_t u_count, size_t v_count, const double *points, size_t points_n, bool rational, const double *weights,
-    size_t weights_n,
-    double u, double v, double *out, size_t n);
+/* The point, du and dv: 9 numbers. Refusals: those of the surface, 31, 12 and 43 for u, both for v, 30 for the lent run. */
+uint64_t tasulogi_eval_surface(size_t u_degree, size_t v_degree, const double *u_knots, size_t u_knots_n,
+                               const double *v_knots, size_t v_knots_n, size_t u_count, size_t v_count,
+                               const double *points, size_t points_n, bool rational, const double *weights,
+                               size_t weights_n, double u, double v, double *out, size_t n);
+uint64_t tasulogi_eval_surface_clamped(size_t u_degree, size_t v_degree, const double *u_knots, size_t u_knots_n,
+                                       const double *v_knots, size_t v_knots_n, size_t u_count, size_t v_count,
+                                       const double *points, size_t points_n, bool rational, const double *weights,
+                                       size_t weights_n, double u, double v, double *out, size_t n);
 
 /* Many at once: the table is checked once. A row is the answer of the single call, with its bits, and +0.0 throughout
  * where that is refused: those refusals have no place. What stands behind the rows is 0 and +0.0. After a refusal of the
  * whole call both runs are 0 and +0.0. */
 
-/* The point and the first derivative at each of ts_n parameters: `numbers` gets the refusal of each, or 0, and `rows` 6
- * numbers of each. Refusals: 30 for more than 1,048,576 parameters, those of the curve, 31, 30 for a lent run. */
-uint64_t tasulogi_eval_many(
-    size_t degree, const double *knots, size_t knots_n, const double *points, size_t points_n, bool rational,
-    const double *weights, size_t weights_n, const double *ts, size_t ts_n,
-    uint32_t *numbers, size_t numbers_n, double *rows, size_t rows_n);
+/* The point and the first derivative at each of ts_n parameters: `numbers` gets the refusal of each, 12 or 43, or 0, and
+ * `rows` 6 numbers of each. Refusals: 30 for more than 1,048,576 parameters, those of the curve, 31, 30 for a lent run. */
+uint64_t tasulogi_eval_many(size_t degree, const double *knots, size_t knots_n, const double *points, size_t points_n,
+                            bool rational, const double *weights, size_t weights_n, const double *ts, size_t ts_n,
+                            uint32_t *numbers, size_t numbers_n, double *rows, size_t rows_n);
+uint64_t tasulogi_eval_many_clamped(size_t degree, const double *knots, size_t knots_n, const double *points,
+                                    size_t points_n, bool rational, const double *weights, size_t weights_n,
+                                    const double *ts, size_t ts_n, uint32_t *numbers, size_t numbers_n, double *rows,
+                                    size_t rows_n);
 
-/* The same with two derivatives: 9 numbers of each. */
-uint64_t tasulogi_eval2_many(
-    size_t degree, const double *knots, size_t knots_n, const double *points, size_t points_n, bool rational,
-    const double *weights, size_t weights_n, const double *ts, size_t ts_n,
-    uint32_t *numbers, size_t numbers_n, double *rows, size_t rows_n);
+/* The same with two derivatives: 9 numbers of each, and 21 among the refusals. */
+uint64_t tasulogi_eval2_many(size_t degree, const double *knots, size_t knots_n, const double *points, size_t points_n,
+                             bool rational, const double *weights, size_t weights_n, const double *ts, size_t ts_n,
+                             uint32_t *numbers, size_t numbers_n, double *rows, size_t rows_n);
+uint64_t tasulogi_eval2_many_clamped(size_t degree, const double *knots, size_t knots_n, const double *points,
+                                     size_t points_n, bool rational, const double *weights, size_t weights_n,
+                                     const double *ts, size_t ts_n, uint32_t *numbers, size_t numbers_n, double *rows,
+                                     size_t rows_n);
 
 /* The box of each nonempty span over its own closed range, in order: `marks` gets the span and its refusal, or 0, and
  * `boxes` 18 numbers of each. Returns how many rows there are, which is never more than count - degree; else a refusal:
  * those of the curve, 31, 30 for a lent run. */
-uint64_t tasulogi_bound_spans(
-    size_t degree, const double *knots, size_t knots_n, const double *points, size_t points_n, bool rational,
-    const double *weights, size_t weights_n,
-    uint32_t *marks, size_t marks_n, double *boxes, size_t boxes_n);
+uint64_t tasulogi_bound_spans(size_t degree, const double *knots, size_t knots_n, const double *points, size_t points_n,
+                              bool rational, const double *weights, size_t weights_n, uint32_t *marks, size_t marks_n,
+                              double *boxes, size_t boxes_n);
 
 /* Curves made of others. Each run starts with the made numbers and ends with +0.0; after a refusal all is +0.0. */
 
 /* The curve run backwards. Refusals: those of the curve, 30 for a lent run, 1 to 10 of the curve that is made. */
-uint64_t tasulogi_reversed(
-    size_t degree, const double *knots, size_t knots_n, const double *points, size_t points_n, bool rational,
-    const double *weights, size_t weights_n,
-    double *out_knots, size_t out_knots_n, double *out_points, size_t out_points_n, double *out_weights,
-    size_t out_weights_n);
+uint64_t tasulogi_reversed(size_t degree, const double *knots, size_t knots_n, const double *points, size_t points_n,
+                           bool rational, const double *weights, size_t weights_n, double *out_knots, size_t out_knots_n,
+                           double *out_points, size_t out_points_n, double *out_weights, size_t out_weights_n);
 
 /* The curve at u = t where constant_u, else at v = t; its knots are the surface's other ones. Refusals: those of the
  * surface, 31, 22, 30 for a lent run, 23, 1 to 10 of the curve that is made. Its points are as many as the surface has
  * along the other direction, and it has a weight for each also where the surface has none: lend room for both, or it is 30. */
-uint64_t tasulogi_iso_curve(
-    size_t u_degree, size_t v_degree, const double *u_knots, size_t u_knots_n, const double *v_knots, size_t v_knots_n,
-    size_t u_count, size_t v_count, const double *points, size_t points_n, bool rational, const double *weights,
-    size_t weights_n,
-    bool constant_u, double t, double *out_points, size_t out_points_n, double *out_weights, size_t out_weights_n);
+uint64_t tasulogi_iso_curve(size_t u_degree, size_t v_degree, const double *u_knots, size_t u_knots_n,
+                            const double *v_knots, size_t v_knots_n, size_t u_count, size_t v_count, const double *points,
+                            size_t points_n, bool rational, const double *weights, size_t weights_n, bool constant_u,
+                            double t, double *out_points, size_t out_points_n, double *out_weights, size_t out_weights_n);
 
 /* Edits: the curve that is formed goes to the front of the three output runs, +0.0 behind it, and scratch is left
  * +0.0. After a refusal all four are +0.0. What is returned has the refusal in its low half and, where that is 0, the

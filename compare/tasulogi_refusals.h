@@ -6,11 +6,11 @@
 
 struct tasulogi_refusal {
     uint32_t number;
-    char letter; /* of its class: I invalid, D degenerate, U unimplemented, C capacity, N internal */
+    char letter; /* of its class: I invalid, D degenerate, U unimplemented, C capacity, N internal; - none */
     const char *text;
 };
 
-/* Each number stands at its own place, from 1 on. */
+/* Each number from 0 to 54 stands at its own place. One that no call gives has the letter and the text of 0. */
 static const struct tasulogi_refusal tasulogi_refusals[] = {
     { 0, '-', "no refusal of document 01" },
     { 1, 'I', "degree 0" },
@@ -46,6 +46,27 @@ static const struct tasulogi_refusal tasulogi_refusals[] = {
     { 31, 'C', "evaluation, bounds or isocurve with a degree above 64" },
     { 32, 'I', "point run not a multiple of three" },
     { 33, 'I', "malformed table record" },
+    { 34, '-', "no refusal of document 01" },
+    { 35, '-', "no refusal of document 01" },
+    { 36, '-', "no refusal of document 01" },
+    { 37, '-', "no refusal of document 01" },
+    { 38, '-', "no refusal of document 01" },
+    { 39, '-', "no refusal of document 01" },
+    { 40, '-', "no refusal of document 01" },
+    { 41, '-', "no refusal of document 01" },
+    { 42, '-', "no refusal of document 01" },
+    { 43, 'I', "evaluation parameter outside the domain" },
+    { 44, '-', "no refusal of document 01" },
+    { 45, '-', "no refusal of document 01" },
+    { 46, '-', "no refusal of document 01" },
+    { 47, '-', "no refusal of document 01" },
+    { 48, '-', "no refusal of document 01" },
+    { 49, '-', "no refusal of document 01" },
+    { 50, '-', "no refusal of document 01" },
+    { 51, '-', "no refusal of document 01" },
+    { 52, '-', "no refusal of document 01" },
+    { 53, '-', "no refusal of document 01" },
+    { 54, '-', "no refusal of document 01" },
 };
 
 /* When a number is given, without its direction, in document 01's words. */

@@ -97,6 +97,7 @@ static uint64_t curve(size_t degree, size_t knots_n, size_t points_n)
 static void tables(void)
 {
     expect(tasulogi_class_of(5) == TASULOGI_DEGENERATE && tasulogi_class_of(31) == TASULOGI_CAPACITY, "classes");
+    expect(tasulogi_class_of(TASULOGI_OUTSIDE_DOMAIN) == TASULOGI_INVALID, "the class of 43");
     expect(tasulogi_class_of(0) == TASULOGI_NO_CLASS && tasulogi_class_of(34) == TASULOGI_NO_CLASS, "no class");
     expect(curve(2, 7, 12) == 0, "table A");
     expect(curve(0, 7, 12) == 1 && curve(4, 7, 12) == 2 && curve(2, 6, 12) == 3 && curve(2, 7, 11) == 32, "refusals of a curve");
@@ -111,16 +112,18 @@ static void tables(void)
 /* tasulogi_refusals.h has the proved classes, each number at its place. */
 static void texts(void)
 {
+    const uint32_t rows = sizeof tasulogi_refusals / sizeof *tasulogi_refusals;
+    uint32_t texts = 0;
     for (uint32_t n = 0; n < 100; n++) {
         uint8_t class = tasulogi_class_of(n);
-        if (class == TASULOGI_NO_CLASS) {
-            expect(tasulogi_refusal_text(n) == tasulogi_refusals[0].text, "no text of a number that is none");
-        } else {
-            expect(tasulogi_refusals[n].number == n && tasulogi_refusals[n].letter == "IDUCN"[class], "the class of a text");
-        }
+        bool text = strcmp(tasulogi_refusal_text(n), "no refusal of document 01") != 0;
+        texts += text;
+        expect(text == (class != TASULOGI_NO_CLASS), "a text of each number that has a class, and of no other");
+        expect(n < rows ? tasulogi_refusals[n].number == n && tasulogi_refusals[n].letter == "IDUCN-"[class] : !text, "the class of a text");
     }
     expect(strcmp(tasulogi_refusal_text(12), "evaluation parameter not finite") == 0, "a text");
-    expect(sizeof tasulogi_refusals / sizeof *tasulogi_refusals == 34, "how many texts");
+    expect(strcmp(tasulogi_refusal_text(43), "evaluation parameter outside the domain") == 0, "a text behind a gap");
+    expect(texts == 34 && rows == 55, "how many texts");
 }
 
 static void spans(void)
@@ -128,7 +131,8 @@ static void spans(void)
     static const double u[] = { 0, 0.5, 1, 2, -1, 3 };
     static const uint64_t at[] = { 2, 2, 3, 3, 2, 3 };
     for (int i = 0; i < 6; i++) {
-        expect(tasulogi_find_span(2, 4, knots, 7, u[i]) == at[i], "spans of A, and outside its domain");
+        expect(tasulogi_find_span_clamped(2, 4, knots, 7, u[i]) == at[i], "spans of A, and outside its domain");
+        expect(TASULOGI_SPAN_REFUSAL(tasulogi_find_span(2, 4, knots, 7, u[i])) == (i < 4 ? 0 : 43), "refused outside");
     }
     expect(TASULOGI_SPAN_REFUSAL(tasulogi_find_span(2, 4, knots, 7, NAN)) == 12, "a NaN parameter");
     expect(tasulogi_next_span(2, 4, knots, 7, 0) == 2 && tasulogi_next_span(2, 4, knots, 7, 3) == 3, "next_span");
@@ -243,6 +247,7 @@ static void edits(void)
 
 #include "check_nulls.h"
 #include "check_places.h"
+#include "check_domain.h"
 
 int main(void)
 {
@@ -259,6 +264,7 @@ int main(void)
     edits();
     nulls_of_intervals();
     nulls_of_tables();
+    nulls_of_clamped();
     nulls_of_many();
     nulls_of_curves();
     places_of_knots();
@@ -270,6 +276,11 @@ int main(void)
     places_of_formed_curves();
     places_of_edited_curves();
     places_beside_numbers();
+    domain_of_spans();
+    domain_of_points();
+    domain_of_many();
+    domain_of_knots();
+    domain_of_surfaces();
     printf("C: %d passed, %d failed\n", passed, failed);
     return failed != 0;
 }

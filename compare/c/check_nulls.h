@@ -23,6 +23,7 @@ static void nulls_of_tables(void)
     expect(tasulogi_curve_refusal(2, knots, 7, NULL, 0, false, NULL, 0) == 2, "no points");
     expect(tasulogi_curve_refusal(2, knots, 7, points, 12, true, NULL, 0) == 9, "weights that are missing");
     expect(TASULOGI_SPAN_REFUSAL(tasulogi_find_span(2, 4, NULL, 0, 0.5)) == 3, "find_span without knots");
+    expect(TASULOGI_SPAN_REFUSAL(tasulogi_find_span_clamped(2, 4, NULL, 0, 0.5)) == 3, "find_span_clamped without knots");
     expect(tasulogi_next_span(2, 4, NULL, 0, 0) == 4 && same(tasulogi_clamp(2, 4, 0.5, NULL, 0), 0.5), "next_span, clamp without knots");
     expect(tasulogi_bound_curve(A, 0.5, 0.5, out, TASULOGI_BOX) == 0 && out[0] < 1.75, "bound_curve without weights");
     expect(tasulogi_bound_surface(PLANE, 0.5, 0.5, 0.5, 0.5, out, TASULOGI_BOX) == 0 && out[0] < 3.0, "bound_surface without weights");
@@ -31,7 +32,24 @@ static void nulls_of_tables(void)
     expect(tasulogi_eval2(A, 0.5, out, 9) == 0 && same(out[6], -2.0), "eval2 without weights");
     expect(tasulogi_eval_surface(PLANE, 0.5, 0.5, out, 9) == 0 && same(out[0], 3.0), "eval_surface without weights");
     expect(tasulogi_eval(A, 0.5, NULL, 0) == 30 && tasulogi_eval2(A, 0.5, NULL, 0) == 30 && tasulogi_eval_surface(PLANE, 0.5, 0.5, NULL, 0) == 30, "points into NULL");
-    expect(tasulogi_eval(A, NAN, NULL, 0) == 12, "another refusal with NULL");
+    expect(tasulogi_eval(A, NAN, NULL, 0) == 12 && tasulogi_eval(A, 3.0, NULL, 0) == 43, "other refusals with NULL");
+}
+
+static void nulls_of_clamped(void)
+{
+    static const double ends[] = { 0, 0, 1, 1 }, ts[] = { 3 };
+    uint32_t numbers[1];
+    double out[9];
+    expect(tasulogi_eval_clamped(A, 3.0, out, 6) == 0 && same(out[0], 6.0), "eval_clamped without weights");
+    expect(tasulogi_eval2_clamped(A, 3.0, out, 9) == 0 && same(out[0], 6.0), "eval2_clamped without weights");
+    expect(tasulogi_eval_surface_clamped(PLANE, 2.0, 2.0, out, 9) == 0 && same(out[0], 6.0), "eval_surface_clamped without weights");
+    expect(tasulogi_eval_clamped(A, 3.0, NULL, 0) == 30 && tasulogi_eval2_clamped(A, 3.0, NULL, 0) == 30 && tasulogi_eval_surface_clamped(PLANE, 2.0, 2.0, NULL, 0) == 30, "clamped points into NULL");
+    expect(tasulogi_eval_clamped(A, NAN, NULL, 0) == 12, "another refusal with NULL");
+    expect(tasulogi_eval_many_clamped(A, ts, 1, numbers, 1, out, 6) == 0 && same(out[0], 6.0), "eval_many_clamped without weights");
+    expect(tasulogi_eval2_many_clamped(A, ts, 1, numbers, 1, out, 9) == 0 && same(out[0], 6.0), "eval2_many_clamped without weights");
+    expect(tasulogi_eval_many_clamped(A, NULL, 0, NULL, 0, NULL, 0) == 0 && tasulogi_eval2_many_clamped(A, NULL, 0, NULL, 0, NULL, 0) == 0, "no parameters");
+    expect(tasulogi_eval_many_clamped(A, ts, 1, NULL, 0, out, 6) == 30 && tasulogi_eval_many_clamped(A, ts, 1, numbers, 1, NULL, 0) == 30, "eval_many_clamped into NULL");
+    expect(tasulogi_eval2_many_clamped(A, ts, 1, NULL, 0, out, 9) == 30 && tasulogi_eval2_many_clamped(A, ts, 1, numbers, 1, NULL, 0) == 30, "eval2_many_clamped into NULL");
 }
 
 static void nulls_of_many(void)

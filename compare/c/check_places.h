@@ -114,7 +114,9 @@ static void places_of_spans(void)
     double rows[2 * TASULOGI_BOX];
     expect(span_at(tasulogi_find_span(2, 4, bent, 7, 0.5), 4, 3), "find_span on a bad knot");
     expect(span_at(tasulogi_find_span(1, 5, (const double[]){ 0, 1, 2, 2, 2, 3, 4 }, 7, 0.5), 7, 2), "find_span on equal knots");
-    expect(span_at(tasulogi_find_span(2, 4, knots, 7, NAN), 12, 0), "find_span at a NaN");
+    expect(span_at(tasulogi_find_span(2, 4, knots, 7, NAN), 12, 0) && span_at(tasulogi_find_span(2, 4, knots, 7, 3.0), 43, 0), "find_span at a NaN, outside");
+    expect(span_at(tasulogi_find_span_clamped(2, 4, bent, 7, 3.0), 4, 3), "find_span_clamped on a bad knot");
+    expect(span_at(tasulogi_find_span_clamped(2, 4, knots, 7, NAN), 12, 0), "find_span_clamped at a NaN");
     expect(span_at(tasulogi_bound_spans(BENT, marks, 4, rows, 36), 4, 3) && marks[0] == 0, "bound_spans on a bad knot");
     expect(span_at(tasulogi_bound_spans(1, line, 4, torn + 3, 6, false, NULL, 0, marks, 4, rows, 36), 8, 1), "bound_spans on a bad point");
 }
@@ -125,10 +127,14 @@ static void places_of_calls(void)
     uint32_t numbers[1];
     double out[TASULOGI_BOX], more[12], most[12];
     expect(at(tasulogi_eval(BENT, 0.5, out, 6), 4, 3) && at(tasulogi_eval2(BENT, 0.5, out, 9), 4, 3), "evaluations");
+    expect(at(tasulogi_eval_clamped(BENT, 3.0, out, 6), 4, 3) && at(tasulogi_eval2_clamped(BENT, 3.0, out, 9), 4, 3), "clamped ones");
     expect(at(tasulogi_bound_curve(BENT, 0.5, 0.5, out, TASULOGI_BOX), 4, 3), "a bound");
     expect(at(tasulogi_eval_many(BENT, ts, 1, numbers, 1, out, 6), 4, 3), "points at once");
     expect(at(tasulogi_eval2_many(BENT, ts, 1, numbers, 1, out, 9), 4, 3), "two derivatives at once");
+    expect(at(tasulogi_eval_many_clamped(BENT, ts, 1, numbers, 1, out, 6), 4, 3), "clamped points at once");
+    expect(at(tasulogi_eval2_many_clamped(BENT, ts, 1, numbers, 1, out, 9), 4, 3), "two derivatives of them");
     expect(at(tasulogi_eval_surface(TORN, 0.5, 0.5, out, 9), 8, 2), "a surface's evaluation");
+    expect(at(tasulogi_eval_surface_clamped(TORN, 2.0, 0.5, out, 9), 8, 2), "a surface's clamped evaluation");
     expect(at(tasulogi_bound_surface(TORN, 0.5, 0.5, 0.5, 0.5, out, TASULOGI_BOX), 8, 2), "a surface's bound");
     expect(at(tasulogi_reversed(BENT, out, 7, more, 12, NULL, 0), 4, 3), "a reversal");
     expect(at(tasulogi_iso_curve(TORN, true, 0.5, more, 6, most, 2), 8, 2), "an isocurve");

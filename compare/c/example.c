@@ -38,6 +38,20 @@ static bool done(const char *call, uint64_t returned)
     return passed(call, TASULOGI_REFUSAL(returned), TASULOGI_PLACE(returned));
 }
 
+/* The loop runs past the end of the domain, 360 degrees, and is told so: it does not get the last point again and again. A
+ * plotter that wants that point asks for it by name. */
+static void walk(double step)
+{
+    double at[6], angle = 0;
+    while (done("eval", tasulogi_eval(CAM, angle, at, 6))) {
+        printf("at %.17g degrees the lift is %.17g\n", angle, at[1]);
+        angle += step;
+    }
+    if (done("eval_clamped", tasulogi_eval_clamped(CAM, angle, at, 6))) {
+        printf("at %.17g degrees, clamped, it is %.17g\n", angle, at[1]);
+    }
+}
+
 /* The exact lift at every angle from lo to hi lies between the two ends; a shorter range has a narrower box. */
 static void bound(double lo, double hi)
 {
@@ -80,6 +94,7 @@ int main(void)
         return 1;
     }
     printf("at 120 degrees, span %u: lift %.17g mm, rising %.17g mm per degree\n", (unsigned)span, at[1], at[4]);
+    walk(120.0);
     bound(knots[span], knots[span + 1]);
     bound(119.0, 121.0);
     bound(knots[span], 220.0);

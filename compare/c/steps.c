@@ -31,6 +31,9 @@ int main(void)
         tasulogi_step_span_of(2, 4, 0.5, knots, 7) == 2 && tasulogi_step_span_of(2, 4, 2.0, knots, 7) == 3,
         tasulogi_step_eval_at(2, knots, 7, points, 12, false, NULL, 0, 0.5, at, 6) == 0 && at[0] == 1.75 && at[3] == 3.0,
         tasulogi_step_eval_at(2, knots, 7, points, 12, false, NULL, 0, NAN, at, 6) == 12 && at[0] == 0.0,
+        tasulogi_step_eval_at(2, knots, 7, points, 12, false, NULL, 0, 3.0, at, 6) == 43 && at[0] == 0.0,
+        /* On knots that are not valid the two that are looked at say what lies outside: here from 2 to 1. */
+        tasulogi_step_eval_at(1, (const double[]){ 0, 2, 1, 3 }, 4, points, 6, false, NULL, 0, 1.5, at, 6) == 43,
         /* What docs/DIFFERENCES.md says of a span of degree - 1 and of an order above 2. */
         cleared(0, 0, knots + 2, 2) && !cleared(1, 2, ends, 4) && cleared(1, 3, ends, 4),
     };

@@ -1,5 +1,5 @@
 use crate::refusal::{answered, done};
-use crate::{Interval, Refusal, face, point_of, room};
+use crate::{Interval, Refusal, face, point_of, room, vectors};
 use std::iter::FusedIterator;
 
 /// A curve over borrowed runs: `points` has x, y, z of each point, `weights` one number for each.
@@ -58,8 +58,8 @@ fn rows<const N: usize>(
 ) -> Result<Vec<Result<[[f64; 3]; N], Refusal>>, Refusal> {
     let (mut numbers, mut rows) = (room(n)?, room(3 * N * n)?);
     done(call(&mut numbers, &mut rows))?;
-    let vectors = |row: &[f64]| std::array::from_fn(|i| [0, 1, 2].map(|k| row[3 * i + k]));
-    let row = |(number, row): (&u32, &[f64])| done(u64::from(*number)).map(|()| vectors(row));
+    let of = |row: &[f64]| std::array::from_fn(|i| [0, 1, 2].map(|k| row[3 * i + k]));
+    let row = |(number, row): (&u32, &[f64])| done(u64::from(*number)).map(|()| of(row));
     Ok(numbers.iter().zip(rows.chunks(3 * N)).map(row).collect())
 }
 
@@ -79,19 +79,35 @@ impl<'a> Curve<'a> {
         done(face::curve_refusal(self))
     }
 
-    /// The span of `t`; outside the domain that of the nearer end. Only the knots and the count of points are looked at.
+    /// The span of `t`; 12 where it is not finite, 43 where it lies outside the domain. Only the knots and the count of
+    /// points are looked at.
     ///
     /// ```
     /// use tasulogi::TABLE_A;
     /// assert_eq!([0.0, 0.5, 1.0, 2.0].map(|t| TABLE_A.span(t)), [Ok(2), Ok(2), Ok(3), Ok(3)]);
-    /// assert_eq!(TABLE_A.span(f64::INFINITY).unwrap_err().number, 12);
+    /// assert_eq!([f64::INFINITY, -1.0, 3.0].map(|t| TABLE_A.span(t).unwrap_err().number), [12, 43, 43]);
     /// ```
     pub fn span(&self, t: f64) -> Result<usize, Refusal> {
+        self.span_by(face::find_span, t)
+    }
+
+    /// The span of `t`; outside the domain that of the nearer end. Else as [`Curve::span`].
+    ///
+    /// ```
+    /// use tasulogi::TABLE_A;
+    /// assert_eq!([-1.0, 0.5, 3.0].map(|t| TABLE_A.span_clamped(t)), [Ok(2), Ok(2), Ok(3)]);
+    /// assert_eq!(TABLE_A.span_clamped(f64::INFINITY).unwrap_err().number, 12);
+    /// ```
+    pub fn span_clamped(&self, t: f64) -> Result<usize, Refusal> {
+        self.span_by(face::find_span_clamped, t)
+    }
+
+    fn span_by(&self, find: fn(&Curve, f64) -> u64, t: f64) -> Result<usize, Refusal> {
         if !self.points.len().is_multiple_of(3) {
             // There is no count; the curve is refused by 30 or 32.
             self.validate()?;
         }
-        answered(face::find_span(self.degree, self.count(), self.knots, t))
+        answered(find(self, t))
     }
 
     /// The nonempty spans in order, of a curve that is valid: a table that is none must not look like one without spans.
@@ -111,30 +127,55 @@ impl<'a> Curve<'a> {
         Ok(Spans { degree: self.degree, count: self.count(), knots: self.knots, from: 0 })
     }
 
-    /// The point and the first derivative at `t`; outside the domain those of the nearer end.
+    /// The point and the first derivative at `t`; 12 where it is not finite, 43 where it lies outside the domain.
     ///
     /// ```
     /// use tasulogi::TABLE_A;
     /// assert_eq!(TABLE_A.eval(0.5), Ok([[1.75, 0.0, 0.0], [3.0, 0.0, 0.0]]));
     /// assert_eq!(TABLE_A.eval(f64::NAN).unwrap_err().to_string(), "refusal 12: evaluation parameter not finite");
+    /// assert_eq!(TABLE_A.eval(3.0).unwrap_err().to_string(), "refusal 43: evaluation parameter outside the domain");
+    /// // Both ends are inside; an end that is 0 has either sign.
+    /// assert_eq!(TABLE_A.eval(2.0)?[0], [6.0, 0.0, 0.0]);
+    /// assert_eq!(TABLE_A.eval(-0.0)?[0], [0.0, 0.0, 0.0]);
+    /// # Ok::<(), tasulogi::Refusal>(())
     /// ```
     pub fn eval(&self, t: f64) -> Result<Point, Refusal> {
-        let mut out = [[0.0; 3]; 2];
-        done(face::eval(self, t, out.as_flattened_mut()))?;
-        Ok(out)
+        vectors(|out| face::eval(self, t, out))
     }
 
-    /// The point and two derivatives at `t`; 21 where one of them is not finite.
+    /// The point and the first derivative at `t`; outside the domain those of the nearer end. Else as [`Curve::eval`].
+    ///
+    /// ```
+    /// use tasulogi::TABLE_A;
+    /// assert_eq!(TABLE_A.eval_clamped(3.0), TABLE_A.eval(2.0));
+    /// assert_eq!(TABLE_A.eval_clamped(-1.0), TABLE_A.eval(0.0));
+    /// assert_eq!(TABLE_A.eval_clamped(0.5), TABLE_A.eval(0.5));
+    /// assert_eq!(TABLE_A.eval_clamped(f64::INFINITY).unwrap_err().number, 12);
+    /// ```
+    pub fn eval_clamped(&self, t: f64) -> Result<Point, Refusal> {
+        vectors(|out| face::eval_clamped(self, t, out))
+    }
+
+    /// The point and two derivatives at `t`; refused as [`Curve::eval`], then by 21 where one of them is not finite.
     ///
     /// ```
     /// use tasulogi::TABLE_A;
     /// assert_eq!(TABLE_A.eval2(0.5), Ok([[1.75, 0.0, 0.0], [3.0, 0.0, 0.0], [-2.0, 0.0, 0.0]]));
-    /// assert_eq!(TABLE_A.eval2(f64::NAN).unwrap_err().number, 12);
+    /// assert_eq!([f64::NAN, 3.0].map(|t| TABLE_A.eval2(t).unwrap_err().number), [12, 43]);
     /// ```
     pub fn eval2(&self, t: f64) -> Result<Point2, Refusal> {
-        let mut out = [[0.0; 3]; 3];
-        done(face::eval2(self, t, out.as_flattened_mut()))?;
-        Ok(out)
+        vectors(|out| face::eval2(self, t, out))
+    }
+
+    /// The point and two derivatives at `t`; outside the domain those of the nearer end. Else as [`Curve::eval2`].
+    ///
+    /// ```
+    /// use tasulogi::TABLE_A;
+    /// assert_eq!(TABLE_A.eval2_clamped(3.0), TABLE_A.eval2(2.0));
+    /// assert_eq!(TABLE_A.eval2_clamped(f64::NAN).unwrap_err().number, 12);
+    /// ```
+    pub fn eval2_clamped(&self, t: f64) -> Result<Point2, Refusal> {
+        vectors(|out| face::eval2_clamped(self, t, out))
     }
 
     /// Intervals of x, y, z that hold the exact point at every parameter from `lo` to `hi`, which lie in one span.
@@ -158,10 +199,10 @@ impl<'a> Curve<'a> {
     ///
     /// ```
     /// use tasulogi::{Curve, TABLE_A};
-    /// let ts = [0.5, f64::NAN, 2.0];
+    /// let ts = [0.5, f64::NAN, 2.0, 3.0];
     /// let points = TABLE_A.eval_many(&ts)?;
     /// assert_eq!(points, ts.map(|t| TABLE_A.eval(t)));
-    /// assert_eq!(points[1].unwrap_err().number, 12);
+    /// assert_eq!([1, 3].map(|i| points[i].unwrap_err().number), [12, 43]);
     /// assert_eq!(Curve { degree: 65, ..TABLE_A }.eval_many(&ts).unwrap_err().number, 2);
     /// # Ok::<(), tasulogi::Refusal>(())
     /// ```
@@ -169,16 +210,40 @@ impl<'a> Curve<'a> {
         rows(ts.len(), |numbers, rows| face::eval_many(self, ts, numbers, rows))
     }
 
+    /// The same with what [`Curve::eval_clamped`] answers.
+    ///
+    /// ```
+    /// use tasulogi::TABLE_A;
+    /// let ts = [-1.0, 0.5, 3.0];
+    /// assert_eq!(TABLE_A.eval_many_clamped(&ts)?, [0.0, 0.5, 2.0].map(|t| TABLE_A.eval(t)));
+    /// # Ok::<(), tasulogi::Refusal>(())
+    /// ```
+    pub fn eval_many_clamped(&self, ts: &[f64]) -> Result<Vec<Result<Point, Refusal>>, Refusal> {
+        rows(ts.len(), |numbers, rows| face::eval_many_clamped(self, ts, numbers, rows))
+    }
+
     /// The point and two derivatives at each parameter, with the curve checked once: what [`Curve::eval2`] answers.
     ///
     /// ```
     /// use tasulogi::TABLE_A;
-    /// let ts = [0.5, f64::NAN, 2.0];
+    /// let ts = [0.5, f64::NAN, 2.0, 3.0];
     /// assert_eq!(TABLE_A.eval2_many(&ts)?, ts.map(|t| TABLE_A.eval2(t)));
     /// # Ok::<(), tasulogi::Refusal>(())
     /// ```
     pub fn eval2_many(&self, ts: &[f64]) -> Result<Vec<Result<Point2, Refusal>>, Refusal> {
         rows(ts.len(), |numbers, rows| face::eval2_many(self, ts, numbers, rows))
+    }
+
+    /// The same with what [`Curve::eval2_clamped`] answers.
+    ///
+    /// ```
+    /// use tasulogi::TABLE_A;
+    /// let ts = [-1.0, 0.5, 3.0];
+    /// assert_eq!(TABLE_A.eval2_many_clamped(&ts)?, [0.0, 0.5, 2.0].map(|t| TABLE_A.eval2(t)));
+    /// # Ok::<(), tasulogi::Refusal>(())
+    /// ```
+    pub fn eval2_many_clamped(&self, ts: &[f64]) -> Result<Vec<Result<Point2, Refusal>>, Refusal> {
+        rows(ts.len(), |numbers, rows| face::eval2_many_clamped(self, ts, numbers, rows))
     }
 
     /// What [`Curve::bound`] answers on each nonempty span, in order, with the curve checked once.

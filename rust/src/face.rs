@@ -5,14 +5,7 @@ unsafe extern "C" {
     pub safe fn tasulogi_class_of(number: u32) -> u8;
     pub safe fn tasulogi_interval_contains(lo: f64, hi: f64, x: f64) -> u32;
     pub safe fn tasulogi_interval_sign(lo: f64, hi: f64) -> u32;
-    fn tasulogi_find_span(degree: usize, count: usize, knots: *const f64, knots_n: usize, u: f64) -> u64;
     fn tasulogi_next_span(degree: usize, count: usize, knots: *const f64, knots_n: usize, from: usize) -> usize;
-}
-
-/// The span, or a refusal with its number in the high half.
-pub fn find_span(degree: usize, count: usize, knots: &[f64], u: f64) -> u64 {
-    // SAFETY: pointer and length are those of a slice.
-    unsafe { tasulogi_find_span(degree, count, knots.as_ptr(), knots.len(), u) }
 }
 
 /// The first nonempty span from a place on, or the count.
@@ -65,6 +58,13 @@ calls! {
     fn interval_divide = "tasulogi_interval_divide"(al: f64, ah: f64, bl: f64, bh: f64) lends out;
 }
 
+// Of a curve its knots and the count of its points: the span, or a refusal with its number in the high half.
+calls! {
+    (c: Curve<'_> => c.degree, usize; c.count(), usize; c.knots.as_ptr(), *const f64; c.knots.len(), usize;) -> u64;
+    fn find_span = "tasulogi_find_span"(u: f64);
+    fn find_span_clamped = "tasulogi_find_span_clamped"(u: f64);
+}
+
 calls! {
     (c: Curve<'_> =>
         c.degree, usize;
@@ -76,9 +76,13 @@ calls! {
     fn curve_refusal = "tasulogi_curve_refusal"();
     fn bound_curve = "tasulogi_bound_curve"(lo: f64, hi: f64) lends out;
     fn eval = "tasulogi_eval"(t: f64) lends out;
+    fn eval_clamped = "tasulogi_eval_clamped"(t: f64) lends out;
     fn eval2 = "tasulogi_eval2"(t: f64) lends out;
+    fn eval2_clamped = "tasulogi_eval2_clamped"(t: f64) lends out;
     fn eval_many = "tasulogi_eval_many"() reads ts marks numbers lends rows;
+    fn eval_many_clamped = "tasulogi_eval_many_clamped"() reads ts marks numbers lends rows;
     fn eval2_many = "tasulogi_eval2_many"() reads ts marks numbers lends rows;
+    fn eval2_many_clamped = "tasulogi_eval2_many_clamped"() reads ts marks numbers lends rows;
     fn bound_spans = "tasulogi_bound_spans"() marks spans lends boxes;
     fn reversed = "tasulogi_reversed"() lends knots, points, weights;
     fn insert_knots = "tasulogi_insert_knots"() reads inserted lends knots, points, weights, scratch;
@@ -99,5 +103,6 @@ calls! {
     fn surface_refusal = "tasulogi_surface_refusal"();
     fn bound_surface = "tasulogi_bound_surface"(u_lo: f64, u_hi: f64, v_lo: f64, v_hi: f64) lends out;
     fn eval_surface = "tasulogi_eval_surface"(u: f64, v: f64) lends out;
+    fn eval_surface_clamped = "tasulogi_eval_surface_clamped"(u: f64, v: f64) lends out;
     fn iso_curve = "tasulogi_iso_curve"(constant_u: bool, t: f64) lends points, weights;
 }

@@ -17,6 +17,23 @@
 //!     Ok(())
 //! }
 //! ```
+//!
+//! A loop that runs past the end of a table gets the points inside it, then refusal 43. Methods whose names end in
+//! `_clamped` take the nearer end for a parameter outside the domain.
+//!
+//! ```
+//! use tasulogi::TABLE_A;
+//! // Its domain is from 0 to 2.
+//! let (mut t, mut x) = (0.0, vec![]);
+//! while let Ok([point, _]) = TABLE_A.eval(t) {
+//!     x.push(point[0]);
+//!     t += 0.5;
+//! }
+//! assert_eq!(x, [0.0, 1.75, 3.0, 4.25, 6.0]);
+//! assert_eq!(TABLE_A.eval(t).unwrap_err().to_string(), "refusal 43: evaluation parameter outside the domain");
+//! // Clamped, the same loop would not end: it would get the last point again and again.
+//! assert_eq!([2.5, 3.0, 1e9].map(|t| TABLE_A.eval_clamped(t)), [TABLE_A.eval(2.0); 3]);
+//! ```
 mod curve;
 mod edits;
 mod face;
@@ -33,6 +50,13 @@ pub use surface::Surface;
 /// The first three intervals of an answered box: x, y, z of the point.
 fn point_of(numbers: &[f64]) -> [Interval; 3] {
     [0, 2, 4].map(|i| Interval::of([numbers[i], numbers[i + 1]]))
+}
+
+/// The N vectors that a call writes.
+fn vectors<const N: usize>(call: impl FnOnce(&mut [f64]) -> u64) -> Result<[[f64; 3]; N], Refusal> {
+    let mut out = [[0.0; 3]; N];
+    refusal::done(call(out.as_flattened_mut()))?;
+    Ok(out)
 }
 
 /// A run of `n` numbers to lend; 30 where there is no memory for it.

@@ -1,7 +1,7 @@
 use crate::face;
 use std::fmt;
 
-/// A line for each refusal: number, class, text.
+/// A line for each refusal: number, class, text. Numbers that no call gives have none.
 const TABLE: &str = include_str!("../../docs/refusals.txt");
 
 /// Along which direction of a surface refusals 1 to 7 were met.
@@ -71,9 +71,8 @@ impl Refusal {
     /// assert_eq!((refusal.number, refusal.text()), (12, "evaluation parameter not finite"));
     /// ```
     pub fn text(self) -> &'static str {
-        // A line's place is its number.
-        let line = TABLE.lines().nth(usize::from(self.number).wrapping_sub(1));
-        line.and_then(|line| line.splitn(3, ' ').nth(2)).unwrap_or("no refusal of document 01")
+        let row = TABLE.lines().filter_map(row).find(|row| row.0 == self.number);
+        row.map_or("no refusal of document 01", |row| row.2)
     }
 }
 
@@ -92,6 +91,12 @@ impl fmt::Display for Refusal {
 }
 
 impl std::error::Error for Refusal {}
+
+/// The number, the letter of the class and the text of a line of the table.
+fn row(line: &str) -> Option<(u8, &str, &str)> {
+    let mut parts = line.splitn(3, ' ');
+    Some((parts.next()?.parse().ok()?, parts.next()?, parts.next()?))
+}
 
 /// What the place of a refusal counts.
 fn part(number: u8) -> Option<&'static str> {
@@ -129,21 +134,27 @@ pub(crate) fn answered(returned: u64) -> Result<usize, Refusal> {
 mod tests {
     use super::*;
 
+    fn of(number: u8) -> Refusal {
+        Refusal { number, direction: None, place: None }
+    }
+
     #[test]
     fn the_table_has_each_number_once_with_the_proved_class() {
-        for (i, line) in TABLE.lines().enumerate() {
-            let number = i as u8 + 1;
-            let letter = match (Refusal { number, direction: None, place: None }).class() {
-                Class::Invalid => 'I',
-                Class::Degenerate => 'D',
-                Class::Unimplemented => 'U',
-                Class::Capacity => 'C',
-                Class::Internal => 'N',
+        let rows: Vec<_> = TABLE.lines().filter_map(row).collect();
+        for (number, letter, text) in &rows {
+            let proved = match of(*number).class() {
+                Class::Invalid => "I",
+                Class::Degenerate => "D",
+                Class::Unimplemented => "U",
+                Class::Capacity => "C",
+                Class::Internal => "N",
             };
-            assert!(line.starts_with(&format!("{number} {letter} ")), "{line}");
+            assert_eq!((*letter, *text), (proved, of(*number).text()), "{number}");
         }
-        assert_eq!(TABLE.lines().count(), 33);
-        assert_eq!((0..=255).filter(|n| face::tasulogi_class_of(*n) < 5).count(), 33);
+        assert!(rows.is_sorted_by(|a, b| a.0 < b.0));
+        assert_eq!((TABLE.lines().count(), rows.len()), (34, 34));
+        let with_a_class: Vec<_> = (0..=255).filter(|n| face::tasulogi_class_of(u32::from(*n)) < 5).collect();
+        assert_eq!(with_a_class, rows.iter().map(|row| row.0).collect::<Vec<_>>());
     }
 
     #[test]
@@ -164,6 +175,7 @@ mod tests {
         assert_eq!(said(8, 7), "refusal 8 at point 7: a control coordinate is not finite");
         assert_eq!(said(10, 2), "refusal 10 at weight 2: a weight is not finite and above 0");
         assert_eq!(said(12, 0), "refusal 12: evaluation parameter not finite");
+        assert_eq!(said(43, 0), "refusal 43: evaluation parameter outside the domain");
         assert_eq!(done(7 << 32 | 8).unwrap_err(), Refusal { number: 8, direction: None, place: Some(7) });
     }
 
@@ -176,8 +188,8 @@ mod tests {
 
     #[test]
     fn a_number_that_is_none_has_a_text() {
-        for number in [0, 34, 255] {
-            assert_eq!(Refusal { number, direction: None, place: None }.text(), "no refusal of document 01");
+        for number in [0].into_iter().chain(34..=42).chain(44..=255) {
+            assert_eq!(of(number).text(), "no refusal of document 01");
         }
     }
 }

@@ -1,5 +1,5 @@
 use crate::refusal::done;
-use crate::{CurveBuf, Direction, Interval, Refusal, face, point_of, room};
+use crate::{CurveBuf, Direction, Interval, Refusal, face, point_of, room, vectors};
 
 /// A surface over borrowed runs, u before v: point i, j has place `i * counts[1] + j`.
 #[derive(Clone, Copy, Debug, PartialEq)]
@@ -29,7 +29,8 @@ impl Surface<'_> {
         done(face::surface_refusal(self))
     }
 
-    /// The point and the derivatives along u and v; outside the domain those of the nearer edge.
+    /// The point and the derivatives along u and v. 12 where `u` is not finite, 43 where it lies outside its domain, then
+    /// the same of `v`.
     ///
     /// ```
     /// # use tasulogi::Surface;
@@ -38,13 +39,29 @@ impl Surface<'_> {
     /// let s = Surface { degrees: [1, 1], knots: [ends; 2], counts: [2, 2], points: x.as_flattened(), weights: None };
     /// let [point, du, dv] = s.eval(0.5, 0.5)?;
     /// assert_eq!((point[0], du[0], dv[0]), (3.0, 4.0, 2.0));
-    /// assert_eq!(s.eval(0.5, f64::NAN).unwrap_err().number, 12);
+    /// let refused = |u, v| s.eval(u, v).unwrap_err().number;
+    /// assert_eq!([refused(f64::NAN, 0.5), refused(2.0, 0.5), refused(0.5, f64::NAN), refused(0.5, 2.0)], [12, 43, 12, 43]);
+    /// // 43 says no direction: of two refusals u's is given.
+    /// assert_eq!([refused(2.0, f64::NAN), refused(f64::NAN, 2.0)], [43, 12]);
     /// # Ok::<(), tasulogi::Refusal>(())
     /// ```
     pub fn eval(&self, u: f64, v: f64) -> Result<[[f64; 3]; 3], Refusal> {
-        let mut out = [[0.0; 3]; 3];
-        done(face::eval_surface(self, u, v, out.as_flattened_mut()))?;
-        Ok(out)
+        vectors(|out| face::eval_surface(self, u, v, out))
+    }
+
+    /// The point and the derivatives along u and v; outside the domain those of the nearer edge. Else as [`Surface::eval`].
+    ///
+    /// ```
+    /// # use tasulogi::Surface;
+    /// # let ends: &[f64] = &[0.0, 0.0, 1.0, 1.0];
+    /// # let x = [[0.0, 0.0, 0.0], [2.0, 0.0, 0.0], [4.0, 0.0, 0.0], [6.0, 0.0, 0.0]];
+    /// # let s = Surface { degrees: [1, 1], knots: [ends; 2], counts: [2, 2], points: x.as_flattened(), weights: None };
+    /// assert_eq!(s.eval_clamped(2.0, 0.5), s.eval(1.0, 0.5));
+    /// assert_eq!(s.eval_clamped(2.0, -1.0), s.eval(1.0, 0.0));
+    /// assert_eq!(s.eval_clamped(2.0, f64::NAN).unwrap_err().number, 12);
+    /// ```
+    pub fn eval_clamped(&self, u: f64, v: f64) -> Result<[[f64; 3]; 3], Refusal> {
+        vectors(|out| face::eval_surface_clamped(self, u, v, out))
     }
 
     /// Intervals of x, y, z over a closed rectangle that lies in one span of each direction.

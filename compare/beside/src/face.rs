@@ -15,6 +15,7 @@ unsafe extern "C" {
     pub safe fn tasulogi_class_of(number: u32) -> u8;
 
     pub fn tasulogi_find_span(degree: usize, count: usize, knots: *const f64, knots_n: usize, u: f64) -> u64;
+    pub fn tasulogi_find_span_clamped(degree: usize, count: usize, knots: *const f64, knots_n: usize, u: f64) -> u64;
     pub fn tasulogi_next_span(degree: usize, count: usize, knots: *const f64, knots_n: usize, from: usize) -> usize;
     pub fn tasulogi_clamp(degree: usize, count: usize, u: f64, knots: *const f64, knots_n: usize) -> f64;
 }
@@ -73,9 +74,13 @@ exported! {
     fn tasulogi_curve_refusal();
     fn tasulogi_bound_curve(lo: f64, hi: f64) lends out;
     fn tasulogi_eval(t: f64) lends out;
+    fn tasulogi_eval_clamped(t: f64) lends out;
     fn tasulogi_eval2(t: f64) lends out;
+    fn tasulogi_eval2_clamped(t: f64) lends out;
     fn tasulogi_eval_many() reads ts marks numbers lends rows;
+    fn tasulogi_eval_many_clamped() reads ts marks numbers lends rows;
     fn tasulogi_eval2_many() reads ts marks numbers lends rows;
+    fn tasulogi_eval2_many_clamped() reads ts marks numbers lends rows;
     fn tasulogi_bound_spans() marks spans lends boxes;
     fn tasulogi_reversed() lends knots, points, weights;
     fn tasulogi_insert_knots() reads inserted lends knots, points, weights, scratch;
@@ -96,5 +101,6 @@ exported! {
     fn tasulogi_surface_refusal();
     fn tasulogi_bound_surface(u_lo: f64, u_hi: f64, v_lo: f64, v_hi: f64) lends out;
     fn tasulogi_eval_surface(u: f64, v: f64) lends out;
+    fn tasulogi_eval_surface_clamped(u: f64, v: f64) lends out;
     fn tasulogi_iso_curve(constant_u: bool, t: f64) lends points, weights;
 }

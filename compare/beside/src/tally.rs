@@ -47,7 +47,7 @@ pub struct Difference {
 pub struct Tally {
     pub rows: Vec<Row>,
     pub kinds: [u64; KINDS.len()],
-    /// How many tables had each of the module's features.
+    /// How often each of the module's features was met.
     pub features: Vec<u64>,
     pub first: Option<Difference>,
 }
@@ -118,7 +118,7 @@ impl Tally {
             lines.push(format!("no double of the kind {name} was passed"));
         }
         for (name, _) in features.iter().zip(&self.features).filter(|f| *f.1 == 0) {
-            lines.push(format!("no table had this: {name}"));
+            lines.push(format!("this was never met: {name}"));
         }
         lines
     }
@@ -133,13 +133,13 @@ impl Tally {
 
     pub fn table(&self, module: &str, calls: &[Call], features: &[&str]) -> String {
         let mut s = format!(
-            "{:<15} {:>12} {:>8} {:>10} {:>9} {:>8}  answers and refusals seen\n",
+            "{:<20} {:>12} {:>8} {:>10} {:>9} {:>8}  answers and refusals seen\n",
             module, "cases", "differ", "zero signs", "exact", "outside"
         );
         for (call, row) in calls.iter().zip(&self.rows) {
             let _ = write!(
                 s,
-                "{:<15} {:>12} {:>8} {:>10} {:>9} {:>8} ",
+                "{:<20} {:>12} {:>8} {:>10} {:>9} {:>8} ",
                 call.name,
                 grouped(row.cases),
                 row.differ,
@@ -161,7 +161,7 @@ impl Tally {
         }
         if !features.is_empty() {
             let seen: Vec<String> = features.iter().zip(&self.features).map(|(f, n)| format!("{f} {}", grouped(*n))).collect();
-            let _ = write!(s, "\ntables: {}", seen.join(", "));
+            let _ = write!(s, "\nmet: {}", seen.join(", "));
         }
         s
     }

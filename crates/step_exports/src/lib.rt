@@ -34,7 +34,7 @@ pub extern "C" fn tasulogi_step_basis_derivatives(
     basis_derivatives(span, u, degree, n, knots, out);
 }
 
-// The point and the first derivative of a curve, by lengths, degree and parameter alone.
+// The point and the first derivative of a curve, by lengths, degree, parameter and the two ends of the domain alone.
 #[no_mangle]
 pub extern "C" fn tasulogi_step_eval_at(
     degree: usize,

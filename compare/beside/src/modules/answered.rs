@@ -6,10 +6,19 @@ use crate::rng::Rng;
 use crate::tables::{Refused, hex};
 use oracle::{BCurve, Point3, class_of};
 
-/// What our class of a returned number is beside document 01's.
+/// The class of a number that some call gives, invalid 0 to internal 4, and 5 of all others. That of 43 is ours.
+pub fn class_number(number: u32) -> u32 {
+    match number {
+        1..=33 => "IDUCN".find(class_of(number)).expect("a class") as u32,
+        43 => 0,
+        _ => 5,
+    }
+}
+
+/// Whether our class of a returned number is that.
 pub fn class_agrees(number: u32) -> bool {
-    let ours = tasulogi_class_of(number % 100);
-    number == 0 || b"IDUCN".get(ours as usize) == Some(&(class_of(number % 100) as u8))
+    let number = number % 100;
+    u32::from(tasulogi_class_of(number)) == class_number(number)
 }
 
 pub fn point(p: Point3) -> [u64; 3] {
@@ -48,6 +57,14 @@ impl Wanted {
     /// A refusal that has no place.
     pub fn unplaced(number: u32) -> Self {
         Self::Refused(Refused::unplaced(number))
+    }
+
+    /// 0 where the runs are answered.
+    pub fn number(&self) -> u32 {
+        match self {
+            Self::Runs(_) => 0,
+            Self::Refused(r) | Self::Formed(r) => r.number,
+        }
     }
 }
 

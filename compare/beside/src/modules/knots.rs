@@ -3,11 +3,12 @@ mod bench;
 mod calls;
 mod list;
 
-use super::answered::class_agrees;
+use super::answered::{class_agrees, class_number};
 use super::{Desk, Module, joined};
 use crate::face::{tasulogi_class_of, tasulogi_curve_refusal, tasulogi_surface_refusal};
 use crate::rng::Rng;
 use crate::tables::at;
+use crate::tables::domain::{self, AROUND, Mode, around};
 use crate::tables::make::{self, Care};
 use crate::tables::{Curve, FEATURES, PLACES, Refused, double_literal, fixed, hex, literal};
 use crate::tally::{Call, Place, Tally};
@@ -16,20 +17,24 @@ use calls::*;
 const CARE: Care = Care { steep: [200, 300, 200, 150, 50, 30], broken: 32, long: 6000 };
 
 /// The rows of the table. A span is 0, none 1; a parameter stays 0, is raised 1, is lowered 2; a class is its number.
-const CALLS: [(&str, &[u32]); 6] = [
-    ("curve_refusal", &[0, 1, 2, 3, 4, 5, 6, 7, 8, 9, 10, 30, 32]),
-    ("surface_refusal", &[0, 8, 9, 10, 11, 30, 32, 101, 102, 103, 104, 105, 106, 107, 201, 202, 203, 204, 205, 206, 207]),
-    ("find_span", &[0, 1, 2, 3, 4, 5, 6, 7, 12, 30]),
-    ("next_span", &[0, 1]),
-    ("clamp", &[0, 1, 2]),
-    ("class_of", &[0, 1, 2, 3, 4, 5]),
+const CALLS: [(&str, &[u32], &[u32]); 7] = [
+    ("curve_refusal", &[0, 1, 2, 3, 4, 5, 6, 7, 8, 9, 10, 30, 32], &[]),
+    ("surface_refusal", &[0, 8, 9, 10, 11, 30, 32, 101, 102, 103, 104, 105, 106, 107, 201, 202, 203, 204, 205, 206, 207], &[]),
+    ("find_span", &[0, 1, 2, 3, 4, 5, 6, 7, 12, 30, 43], &[]),
+    ("find_span_clamped", &[0, 1, 2, 3, 4, 5, 6, 7, 12, 30], &[43]),
+    ("next_span", &[0, 1], &[]),
+    ("clamp", &[0, 1, 2], &[]),
+    ("class_of", &[0, 1, 2, 3, 4, 5], &[]),
 ];
 
-const SEEN: [&str; FEATURES.len() + PLACES.len()] = joined(&FEATURES, &PLACES);
+const TABLES: [&str; FEATURES.len() + PLACES.len()] = joined(&FEATURES, &PLACES);
+/// By mode.
+const PARAMETERS: [&str; 2 * AROUND] = around! { "find_span" "find_span_clamped" };
+const SEEN: [&str; TABLES.len() + PARAMETERS.len()] = joined(&TABLES, &PARAMETERS);
 
 pub const MODULE: Module = Module {
     name: "knots",
-    calls: || CALLS.map(|c| Call { name: c.0, numbers: c.1, idle: &[] }).into(),
+    calls: || CALLS.map(|c| Call { name: c.0, numbers: c.1, idle: c.2 }).into(),
     features: &SEEN,
     default_cases: 4_000_000,
     case,
@@ -113,15 +118,19 @@ fn spanned(desk: &mut Desk) -> Option<String> {
     let c = made_curve(desk);
     let r = &mut desk.r;
     let k = Run { degree: c.degree, count: count(r, &c), knots: &c.knots };
-    let u = at::parameter(r, &c.knots);
-    let want = span(&k, u);
-    let got = our_span(&k, u);
+    let (u, mode) = (at::of_domain(r, k.degree, k.count, k.knots), Mode::either(r));
+    let want = span(&k, u, mode);
+    let got = our_span(&k, u, mode);
     let (number, agrees) = match want {
         Ok(s) => (0, got == s as u64),
         Err(r) => (r.number, got == r.turned() && class_agrees(r.number)),
     };
-    desk.tally.judged(2, number, agrees, || {
-        told("find_span", &k, &format!("u {}", double_literal(u)), format!("{want:?}"), format!("{got:016x}"))
+    if domain::is_looked_at(number) {
+        domain::met(k.domain().spots(u), &mut desk.tally.features[TABLES.len() + AROUND * mode as usize..]);
+    }
+    let row = 2 + mode as usize;
+    desk.tally.judged(row, number, agrees, || {
+        told(CALLS[row].0, &k, &format!("u {}", double_literal(u)), format!("{want:?}"), format!("{got:016x}"))
     })
 }
 
@@ -136,7 +145,7 @@ fn next(desk: &mut Desk) -> Option<String> {
     let want = calls::next(&k, from);
     let got = our_next(&k, from);
     let walked = k.count != c.count() || c.rust().is_err() || walks(&k);
-    desk.tally.judged(3, want.is_none() as u32, got == want.unwrap_or(k.count) && walked, || {
+    desk.tally.judged(4, want.is_none() as u32, got == want.unwrap_or(k.count) && walked, || {
         told("next_span", &k, &format!("from {from}"), format!("{want:?}, the walk agrees: {walked}"), format!("{got}"))
     })
 }
@@ -145,23 +154,20 @@ fn clamped(desk: &mut Desk) -> Option<String> {
     let c = made_curve(desk);
     let r = &mut desk.r;
     let k = Run { degree: c.degree, count: count(r, &c), knots: &c.knots };
-    let u = at::parameter(r, &c.knots);
+    let u = at::of_domain(r, k.degree, k.count, k.knots);
     let want = clamp(&k, u);
     let got = our_clamp(&k, u);
     let number = if want > u { 1 } else { 2 * (want < u) as u32 };
     let agrees = want.to_bits() == got.to_bits() || want.is_nan() && got.is_nan();
-    desk.tally.judged(4, number, agrees, || {
+    desk.tally.judged(5, number, agrees, || {
         told("clamp", &k, &format!("u {}", double_literal(u)), double_literal(want), double_literal(got))
     })
 }
 
 fn classed(desk: &mut Desk) -> Option<String> {
     let r = &mut desk.r;
-    let number = if r.below(4) == 0 { r.next() as u32 } else { r.below(40) as u32 };
-    let want = match number {
-        1..=33 => "IDUCN".find(oracle::class_of(number)).map_or(9, |at| at as u32),
-        _ => 5,
-    };
+    let number = if r.below(4) == 0 { r.next() as u32 } else { r.below(60) as u32 };
+    let want = class_number(number);
     let got = tasulogi_class_of(number) as u32;
-    desk.tally.judged(5, want, got == want, || format!("class_of({number})\n  wanted:        {want}\n  ours:          {got}"))
+    desk.tally.judged(6, want, got == want, || format!("class_of({number})\n  wanted:        {want}\n  ours:          {got}"))
 }

@@ -127,6 +127,7 @@ fn in_turn(of: Vec<Listed>, most: usize) -> Vec<Listed> {
 
 /// A heading of sixteen bytes and the number of cases, then a case a line; and the line that is to be printed.
 pub fn write(stdin: &mut dyn Write, stdout: &mut dyn Write, name: &str, cases: &[Listed]) -> Result<()> {
+    assert!(name.len() <= 16, "{name} is longer than a heading");
     writeln!(stdin, "{name:<16}{:016x}", cases.len())?;
     for c in cases {
         let line: Vec<String> = c.words.iter().map(|w| format!("{w:016x}")).collect();

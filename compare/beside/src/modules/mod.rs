@@ -30,7 +30,7 @@ pub struct Module {
     pub name: &'static str,
     /// The rows of the table, in order.
     pub calls: fn() -> Vec<Call>,
-    /// What the tables of a run have to have had.
+    /// What a run has to meet in its tables and parameters.
     pub features: &'static [&'static str],
     /// How many cases a run has where the command does not say.
     pub default_cases: u64,

@@ -24,6 +24,15 @@ pub fn parameter(r: &mut Rng, knots: &[f64]) -> f64 {
     }
 }
 
+/// A parameter of a call that looks at the domain: one in four is an end of it, its negative, so the other zero of an end
+/// that is one, or next to an end.
+pub fn of_domain(r: &mut Rng, degree: usize, count: usize, knots: &[f64]) -> f64 {
+    match knots.get(r.pick(&[degree, count])) {
+        Some(&end) if r.below(4) == 0 => r.pick(&[end, -end, end.next_up(), end.next_down()]),
+        _ => parameter(r, knots),
+    }
+}
+
 /// A double between two, or one of them.
 pub fn inside(r: &mut Rng, a: f64, b: f64) -> f64 {
     let x = a + (b - a) * r.unit();

@@ -1,10 +1,12 @@
 //! Curves and surfaces as the exported calls take them, what the Rust makes of them, and how a case is told.
 pub mod at;
+pub mod domain;
 pub mod fixed;
 pub mod make;
 mod place;
 mod spoil;
 
+use domain::Domain;
 use oracle::{BCurve, BSurface, Point3, Refusal, noting, refusal};
 use place::Looked;
 pub use place::{PLACES, Refused};
@@ -53,6 +55,11 @@ fn before_all(runs: &[&[f64]], points: &[f64]) -> Result<(), Refused> {
 impl Curve {
     pub fn count(&self) -> usize {
         self.points.len() / 3
+    }
+
+    /// Of a valid table.
+    pub fn domain(&self) -> Domain {
+        Domain::of(self.degree, self.count(), &self.knots)
     }
 
     pub fn is_steep(&self) -> bool {
@@ -117,6 +124,11 @@ impl Curve {
 }
 
 impl Surface {
+    /// Of a valid table, along u and along v.
+    pub fn domains(&self) -> [Domain; 2] {
+        [0, 1].map(|k| Domain::of(self.degrees[k], self.counts[k], &self.knots[k]))
+    }
+
     pub fn is_steep(&self) -> bool {
         self.degrees.iter().any(|d| *d > HIGHEST)
     }

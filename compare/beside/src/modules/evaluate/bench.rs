@@ -4,6 +4,7 @@ use super::calls::{CurveCase, Order, SurfaceCase};
 use crate::modules::timed::{Times, clamped, clamped_surface, time};
 use crate::rng::Rng;
 use crate::steps::tasulogi_step_basis_derivatives;
+use crate::tables::domain::Mode;
 use oracle::{basis_derivatives, find_span};
 use std::hint::black_box;
 
@@ -36,7 +37,7 @@ fn point(rounds: u32, call: &str, order: Order, (degree, points): (usize, usize)
         (0..if points > 1_000 { 4 } else { 64 }).map(|_| CurveCase { t: r.unit() * end, table: table.clone() }).collect();
     let (mut out, mut done) = ([0.0; 9], true);
     let ours = time(rounds, &cases, |c| {
-        done &= c.ours_point(order, black_box(&mut out).as_mut_slice()) == 0;
+        done &= c.ours_point(order, Mode::Refusing, black_box(&mut out).as_mut_slice()) == 0;
         out[0]
     });
     assert!(done, "{call} was refused");
@@ -58,7 +59,7 @@ fn surface(rounds: u32, side: usize) -> Times {
         (0..16).map(|_| SurfaceCase { u: r.unit() * end, v: r.unit() * end, table: table.clone() }).collect();
     let (mut out, mut done) = ([0.0; 9], true);
     let ours = time(rounds, &cases, |c| {
-        done &= c.ours_point(black_box(&mut out).as_mut_slice()) == 0;
+        done &= c.ours_point(Mode::Refusing, black_box(&mut out).as_mut_slice()) == 0;
         out[0]
     });
     assert!(done, "eval_surface was refused");

@@ -5,6 +5,7 @@ use crate::modules::answered::{Wanted, coordinates, point, words};
 use crate::rng::Rng;
 use crate::steps::eval_at;
 use crate::tables::at;
+use crate::tables::domain::{Domain, Mode};
 use crate::tables::{Curve, Surface, make};
 use oracle::{Vec3, refusal};
 
@@ -38,31 +39,37 @@ fn run(parts: &[[u64; 3]]) -> Wanted {
 impl CurveCase {
     pub fn made(r: &mut Rng) -> Self {
         let table = make::curve(r, &CARE);
-        Self { t: at::parameter(r, &table.knots), table }
+        Self { t: at::of_domain(r, table.degree, table.count(), &table.knots), table }
     }
 
-    /// Validity, 31, 12, and for two derivatives 21.
-    pub fn rust_point(&self, order: Order) -> Wanted {
-        match self.table.rust() {
-            Err(r) => Wanted::Refused(r),
-            Ok(_) if self.table.is_steep() => Wanted::unplaced(31),
-            Ok(_) if !self.t.is_finite() => Wanted::unplaced(12),
-            Ok(c) if order != Order::Two => {
-                let d = c.eval(self.t);
-                run(&[point(d.point), vector(d.d1)])
-            }
-            Ok(c) => match c.eval2(self.t) {
-                Ok(d) => run(&[point(d.point), vector(d.d1), vector(d.d2)]),
-                Err(e) => Wanted::unplaced(refusal(&e).number),
-            },
+    /// Validity, 31, the parameter's own, and for two derivatives 21.
+    pub fn rust_point(&self, order: Order, mode: Mode) -> Wanted {
+        let c = match self.table.rust() {
+            Err(r) => return Wanted::Refused(r),
+            Ok(_) if self.table.is_steep() => return Wanted::unplaced(31),
+            Ok(c) => c,
+        };
+        if let Some(number) = mode.refusal(self.table.domain(), self.t) {
+            return Wanted::unplaced(number);
+        }
+        if order != Order::Two {
+            let d = c.eval(self.t);
+            return run(&[point(d.point), vector(d.d1)]);
+        }
+        match c.eval2(self.t) {
+            Ok(d) => run(&[point(d.point), vector(d.d1), vector(d.d2)]),
+            Err(e) => Wanted::unplaced(refusal(&e).number),
         }
     }
 
-    pub fn ours_point(&self, order: Order, out: &mut [f64]) -> u64 {
-        match order {
-            Order::One => tasulogi_eval(&self.table, self.t, out),
-            Order::Validated => eval_at(&self.table, self.t, out),
-            Order::Two => tasulogi_eval2(&self.table, self.t, out),
+    /// The step after validation has one mode.
+    pub fn ours_point(&self, order: Order, mode: Mode, out: &mut [f64]) -> u64 {
+        match (order, mode) {
+            (Order::One, Mode::Refusing) => tasulogi_eval(&self.table, self.t, out),
+            (Order::One, Mode::Clamping) => tasulogi_eval_clamped(&self.table, self.t, out),
+            (Order::Validated, _) => eval_at(&self.table, self.t, out),
+            (Order::Two, Mode::Refusing) => tasulogi_eval2(&self.table, self.t, out),
+            (Order::Two, Mode::Clamping) => tasulogi_eval2_clamped(&self.table, self.t, out),
         }
     }
 
@@ -85,8 +92,8 @@ impl CurveCase {
 impl SurfaceCase {
     pub fn made(r: &mut Rng) -> Self {
         let table = make::surface(r, &SURFACE_CARE);
-        let u = at::parameter(r, &table.knots[0]);
-        Self { u, v: at::parameter(r, &table.knots[1]), table }
+        let [u, v] = [0, 1].map(|k| at::of_domain(r, table.degrees[k], table.counts[k], &table.knots[k]));
+        Self { u, v, table }
     }
 
     /// The parameter that an isocurve keeps.
@@ -94,20 +101,32 @@ impl SurfaceCase {
         if constant_u { self.u } else { self.v }
     }
 
-    pub fn rust_point(&self) -> Wanted {
+    /// u and v, each with its domain; of a valid table.
+    pub fn parameters(&self) -> [(Domain, f64); 2] {
+        let [along_u, along_v] = self.table.domains();
+        [(along_u, self.u), (along_v, self.v)]
+    }
+
+    /// Validity, 31, all of u's own, then v's.
+    pub fn rust_point(&self, mode: Mode) -> Wanted {
         match self.table.rust() {
             Err(r) => Wanted::Refused(r),
             Ok(_) if self.table.is_steep() => Wanted::unplaced(31),
-            Ok(_) if !self.u.is_finite() || !self.v.is_finite() => Wanted::unplaced(12),
-            Ok(s) => {
-                let d = s.eval(self.u, self.v);
-                run(&[point(d.point), vector(d.du), vector(d.dv)])
-            }
+            Ok(s) => match self.parameters().into_iter().find_map(|(domain, t)| mode.refusal(domain, t)) {
+                Some(number) => Wanted::unplaced(number),
+                None => {
+                    let d = s.eval(self.u, self.v);
+                    run(&[point(d.point), vector(d.du), vector(d.dv)])
+                }
+            },
         }
     }
 
-    pub fn ours_point(&self, out: &mut [f64]) -> u64 {
-        tasulogi_eval_surface(&self.table, self.u, self.v, out)
+    pub fn ours_point(&self, mode: Mode, out: &mut [f64]) -> u64 {
+        match mode {
+            Mode::Refusing => tasulogi_eval_surface(&self.table, self.u, self.v, out),
+            Mode::Clamping => tasulogi_eval_surface_clamped(&self.table, self.u, self.v, out),
+        }
     }
 
     /// Validity, 31, 22, 30, 23, then what is formed.

@@ -2,6 +2,7 @@
 use super::calls::{CurveCase, Order, SurfaceCase};
 use crate::modules::listed::{self, Choice, Listed, word};
 use crate::rng::Rng;
+use crate::tables::domain::Mode;
 use std::io::{Result, Write};
 
 fn curve(r: &mut Rng) -> Option<(CurveCase, Vec<u64>)> {
@@ -16,16 +17,16 @@ fn surface(r: &mut Rng) -> Option<(SurfaceCase, Vec<u64>)> {
     Some((case, words))
 }
 
-fn point(r: &mut Rng, order: Order) -> Option<Listed> {
+fn point(r: &mut Rng, order: Order, mode: Mode) -> Option<Listed> {
     let (case, mut words) = curve(r)?;
     words.push(word(case.t));
-    Some(Listed::answered(words, case.rust_point(order), 0))
+    Some(Listed::answered(words, case.rust_point(order, mode), 0))
 }
 
-fn surface_point(r: &mut Rng) -> Option<Listed> {
+fn surface_point(r: &mut Rng, mode: Mode) -> Option<Listed> {
     let (case, mut words) = surface(r)?;
     words.extend([word(case.u), word(case.v)]);
-    Some(Listed::answered(words, case.rust_point(), 0))
+    Some(Listed::answered(words, case.rust_point(mode), 0))
 }
 
 fn reversed(r: &mut Rng) -> Option<Listed> {
@@ -44,10 +45,13 @@ fn iso_curve(r: &mut Rng) -> Option<Listed> {
 }
 
 pub fn write(stdin: &mut dyn Write, stdout: &mut dyn Write) -> Result<()> {
-    let calls: [(&str, fn(&mut Rng) -> Option<Listed>); 5] = [
-        ("eval", |r| point(r, Order::One)),
-        ("eval2", |r| point(r, Order::Two)),
-        ("eval_surface", surface_point),
+    let calls: [(&str, fn(&mut Rng) -> Option<Listed>); 8] = [
+        ("eval", |r| point(r, Order::One, Mode::Refusing)),
+        ("eval_clamped", |r| point(r, Order::One, Mode::Clamping)),
+        ("eval2", |r| point(r, Order::Two, Mode::Refusing)),
+        ("eval2_clamped", |r| point(r, Order::Two, Mode::Clamping)),
+        ("eval_surface", |r| surface_point(r, Mode::Refusing)),
+        ("surface_clamped", |r| surface_point(r, Mode::Clamping)),
         ("reversed", reversed),
         ("iso_curve", iso_curve),
     ];

@@ -5,6 +5,7 @@ use crate::modules::timed::{Times, clamped, time};
 use crate::rng::Rng;
 use crate::steps::tasulogi_step_span_of;
 use crate::tables::Curve;
+use crate::tables::domain::Mode;
 use oracle::{BCurve, Point3, find_span};
 use std::hint::black_box;
 
@@ -16,8 +17,8 @@ fn spans(rounds: u32, c: &Curve, us: &[f64]) -> [Times; 2] {
     let sizes = [("degree", DEGREE), ("points", k.count)];
     let few = if k.count > 10_000 { &us[..16] } else { us };
     let alone = time(rounds, us, |&u| find_span(k.count - 1, DEGREE, u, k.knots) as f64);
-    let full = time(rounds, few, |&u| span(&k, u).map_or(0.0, |s| s as f64));
-    let ours = time(rounds, few, |&u| our_span(&k, u) as f64);
+    let full = time(rounds, few, |&u| span(&k, u, Mode::Refusing).map_or(0.0, |s| s as f64));
+    let ours = time(rounds, few, |&u| our_span(&k, u, Mode::Refusing) as f64);
     let (at, n) = (c.knots.as_ptr(), c.knots.len());
     let search = time(rounds, us, |&u| unsafe { tasulogi_step_span_of(DEGREE, k.count, u, at, n) } as f64);
     [Times::new("find_span", &sizes, ours, alone, Some(full)), Times::new("span_of", &sizes, search, alone, None)]

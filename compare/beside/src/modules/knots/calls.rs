@@ -1,5 +1,6 @@
 //! The calls of the module: what the Rust answers, or a rule of the comparison's own where the Rust has no such call.
 use crate::face::*;
+use crate::tables::domain::{Domain, Mode};
 use crate::tables::{Curve, LIMIT, Refused};
 use oracle::{BCurve, ParamRange, Point3, find_span, knot_spans, refusal};
 
@@ -10,8 +11,19 @@ pub struct Run<'a> {
     pub knots: &'a [f64],
 }
 
-pub fn our_span(k: &Run, u: f64) -> u64 {
-    unsafe { tasulogi_find_span(k.degree, k.count, k.knots.as_ptr(), k.knots.len(), u) }
+impl Run<'_> {
+    /// Of knots that are valid.
+    pub fn domain(&self) -> Domain {
+        Domain::of(self.degree, self.count, self.knots)
+    }
+}
+
+pub fn our_span(k: &Run, u: f64, mode: Mode) -> u64 {
+    let call = match mode {
+        Mode::Refusing => tasulogi_find_span,
+        Mode::Clamping => tasulogi_find_span_clamped,
+    };
+    unsafe { call(k.degree, k.count, k.knots.as_ptr(), k.knots.len(), u) }
 }
 
 pub fn our_next(k: &Run, from: usize) -> usize {
@@ -48,13 +60,16 @@ pub fn clamp(k: &Run, u: f64) -> f64 {
     }
 }
 
-/// The Rust's span, of the nearer end where u lies outside; 30 and 12 are ours.
-pub fn span(k: &Run, u: f64) -> Result<usize, Refused> {
+/// The Rust's span, of the nearer end where u lies outside and the mode clamps; 30, 12 and 43 are ours.
+pub fn span(k: &Run, u: f64, mode: Mode) -> Result<usize, Refused> {
     if k.knots.len() > LIMIT {
         return Err(Refused::unplaced(30));
     }
     knot_refusal(k)?;
-    if u.is_finite() { Ok(find_span(k.count - 1, k.degree, clamp(k, u), k.knots)) } else { Err(Refused::unplaced(12)) }
+    match mode.refusal(k.domain(), u) {
+        Some(number) => Err(Refused::unplaced(number)),
+        None => Ok(find_span(k.count - 1, k.degree, clamp(k, u), k.knots)),
+    }
 }
 
 /// The first nonempty span from a place on, by the definition.

@@ -1,10 +1,11 @@
 //! The part of the replayed list on validation, spans and classes.
 use super::calls::{Run, clamp, next, span};
-use crate::modules::answered::Wanted;
+use crate::modules::answered::{Wanted, class_number};
 use crate::modules::listed::{self, Choice, Listed, word};
 use crate::rng::Rng;
 use crate::tables::Refused;
 use crate::tables::at;
+use crate::tables::domain::Mode;
 use crate::tables::make::{self, Care};
 use std::io::{Result, Write};
 
@@ -21,6 +22,16 @@ fn on_knots(r: &mut Rng, answer: impl Fn(&mut Rng, &Run, &mut Vec<u64>) -> Refus
     (c.knots.len() <= 512).then_some(Listed { words, answer })
 }
 
+fn spanned(r: &mut Rng, mode: Mode) -> Option<Listed> {
+    on_knots(r, |r, k, words| {
+        let u = at::of_domain(r, k.degree, k.count, k.knots);
+        let answer = span(k, u, mode);
+        let r = answer.err().unwrap_or_default();
+        words.extend([word(u), r.number as u64, answer.unwrap_or(r.place as usize) as u64]);
+        r
+    })
+}
+
 fn case(r: &mut Rng, call: &str) -> Option<Listed> {
     match call {
         "curve_refusal" => {
@@ -33,13 +44,8 @@ fn case(r: &mut Rng, call: &str) -> Option<Listed> {
             let words = listed::surface(&s)?;
             Some(Listed::answered(words, Wanted::Refused(s.rust().err().unwrap_or_default()), 0))
         }
-        "find_span" => on_knots(r, |r, k, words| {
-            let u = at::parameter(r, k.knots);
-            let answer = span(k, u);
-            let r = answer.err().unwrap_or_default();
-            words.extend([word(u), r.number as u64, answer.unwrap_or(r.place as usize) as u64]);
-            r
-        }),
+        "find_span" => spanned(r, Mode::Refusing),
+        "span_clamped" => spanned(r, Mode::Clamping),
         "next_span" => on_knots(r, |r, k, words| {
             let from = r.below(k.knots.len() as u64 + 2) as usize;
             let answer = next(k, from);
@@ -47,7 +53,7 @@ fn case(r: &mut Rng, call: &str) -> Option<Listed> {
             Refused::unplaced(answer.is_none() as u32)
         }),
         _ => on_knots(r, |r, k, words| {
-            let u = at::parameter(r, k.knots);
+            let u = at::of_domain(r, k.degree, k.count, k.knots);
             let answer = clamp(k, u);
             words.extend([word(u), word(answer)]);
             Refused::unplaced(if answer > u { 1 } else { 2 * (answer < u) as u32 })
@@ -56,16 +62,19 @@ fn case(r: &mut Rng, call: &str) -> Option<Listed> {
 }
 
 pub fn write(stdin: &mut dyn Write, stdout: &mut dyn Write) -> Result<()> {
-    let calls = [("curve_refusal", 16), ("surface_refusal", 9), ("find_span", 16), ("next_span", 80), ("clamp", 60)];
+    let calls = [
+        ("curve_refusal", 16),
+        ("surface_refusal", 9),
+        ("find_span", 16),
+        ("span_clamped", 16),
+        ("next_span", 80),
+        ("clamp", 60),
+    ];
     for (stream, (call, each)) in calls.into_iter().enumerate() {
         let choice = Choice { stream: stream as u64, tried: 200_000, cases: 240, each };
         listed::write(stdin, stdout, call, &choice.of(|r| case(r, call)))?;
     }
-    let classes: Vec<Listed> = (0..40u32)
-        .map(|n| {
-            let class = if (1..=33).contains(&n) { "IDUCN".find(oracle::class_of(n)).expect("a class") as u64 } else { 5 };
-            Listed { words: vec![n as u64, class], answer: Refused::default() }
-        })
-        .collect();
+    let classed = |n| Listed { words: vec![n as u64, class_number(n) as u64], answer: Refused::default() };
+    let classes: Vec<Listed> = (0..60).map(classed).collect();
     listed::write(stdin, stdout, "class_of", &classes)
 }
