@@ -1,15 +1,15 @@
 -- The answers of `eval_at`, `eval`, `eval2_at`, `eval2`.
 -- Assumes nothing.
 use Prim.Native.Nat.{ℕ, _+_, _-_, _≤_}
-use mathlib.Core.Bool.{Bool, true, false, cond}
+use mathlib.Core.Bool.{Bool, true, false}
 use mathlib.Core.Path.{_≡_, sym, _∙_, ap, ap₂}
 use mathlib.Core.List.{List}
 use native.Mathlib.Omega.{arith}
 use lib.Ieee.{Float}
 use borrow.Author.Tests.{eq-eqb}
 use Rattle.exact.specs.Scheme.{dersOf}
-use Rattle.knots.specs.Refusal.{refuse, second-not-finite, parameter-outside}
-use Rattle.knots.specs.Span.{outside, refusing, clamping, domainRefusal, searched}
+use Rattle.knots.specs.Refusal.{refuse, parameter-outside}
+use Rattle.knots.specs.Span.{outside, refusing, clamping, domainRefusal}
 use Rattle.knots.specs.Curve.{countOf, curveRefusal}
 use Rattle.knots.specs.Shape.{degreeRefusal}
 use Rattle.knots.specs.declared.refusal.Refusal.{Refusal}
@@ -21,16 +21,17 @@ use Rattle.basis.specs.Ders.{basisTable}
 use Rattle.basis.proofs.Whole.{Reach, basis-at}
 use Rattle.evaluate.specs.Controls.{scaleOf, rowSums}
 use Rattle.runs.specs.Point.{pointOf}
-use Rattle.evaluate.specs.Curve.{quotient, activeSums, curveOf, looked, parameterRefusal, stepRefusal, evalRefusal, evalAtOf, evalOf}
-use Rattle.evaluate.specs.Curve2.{quotient2, curve2Of, finite2, eval2AtOf, eval2Of}
+use Rattle.evaluate.specs.Curve.{quotient, activeSums, curveOf, foundOf, looked, parameterRefusal, stepRefusal, evalRefusal, evalAtOf, evalOf}
+use Rattle.evaluate.specs.Curve2.{quotient2, curve2Of, told2, found2Of, eval2AtOf, eval2Of}
 use Rattle.runs.specs.declared.vector.Vector.{Vector}
 use Rattle.evaluate.specs.declared.sums.Sums.{Sums}
 use Rattle.evaluate.specs.declared.curve.CurveDerivs.{CurveDerivs}
 use Rattle.evaluate.specs.declared.curve.CurveAnswer.the-variants.{At, Refused}
 use Rattle.evaluate.specs.declared.curve2.CurveDerivs2.{CurveDerivs2}
+use Rattle.evaluate.specs.declared.curve2.CurveAnswer2.{CurveAnswer2}
 use Rattle.evaluate.specs.declared.curve2.CurveAnswer2.the-variants as two
 use Rattle.evaluate.proofs.Summed.{row-cong}
-use Rattle.evaluate.proofs.Steps.{EvalOpen, eval-open, step-none, open-span}
+use Rattle.evaluate.proofs.Steps.{open-span}
 
 -- ---- the sums over a row of the table are the sums over the derivatives
 module _ (p n : ℕ) (ks ps : List Float) (g : Bool) (ws : List Float) (s : ℕ) (v : Float) (R : Reach 195 p n ks s) (ders : List Float)
@@ -76,34 +77,28 @@ module _ (c : Bool) (p : ℕ) (ks ps : List Float) (g : Bool) (ws : List Float) 
     unfolding eval2Of
     eval2-refused e = simp (stop e h) (ap two.Refused e)
 
-  module _ (r : Refusal) (e : r ≡ stepRefusal c p ks ps g ws t) (h : r .number ≡ 0) (s : ℕ) (v : Float) (S : s ≡ searched p (countOf ps) ks (looked p ks ps t)) (L : v ≡ looked p ks ps t) where
-    pub at-answered : (d : CurveDerivs) → d ≡ curveOf p ks ps g ws s v → At d ≡ evalAtOf c p ks ps g ws t
+  -- what was found where nothing is refused is the step's answer
+  module _ (r : Refusal) (e : r ≡ stepRefusal c p ks ps g ws t) (h : r .number ≡ 0) where
+    pub at-answered : (d : CurveDerivs) → d ≡ foundOf p ks ps g ws t → At d ≡ evalAtOf c p ks ps g ws t
     unfolding evalAtOf
-    at-answered d D = simp (skip e h) (ap At (D ∙ ap₂ (curveOf p ks ps g ws) S L))
+    at-answered d D = simp (skip e h) (ap At D)
 
-    module _ (d : CurveDerivs2) (D : d ≡ curve2Of p ks ps g ws s v) where
-      at2-is : cond (finite2 d) (two.At d) (two.Refused (refuse second-not-finite)) ≡ eval2AtOf c p ks ps g ws t
-      unfolding eval2AtOf
-      at2-is = simp (skip e h) (ap (λ (x : CurveDerivs2). cond (finite2 x) (two.At x) (two.Refused (refuse second-not-finite))) (D ∙ ap₂ (curve2Of p ks ps g ws) S L))
+    pub at2-answered : (a : CurveAnswer2) → a ≡ told2 (found2Of p ks ps g ws t) → a ≡ eval2AtOf c p ks ps g ws t
+    unfolding eval2AtOf
+    at2-answered a D = simp (skip e h) D
 
-      pub at2-answered : finite2 d ≡ true → two.At d ≡ eval2AtOf c p ks ps g ws t
-      at2-answered f = ap (λ (b : Bool). cond b (two.At d) (two.Refused (refuse second-not-finite))) (sym f) ∙ at2-is
-
-      pub at2-degenerate : finite2 d ≡ false → two.Refused (refuse second-not-finite) ≡ eval2AtOf c p ks ps g ws t
-      at2-degenerate f = ap (λ (b : Bool). cond b (two.At d) (two.Refused (refuse second-not-finite))) (sym f) ∙ at2-is
-
-  -- on a curve that is not refused the step answers what the evaluation answers
+  -- and the evaluation's
   module _ (r : Refusal) (e : r ≡ evalRefusal c p ks ps g ws t) (h : r .number ≡ 0) where
-    opened : EvalOpen c p ks ps g ws t
-    opened = eval-open c p ks ps g ws t (sym (ap (λ (x : Refusal). x .number) e) ∙ h)
+    none : evalRefusal c p ks ps g ws t .number ≡ 0
+    none = sym (ap (λ (x : Refusal). x .number) e) ∙ h
 
-    pub eval-answered : evalAtOf c p ks ps g ws t ≡ evalOf c p ks ps g ws t
-    unfolding evalAtOf evalOf
-    eval-answered = simp (skip e h, step-none c p ks ps g ws t opened, open-span c p ks ps g ws t opened)
+    pub eval-answered : (d : CurveDerivs) → d ≡ foundOf p ks ps g ws t → At d ≡ evalOf c p ks ps g ws t
+    unfolding evalOf foundOf
+    eval-answered d D = simp (skip e h) (ap At (D ∙ ap (λ (s : ℕ). curveOf p ks ps g ws s (looked p ks ps t)) (open-span p ks ps g ws c t none)))
 
-    pub eval2-answered : eval2AtOf c p ks ps g ws t ≡ eval2Of c p ks ps g ws t
-    unfolding eval2AtOf eval2Of
-    eval2-answered = simp (skip e h, step-none c p ks ps g ws t opened, open-span c p ks ps g ws t opened)
+    pub eval2-answered : (a : CurveAnswer2) → a ≡ told2 (found2Of p ks ps g ws t) → a ≡ eval2Of c p ks ps g ws t
+    unfolding eval2Of found2Of
+    eval2-answered a D = simp (skip e h) (D ∙ ap (λ (s : ℕ). told2 (curve2Of p ks ps g ws s (looked p ks ps t))) (open-span p ks ps g ws c t none))
 
 -- ---- where the parameter is not outside the domain, both modes answer alike
 module _ (p : ℕ) (ks ps : List Float) (g : Bool) (ws : List Float) (t : Float) (i : outside p (countOf ps) ks t ≡ false) where
@@ -115,11 +110,19 @@ module _ (p : ℕ) (ks ps : List Float) (g : Bool) (ws : List Float) (t : Float)
   unfolding eval2Of evalRefusal parameterRefusal
   eval2-inside-same = simp (modes-same p (countOf ps) ks t i)
 
--- where it is, and the clamped call is not refused, the other is refused by 43: so are eval and eval2
-pub eval-outside : (p : ℕ) (ks ps : List Float) (g : Bool) (ws : List Float) (t : Float) → evalRefusal clamping p ks ps g ws t .number ≡ 0
-    → outside p (countOf ps) ks t ≡ true → evalRefusal refusing p ks ps g ws t ≡ refuse parameter-outside
-unfolding evalRefusal parameterRefusal
-eval-outside p ks ps g ws t h o =
-    let a = orElse-none (curveRefusal p ks ps g ws) _ h in
-    let b = orElse-none (degreeRefusal p) (domainRefusal clamping p (countOf ps) ks t) (a .1) in
-    simp (eq-eqb (curveRefusal p ks ps g ws .number) 0 (a .0), eq-eqb (degreeRefusal p .number) 0 (b .0)) (outside-refused p (countOf ps) ks t (b .1) o)
+-- ---- where it is, and the clamped call is not refused, the other is refused by 43
+module _ (p : ℕ) (ks ps : List Float) (g : Bool) (ws : List Float) (t : Float) (h : evalRefusal clamping p ks ps g ws t .number ≡ 0) (o : outside p (countOf ps) ks t ≡ true) where
+  refused-43 : evalRefusal refusing p ks ps g ws t ≡ refuse parameter-outside
+  unfolding evalRefusal parameterRefusal
+  refused-43 =
+      let a = orElse-none (curveRefusal p ks ps g ws) _ h in
+      let b = orElse-none (degreeRefusal p) (domainRefusal clamping p (countOf ps) ks t) (a .1) in
+      simp (eq-eqb (curveRefusal p ks ps g ws .number) 0 (a .0), eq-eqb (degreeRefusal p .number) 0 (b .0)) (outside-refused p (countOf ps) ks t (b .1) o)
+
+  pub eval-outside : evalOf refusing p ks ps g ws t ≡ Refused (refuse parameter-outside)
+  unfolding evalOf
+  eval-outside = simp refused-43
+
+  pub eval2-outside : eval2Of refusing p ks ps g ws t ≡ two.Refused (refuse parameter-outside)
+  unfolding eval2Of
+  eval2-outside = simp refused-43

@@ -2,22 +2,22 @@
 -- Assumes nothing.
 use Prim.Native.Nat.{ℕ, _+_, _*_, _≤_, _<_}
 use mathlib.Core.Bool.{Bool, true}
-use mathlib.Core.Path.{_≡_}
+use mathlib.Core.Path.{_≡_, ap}
 use mathlib.Core.List.{List}
 use native.Mathlib.Omega.{arith}
 use lib.ListN.{length}
 use lib.Ieee.{Float}
 use lib.Ieee.Scale.{finite}
-use Rattle.knots.specs.Refusal.{accepted}
+use Rattle.knots.specs.declared.refusal.Refusal.{Refusal}
 use Rattle.knots.specs.Curve.{countOf, curveRefusal, ValidCurve}
 use Rattle.knots.specs.Span.{searched, spanOf, domainRefusal}
 use Rattle.knots.proofs.Refusals.{orElse-none}
 use Rattle.knots.proofs.Curves.{valid-curve}
 use Rattle.knots.specs.Shape.{degreeRefusal, curveShape}
-use Rattle.knots.proofs.Shapes.{degree-open, degree-none, Fitting, Shaped, shaped, shape-none}
+use Rattle.knots.proofs.Shapes.{degree-open, Fitting, Shaped, shape-none}
 use Rattle.evaluate.specs.Curve.{parameterRefusal, stepRefusal, evalRefusal, looked}
 use Rattle.knots.proofs.Searches.{searched-in, searched-is}
-use Rattle.knots.proofs.Answers.{domain-open, domain-none}
+use Rattle.knots.proofs.Answers.{domain-open}
 
 module _ (p n : ℕ) (ks : List Float) where
   -- where the search ends, whatever the knots are
@@ -39,48 +39,41 @@ module _ (c : Bool) (p n : ℕ) (ks : List Float) (t : Float) where
   unfolding parameterRefusal
   parameter-open h = let a = orElse-none (degreeRefusal p) (domainRefusal c p n ks t) h in (degree-open p (a .0), domain-open p n ks t c (a .1) .0)
 
-  pub parameter-none : parameterRefusal c p n ks t .number ≡ 0 → parameterRefusal c p n ks t ≡ accepted
-  unfolding parameterRefusal
-  parameter-none h =
-      let a = orElse-none (degreeRefusal p) (domainRefusal c p n ks t) h in
-      simp (degree-none p (degree-open p (a .0))) (domain-none p n ks t c (a .1))
+module _ (p : ℕ) (ks ps : List Float) (g : Bool) (ws : List Float) where
+  -- what is asked of runs that fit each other
+  abbrev Fits : Type 0
+  Fits = (p ≤ 64) × (curveShape p ks ps g ws .number ≡ 0)
 
-module _ (c : Bool) (p : ℕ) (ks ps : List Float) (g : Bool) (ws : List Float) (t : Float) where
-  pub record StepOpen : Type 0 where
-    pub shape : Shaped p ks ps g ws
-    pub high : p ≤ 64
+  -- what is read then lies in the runs
+  module _ (o : Shaped p ks ps g ws) (s : ℕ) (f : Found p (countOf ps) ks s) where
+    pub points-reach : s * 3 + 2 < length ps
+    points-reach = let l = o .triples in let b = f .below in omega arith
 
-  pub step-open : stepRefusal c p ks ps g ws t .number ≡ 0 → StepOpen
-  unfolding stepRefusal
-  step-open h =
-      let a = orElse-none (curveShape p ks ps g ws) (parameterRefusal c p (countOf ps) ks t) h in
-      record { shape = shaped p ks ps g ws (a .0); high = parameter-open c p (countOf ps) ks t (a .1) .0 }
+    pub weights-reach : g ≡ true → s < length ws
+    weights-reach e = let l = o .weights e in let b = f .below in omega arith
 
-  -- what the step reads lies in the runs
-  pub points-reach : (o : StepOpen) (s : ℕ) → Found p (countOf ps) ks s → s * 3 + 2 < length ps
-  points-reach o s f = let l = o .shape .triples in let b = f .below in omega arith
+  module _ (c : Bool) (t : Float) where
+    pub step-fits : stepRefusal c p ks ps g ws t .number ≡ 0 → Fits
+    unfolding stepRefusal
+    step-fits h =
+        let a = orElse-none (curveShape p ks ps g ws) (parameterRefusal c p (countOf ps) ks t) h in
+        (parameter-open c p (countOf ps) ks t (a .1) .0, a .0)
 
-  pub weights-reach : (o : StepOpen) (s : ℕ) → Found p (countOf ps) ks s → g ≡ true → s < length ws
-  weights-reach o s f e = let l = o .shape .weights e in let b = f .below in omega arith
+    pub record EvalOpen : Type 0 where
+      pub curve : ValidCurve p ks ps g ws
+      pub high : p ≤ 64
+      pub parameter : finite t ≡ true
 
-  pub record EvalOpen : Type 0 where
-    pub curve : ValidCurve p ks ps g ws
-    pub parameter : finite t ≡ true
-    pub none : parameterRefusal c p (countOf ps) ks t ≡ accepted
+    pub eval-open : evalRefusal c p ks ps g ws t .number ≡ 0 → EvalOpen
+    unfolding evalRefusal
+    eval-open h =
+        let a = orElse-none (curveRefusal p ks ps g ws) (parameterRefusal c p (countOf ps) ks t) h in
+        let b = parameter-open c p (countOf ps) ks t (a .1) in
+        record { curve = valid-curve p ks ps g ws (a .0); high = b .0; parameter = b .1 }
 
-  pub eval-open : evalRefusal c p ks ps g ws t .number ≡ 0 → EvalOpen
-  unfolding evalRefusal
-  eval-open h =
-      let a = orElse-none (curveRefusal p ks ps g ws) (parameterRefusal c p (countOf ps) ks t) h in
-      record {
-        curve = valid-curve p ks ps g ws (a .0);
-        parameter = parameter-open c p (countOf ps) ks t (a .1) .1;
-        none = parameter-none c p (countOf ps) ks t (a .1);
-      }
+    pub eval-fits : evalRefusal c p ks ps g ws t .number ≡ 0 → Fits
+    eval-fits h = let o = eval-open h in (o .high, ap (λ (r : Refusal). r .number) (shape-none p ks ps g ws (o .curve)))
 
-  pub step-none : EvalOpen → stepRefusal c p ks ps g ws t ≡ accepted
-  unfolding stepRefusal
-  step-none o = simp (shape-none p ks ps g ws (o .curve)) (o .none)
-
-  pub open-span : EvalOpen → searched p (countOf ps) ks (looked p ks ps t) ≡ spanOf p (countOf ps) ks (looked p ks ps t)
-  open-span o = searched-is p (countOf ps) ks t (o .curve .knots) (o .parameter)
+    -- the search has found the span
+    pub open-span : evalRefusal c p ks ps g ws t .number ≡ 0 → searched p (countOf ps) ks (looked p ks ps t) ≡ spanOf p (countOf ps) ks (looked p ks ps t)
+    open-span h = let o = eval-open h in searched-is p (countOf ps) ks t (o .curve .knots) (o .parameter)

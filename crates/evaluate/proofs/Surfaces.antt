@@ -13,7 +13,7 @@ use borrow.Author.Tests.{eqb-true, eq-eqb, not-false}
 use Rattle.exact.specs.Scheme.{dersOf}
 use Rattle.knots.specs.Refusal.{refuse, accepted, along, orElse, net-size, points-uneven, parameter-outside}
 use Rattle.knots.specs.Curve.{countOf}
-use Rattle.knots.specs.Span.{outside, clamped, refusing, clamping, domainRefusal, searched}
+use Rattle.knots.specs.Span.{outside, clamped, refusing, clamping, domainRefusal}
 use Rattle.knots.specs.Surface.{surfaceRefusal, ValidSurface}
 use Rattle.knots.specs.declared.refusal.Refusal.{Refusal}
 use Rattle.knots.proofs.Refusals.{passed, orElse-none, stop, skip}
@@ -24,7 +24,7 @@ use Rattle.basis.specs.Ders.{basisTable}
 use Rattle.basis.proofs.Whole.{Reach, basis-at}
 use Rattle.knots.specs.Shape.{degreeRefusal, weightShape, knotShape, surfaceShape}
 use Rattle.runs.specs.Point.{pointOf}
-use Rattle.evaluate.specs.Surface.{NetReach, netScale, netSums, surfaceQuotient, activeNet, surfaceOf, degreesRefusal, parametersRefusal, surfaceStepRefusal}
+use Rattle.evaluate.specs.Surface.{NetReach, netScale, netSums, surfaceQuotient, activeNet, surfaceOf, surfaceFound, degreesRefusal, parametersRefusal, surfaceStepRefusal}
 use Rattle.evaluate.specs.Surface.{surfaceEvalRefusal, surfaceAtOf, evalSurfaceOf}
 use Rattle.runs.specs.declared.vector.Vector.{Vector}
 use Rattle.evaluate.specs.declared.sums.Sums.{Sums}
@@ -32,7 +32,7 @@ use Rattle.evaluate.specs.declared.surface.SurfaceDerivs.{SurfaceDerivs}
 use Rattle.evaluate.specs.declared.surface.SurfaceAnswer.the-variants.{At, Refused}
 use Rattle.knots.proofs.Searches.{searched-is}
 use Rattle.knots.proofs.Answers.{domain-open, domain-none, modes-same, outside-refused}
-use Rattle.knots.proofs.Shapes.{degree-open, degree-none, weights-open, weights-none, Fitting, knots-open, knots-none}
+use Rattle.knots.proofs.Shapes.{degree-open, weights-open, weights-none, Fitting, knots-open, knots-none}
 use Rattle.evaluate.proofs.Steps.{Found}
 use Rattle.evaluate.proofs.Nets.{net-place, net-cong}
 
@@ -81,10 +81,6 @@ module _ (c : Bool) (p q : ℕ) (us vs : List Float) (m n : ℕ) (u v : Float) w
       let d = orElse-none (domainRefusal c p m us u) (domainRefusal c q n vs v) (a .1) in
       record { u-high = b .0; v-high = b .1; u-open = d .0; v-open = d .1 }
 
-  parameters-none : ParametersOpen → parametersRefusal c p q us vs m n u v ≡ accepted
-  unfolding parametersRefusal degreesRefusal
-  parameters-none o = simp (degree-none p (o .u-high), degree-none q (o .v-high), domain-none p m us u c (o .u-open), domain-none q n vs v c (o .v-open))
-
 module _ (p q : ℕ) (us vs : List Float) (m n : ℕ) (ps : List Float) (g : Bool) (ws : List Float) where
   pub record SurfaceShaped : Type 0 where
     pub size : countOf ps ≡ m * n
@@ -122,35 +118,49 @@ module _ (p q : ℕ) (us vs : List Float) (m n : ℕ) (ps : List Float) (g : Boo
         weights-none (countOf ps) g ws (λ e. s .controls .weights e ∙ sym (size-is s)),
       )
 
-  module _ (c : Bool) (u v : Float) where
-    pub record SurfaceStepOpen : Type 0 where
-      pub shape : SurfaceShaped
-      pub u-high : p ≤ 64
-      pub v-high : q ≤ 64
+  -- what is asked of runs that fit each other
+  abbrev SurfaceFits : Type 0
+  SurfaceFits = (p ≤ 64) × ((q ≤ 64) × (surfaceShape p q us vs m n ps g ws .number ≡ 0))
 
-    pub surface-step-open : surfaceStepRefusal c p q us vs m n ps g ws u v .number ≡ 0 → SurfaceStepOpen
+  -- what is read then lies in the net
+  module _ (o : SurfaceShaped) (s t : ℕ) (S : Found p m us s) (T : Found q n vs t) where
+    net-reach : NetReach (m * n) n (s - p) p (t - q) q
+    net-reach k K =
+        let B = S .below in
+        let C = T .below in
+        let F = S .from in
+        let G = T .from in
+        let h = net-place m n (s - p + k) t (omega arith) (omega arith) in
+        omega arith
+
+    pub points-net : NetReach (length ps / 3) n (s - p) p (t - q) q
+    points-net = subst (λ (l : ℕ). NetReach l n (s - p) p (t - q) q) (sym (o .size)) net-reach
+
+    pub weights-net : g ≡ true → NetReach (length ws) n (s - p) p (t - q) q
+    weights-net e = subst (λ (l : ℕ). NetReach l n (s - p) p (t - q) q) (sym (o .weights e)) net-reach
+
+  module _ (c : Bool) (u v : Float) where
+    pub surface-step-fits : surfaceStepRefusal c p q us vs m n ps g ws u v .number ≡ 0 → SurfaceFits
     unfolding surfaceStepRefusal
-    surface-step-open h =
+    surface-step-fits h =
         let a = orElse-none (surfaceShape p q us vs m n ps g ws) (parametersRefusal c p q us vs m n u v) h in
         let b = parameters-open c p q us vs m n u v (a .1) in
-        record { shape = surface-shaped (a .0); u-high = b .u-high; v-high = b .v-high }
+        (b .u-high, (b .v-high, a .0))
 
-    -- what the step reads lies in the net
-    module _ (o : SurfaceStepOpen) (s t : ℕ) (S : Found p m us s) (T : Found q n vs t) where
-      net-reach : NetReach (m * n) n (s - p) p (t - q) q
-      net-reach k K =
-          let B = S .below in
-          let C = T .below in
-          let F = S .from in
-          let G = T .from in
-          let h = net-place m n (s - p + k) t (omega arith) (omega arith) in
-          omega arith
+    record SurfaceOpen : Type 0 where
+      surface : ValidSurface p q us vs m n ps g ws
+      parameters : ParametersOpen c p q us vs m n u v
 
-      pub points-net : NetReach (length ps / 3) n (s - p) p (t - q) q
-      points-net = subst (λ (l : ℕ). NetReach l n (s - p) p (t - q) q) (sym (o .shape .size)) net-reach
+    surface-open : surfaceEvalRefusal c p q us vs m n ps g ws u v .number ≡ 0 → SurfaceOpen
+    unfolding surfaceEvalRefusal
+    surface-open h =
+        let a = orElse-none (surfaceRefusal p q us vs m n ps g ws) (parametersRefusal c p q us vs m n u v) h in
+        record { surface = valid-surface p q us vs m n ps g ws (a .0); parameters = parameters-open c p q us vs m n u v (a .1) }
 
-      pub weights-net : g ≡ true → NetReach (length ws) n (s - p) p (t - q) q
-      weights-net e = subst (λ (l : ℕ). NetReach l n (s - p) p (t - q) q) (sym (o .shape .weights e)) net-reach
+    pub surface-eval-fits : surfaceEvalRefusal c p q us vs m n ps g ws u v .number ≡ 0 → SurfaceFits
+    surface-eval-fits h =
+        let o = surface-open h in
+        (o .parameters .u-high, (o .parameters .v-high, ap (λ (r : Refusal). r .number) (surface-shape-none (o .surface))))
 
     -- ---- the answers
     module _ (r : Refusal) (h : r .number ≡ 0 → ⊥) where
@@ -162,34 +172,19 @@ module _ (p q : ℕ) (us vs : List Float) (m n : ℕ) (ps : List Float) (g : Boo
       unfolding evalSurfaceOf
       surface-refused e = simp (stop e h) (ap Refused e)
 
-    pub surface-at-answered : (r : Refusal) → r ≡ surfaceStepRefusal c p q us vs m n ps g ws u v → r .number ≡ 0 → (s t : ℕ) (x y : Float)
-        → s ≡ searched p m us (clamped p m us u) → x ≡ clamped p m us u → t ≡ searched q n vs (clamped q n vs v) → y ≡ clamped q n vs v
-        → (d : SurfaceDerivs) → d ≡ surfaceOf p q us vs n ps g ws s t x y → At d ≡ surfaceAtOf c p q us vs m n ps g ws u v
-    unfolding surfaceAtOf
-    surface-at-answered r e h s t x y S X T Y d D =
-        simp (skip e h) (ap At (D ∙ (ap₂ (λ (i j : ℕ). surfaceOf p q us vs n ps g ws i j x y) S T
-        ∙ ap₂ (surfaceOf p q us vs n ps g ws (searched p m us (clamped p m us u)) (searched q n vs (clamped q n vs v))) X Y)))
+    -- what was found where nothing is refused is the step's answer, and the evaluation's
+    module _ (r : Refusal) (h : r .number ≡ 0) (d : SurfaceDerivs) (D : d ≡ surfaceFound p q us vs m n ps g ws u v) where
+      pub surface-at-answered : r ≡ surfaceStepRefusal c p q us vs m n ps g ws u v → At d ≡ surfaceAtOf c p q us vs m n ps g ws u v
+      unfolding surfaceAtOf
+      surface-at-answered e = simp (skip e h) (ap At D)
 
-    -- on a surface that is not refused the step answers what the evaluation answers
-    record SurfaceOpen : Type 0 where
-      surface : ValidSurface p q us vs m n ps g ws
-      parameters : ParametersOpen c p q us vs m n u v
-
-    surface-open : surfaceEvalRefusal c p q us vs m n ps g ws u v .number ≡ 0 → SurfaceOpen
-    unfolding surfaceEvalRefusal
-    surface-open h =
-        let a = orElse-none (surfaceRefusal p q us vs m n ps g ws) (parametersRefusal c p q us vs m n u v) h in
-        record { surface = valid-surface p q us vs m n ps g ws (a .0); parameters = parameters-open c p q us vs m n u v (a .1) }
-
-    surface-step-none : SurfaceOpen → surfaceStepRefusal c p q us vs m n ps g ws u v ≡ accepted
-    unfolding surfaceStepRefusal
-    surface-step-none o = simp (surface-shape-none (o .surface)) (parameters-none c p q us vs m n u v (o .parameters))
-
-    pub surface-answered : (r : Refusal) → r ≡ surfaceEvalRefusal c p q us vs m n ps g ws u v → r .number ≡ 0 → surfaceAtOf c p q us vs m n ps g ws u v ≡ evalSurfaceOf c p q us vs m n ps g ws u v
-    unfolding surfaceAtOf evalSurfaceOf
-    surface-answered r e h =
-        let o = surface-open (sym (ap (λ (x : Refusal). x .number) e) ∙ h) in
-        simp (skip e h, surface-step-none o, searched-is p m us u (o .surface .u) (domain-open p m us u c (o .parameters .u-open) .0), searched-is q n vs v (o .surface .v) (domain-open q n vs v c (o .parameters .v-open) .0))
+      pub surface-answered : r ≡ surfaceEvalRefusal c p q us vs m n ps g ws u v → At d ≡ evalSurfaceOf c p q us vs m n ps g ws u v
+      unfolding evalSurfaceOf surfaceFound
+      surface-answered e =
+          let o = surface-open (sym (ap (λ (x : Refusal). x .number) e) ∙ h) in
+          let a = searched-is p m us u (o .surface .u) (domain-open p m us u c (o .parameters .u-open) .0) in
+          let b = searched-is q n vs v (o .surface .v) (domain-open q n vs v c (o .parameters .v-open) .0) in
+          simp (skip e h) (ap At (D ∙ ap₂ (λ (i j : ℕ). surfaceOf p q us vs n ps g ws i j (clamped p m us u) (clamped q n vs v)) a b))
 
   -- ---- where neither parameter is outside the domain, both modes answer alike
   pub surface-inside-same : (u v : Float) → outside p m us u ≡ false → outside q n vs v ≡ false
@@ -198,10 +193,10 @@ module _ (p q : ℕ) (us vs : List Float) (m n : ℕ) (ps : List Float) (g : Boo
   surface-inside-same u v i j = simp (modes-same p m us u i, modes-same q n vs v j)
 
   -- where one is, and the clamped call is not refused, the other is refused by 43
-  pub surface-outside : (u v : Float) → surfaceEvalRefusal clamping p q us vs m n ps g ws u v .number ≡ 0 → (outside p m us u || outside q n vs v) ≡ true
+  refused-43 : (u v : Float) → surfaceEvalRefusal clamping p q us vs m n ps g ws u v .number ≡ 0 → (outside p m us u || outside q n vs v) ≡ true
       → surfaceEvalRefusal refusing p q us vs m n ps g ws u v ≡ refuse parameter-outside
   unfolding surfaceEvalRefusal parametersRefusal
-  surface-outside u v h o =
+  refused-43 u v h o =
       let a = orElse-none (surfaceRefusal p q us vs m n ps g ws) _ h in
       let b = orElse-none (degreesRefusal p q) _ (a .1) in
       let d = orElse-none (domainRefusal clamping p m us u) (domainRefusal clamping q n vs v) (b .1) in
@@ -211,3 +206,8 @@ module _ (p q : ℕ) (us vs : List Float) (m n : ℕ) (ps : List Float) (g : Boo
           → orElse (domainRefusal refusing p m us u) (domainRefusal refusing q n vs v) ≡ refuse parameter-outside
       go x y true e o = simp (outside-refused p m us u x e)
       go x y false e o = simp (modes-same p m us u e, domain-none p m us u clamping x) (outside-refused q n vs v y o)
+
+  pub surface-outside : (u v : Float) → surfaceEvalRefusal clamping p q us vs m n ps g ws u v .number ≡ 0 → (outside p m us u || outside q n vs v) ≡ true
+      → evalSurfaceOf refusing p q us vs m n ps g ws u v ≡ Refused (refuse parameter-outside)
+  unfolding evalSurfaceOf
+  surface-outside u v h o = simp (refused-43 u v h o)

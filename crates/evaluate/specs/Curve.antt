@@ -67,8 +67,11 @@ abbrev pub looked : ℕ → List Float → List Float → Float → Float
 looked p ks ps t = clamped p (countOf ps) ks t
 
 -- on any runs: the span is what the search finds
+unfoldable pub foundOf : ℕ → List Float → List Float → Bool → List Float → Float → CurveDerivs
+foundOf p ks ps g ws t = curveOf p ks ps g ws (searched p (countOf ps) ks (looked p ks ps t)) (looked p ks ps t)
+
 unfoldable pub evalAtOf : Bool → ℕ → List Float → List Float → Bool → List Float → Float → CurveAnswer
-evalAtOf c p ks ps g ws t = answer (stepRefusal c p ks ps g ws t) (curveOf p ks ps g ws (searched p (countOf ps) ks (looked p ks ps t)) (looked p ks ps t))
+evalAtOf c p ks ps g ws t = answer (stepRefusal c p ks ps g ws t) (foundOf p ks ps g ws t)
 
 unfoldable pub evalOf : Bool → ℕ → List Float → List Float → Bool → List Float → Float → CurveAnswer
 evalOf c p ks ps g ws t = answer (evalRefusal c p ks ps g ws t) (curveOf p ks ps g ws (spanOf p (countOf ps) ks (looked p ks ps t)) (looked p ks ps t))

@@ -44,12 +44,18 @@ unfoldable pub finite2 : CurveDerivs2 → Bool
 finite2 r = finiteVector (r .point) && (finiteVector (r .d1) && finiteVector (r .d2))
 
 -- 21 where they are not
+unfoldable pub told2 : CurveDerivs2 → CurveAnswer2
+told2 d = cond (finite2 d) (At d) (Refused (refuse second-not-finite))
+
 abbrev pub answer2 : Refusal → CurveDerivs2 → CurveAnswer2
-answer2 r d = cond (eqb (r .number) 0) (cond (finite2 d) (At d) (Refused (refuse second-not-finite))) (Refused r)
+answer2 r d = cond (eqb (r .number) 0) (told2 d) (Refused r)
 
 -- on any runs: the span is what the search finds
+unfoldable pub found2Of : ℕ → List Float → List Float → Bool → List Float → Float → CurveDerivs2
+found2Of p ks ps g ws t = curve2Of p ks ps g ws (searched p (countOf ps) ks (looked p ks ps t)) (looked p ks ps t)
+
 unfoldable pub eval2AtOf : Bool → ℕ → List Float → List Float → Bool → List Float → Float → CurveAnswer2
-eval2AtOf c p ks ps g ws t = answer2 (stepRefusal c p ks ps g ws t) (curve2Of p ks ps g ws (searched p (countOf ps) ks (looked p ks ps t)) (looked p ks ps t))
+eval2AtOf c p ks ps g ws t = answer2 (stepRefusal c p ks ps g ws t) (found2Of p ks ps g ws t)
 
 unfoldable pub eval2Of : Bool → ℕ → List Float → List Float → Bool → List Float → Float → CurveAnswer2
 eval2Of c p ks ps g ws t = answer2 (evalRefusal c p ks ps g ws t) (curve2Of p ks ps g ws (spanOf p (countOf ps) ks (looked p ks ps t)) (looked p ks ps t))

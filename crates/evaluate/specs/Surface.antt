@@ -78,12 +78,14 @@ module _ (c : Bool) (p q : ℕ) (us vs : List Float) (m n : ℕ) (ps : List Floa
 abbrev pub surfaceAnswer : Refusal → SurfaceDerivs → SurfaceAnswer
 surfaceAnswer r d = cond (eqb (r .number) 0) (At d) (Refused r)
 
+-- on any runs: the spans are what the search finds
+unfoldable pub surfaceFound : ℕ → ℕ → List Float → List Float → ℕ → ℕ → List Float → Bool → List Float → Float → Float → SurfaceDerivs
+surfaceFound p q us vs m n ps g ws u v =
+    surfaceOf p q us vs n ps g ws (searched p m us (clamped p m us u)) (searched q n vs (clamped q n vs v)) (clamped p m us u) (clamped q n vs v)
+
 module _ (c : Bool) (p q : ℕ) (us vs : List Float) (m n : ℕ) (ps : List Float) (g : Bool) (ws : List Float) (u v : Float) where
-  -- on any runs: the spans are what the search finds
   unfoldable pub surfaceAtOf : SurfaceAnswer
-  surfaceAtOf =
-      surfaceAnswer (surfaceStepRefusal c p q us vs m n ps g ws u v)
-      (surfaceOf p q us vs n ps g ws (searched p m us (clamped p m us u)) (searched q n vs (clamped q n vs v)) (clamped p m us u) (clamped q n vs v))
+  surfaceAtOf = surfaceAnswer (surfaceStepRefusal c p q us vs m n ps g ws u v) (surfaceFound p q us vs m n ps g ws u v)
 
   unfoldable pub evalSurfaceOf : SurfaceAnswer
   evalSurfaceOf =

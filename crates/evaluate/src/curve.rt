@@ -15,7 +15,8 @@ ghost use mathlib.Core.Bool.{true};
 ghost use Prim.Native.Nat.{_+_, _*_, _<_, _≤_};
 ghost use lib.ListN.{length};
 ghost use Rattle.knots.specs.Span.{refusing, clamping};
-ghost use Rattle.evaluate.specs.Curve.{quotient, curveOf, evalAtOf, evalOf};
+ghost use Rattle.knots.specs.Shape.{curveShape};
+ghost use Rattle.evaluate.specs.Curve.{quotient, curveOf, foundOf, evalAtOf, evalOf};
 
 pub struct CurveDerivs {
     pub point: Vector,
@@ -74,8 +75,27 @@ fn curve_at(
     quotient_of(o, s.value, s.slope)
 }
 
-// The point and the first derivative at t of a curve that was validated before: only lengths are tested, so that many calls validate once.
-fn eval_step(
+// The point and the first derivative at t of runs that fit each other, on the span that the search finds.
+fn found_at(
+    degree: usize,
+    knots: &[f64],
+    points: &[f64],
+    rational: bool,
+    weights: &[f64],
+    t: f64,
+) -> CurveDerivs
+    requires { ⌜ degree ≤ 64 ⌝ }
+    requires { ⌜ curveShape degree (now knots) (now points) rational (now weights) .number ≡ 0 ⌝ }
+    ensures { λ r. ⌜ r ≡ foundOf degree (now (knots .entry)) (now (points .entry)) rational (now (weights .entry)) t ⌝ }
+{
+    let count = points.len() / 3;
+    let span = span_of(degree, count, t, knots);
+    let u = clamp(degree, count, t, knots);
+    curve_at(span, u, degree, knots, points, rational, weights)
+}
+
+// The point and the first derivative at t of a curve that was validated before: only lengths, the degree, t and the domain's ends are tested, so that many calls validate once.
+pub fn eval_step(
     clamping: bool,
     degree: usize,
     knots: &[f64],
@@ -90,10 +110,7 @@ fn eval_step(
     if refusal.number != 0 {
         return CurveAnswer::Refused(refusal);
     }
-    let count = points.len() / 3;
-    let span = span_of(degree, count, t, knots);
-    let u = clamp(degree, count, t, knots);
-    CurveAnswer::At(curve_at(span, u, degree, knots, points, rational, weights))
+    CurveAnswer::At(found_at(degree, knots, points, rational, weights, t))
 }
 
 // The step of eval: a t outside the domain is refused.
@@ -108,20 +125,6 @@ pub fn eval_at(
     ensures { λ r. ⌜ r ≡ evalAtOf refusing degree (now (knots .entry)) (now (points .entry)) rational (now (weights .entry)) t ⌝ }
 {
     eval_step(false, degree, knots, points, rational, weights, t)
-}
-
-// The step of eval_clamped: a t outside the domain becomes the nearer end.
-pub fn eval_at_clamped(
-    degree: usize,
-    knots: &[f64],
-    points: &[f64],
-    rational: bool,
-    weights: &[f64],
-    t: f64,
-) -> CurveAnswer
-    ensures { λ r. ⌜ r ≡ evalAtOf clamping degree (now (knots .entry)) (now (points .entry)) rational (now (weights .entry)) t ⌝ }
-{
-    eval_step(true, degree, knots, points, rational, weights, t)
 }
 
 // The point and the first derivative of a curve at t, by either mode.
@@ -140,7 +143,7 @@ fn eval_by(
     if refusal.number != 0 {
         return CurveAnswer::Refused(refusal);
     }
-    eval_step(clamping, degree, knots, points, rational, weights, t)
+    CurveAnswer::At(found_at(degree, knots, points, rational, weights, t))
 }
 
 // The point and the first derivative of a curve at t, or a refusal: 43 where t lies outside the domain.

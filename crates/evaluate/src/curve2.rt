@@ -17,7 +17,8 @@ ghost use mathlib.Core.Bool.{true};
 ghost use Prim.Native.Nat.{_+_, _*_, _<_, _≤_};
 ghost use lib.ListN.{length};
 ghost use Rattle.knots.specs.Span.{refusing, clamping};
-ghost use Rattle.evaluate.specs.Curve2.{quotient2, curve2Of, finite2, eval2AtOf, eval2Of};
+ghost use Rattle.knots.specs.Shape.{curveShape};
+ghost use Rattle.evaluate.specs.Curve2.{quotient2, curve2Of, finite2, told2, found2Of, eval2AtOf, eval2Of};
 
 pub struct CurveDerivs2 {
     pub point: Vector,
@@ -103,8 +104,37 @@ fn finite2_of(r: CurveDerivs2) -> bool
     false
 }
 
-// The point and two derivatives at t of a curve that was validated before: only lengths are tested, so that many calls validate once.
-fn eval2_step(
+// The point and two derivatives at t of runs that fit each other, on the span that the search finds.
+fn found2_at(
+    degree: usize,
+    knots: &[f64],
+    points: &[f64],
+    rational: bool,
+    weights: &[f64],
+    t: f64,
+) -> CurveDerivs2
+    requires { ⌜ degree ≤ 64 ⌝ }
+    requires { ⌜ curveShape degree (now knots) (now points) rational (now weights) .number ≡ 0 ⌝ }
+    ensures { λ r. ⌜ r ≡ found2Of degree (now (knots .entry)) (now (points .entry)) rational (now (weights .entry)) t ⌝ }
+{
+    let count = points.len() / 3;
+    let span = span_of(degree, count, t, knots);
+    let u = clamp(degree, count, t, knots);
+    curve2_at(span, u, degree, knots, points, rational, weights)
+}
+
+// The answer of nine numbers: 21 where one is not finite.
+fn told2_of(r: CurveDerivs2) -> CurveAnswer2
+    ensures { λ a. ⌜ a ≡ told2 r ⌝ }
+{
+    if finite2_of(r) {
+        return CurveAnswer2::At(r);
+    }
+    CurveAnswer2::Refused(refuse(21))
+}
+
+// The point and two derivatives at t of a curve that was validated before: only lengths, the degree, t and the domain's ends are tested, so that many calls validate once.
+pub fn eval2_step(
     clamping: bool,
     degree: usize,
     knots: &[f64],
@@ -119,14 +149,7 @@ fn eval2_step(
     if refusal.number != 0 {
         return CurveAnswer2::Refused(refusal);
     }
-    let count = points.len() / 3;
-    let span = span_of(degree, count, t, knots);
-    let u = clamp(degree, count, t, knots);
-    let r = curve2_at(span, u, degree, knots, points, rational, weights);
-    if finite2_of(r) {
-        return CurveAnswer2::At(r);
-    }
-    CurveAnswer2::Refused(refuse(21))
+    told2_of(found2_at(degree, knots, points, rational, weights, t))
 }
 
 // The step of eval2: a t outside the domain is refused.
@@ -141,20 +164,6 @@ pub fn eval2_at(
     ensures { λ r. ⌜ r ≡ eval2AtOf refusing degree (now (knots .entry)) (now (points .entry)) rational (now (weights .entry)) t ⌝ }
 {
     eval2_step(false, degree, knots, points, rational, weights, t)
-}
-
-// The step of eval2_clamped: a t outside the domain becomes the nearer end.
-pub fn eval2_at_clamped(
-    degree: usize,
-    knots: &[f64],
-    points: &[f64],
-    rational: bool,
-    weights: &[f64],
-    t: f64,
-) -> CurveAnswer2
-    ensures { λ r. ⌜ r ≡ eval2AtOf clamping degree (now (knots .entry)) (now (points .entry)) rational (now (weights .entry)) t ⌝ }
-{
-    eval2_step(true, degree, knots, points, rational, weights, t)
 }
 
 // The point and two derivatives of a curve at t, by either mode: 21 where one of the numbers is not finite.
@@ -173,7 +182,7 @@ fn eval2_by(
     if refusal.number != 0 {
         return CurveAnswer2::Refused(refusal);
     }
-    eval2_step(clamping, degree, knots, points, rational, weights, t)
+    told2_of(found2_at(degree, knots, points, rational, weights, t))
 }
 
 // The point and two derivatives of a curve at t, or a refusal: 43 where t lies outside the domain.

@@ -130,43 +130,23 @@ pub fn surface_step_refusal(
 // The refusal of an evaluation of a surface: the surface's, 31, 12, 43.
 pub fn surface_eval_refusal(
     clamping: bool,
-    u_degree: usize,
-    v_degree: usize,
-    u_knots: &[f64],
-    v_knots: &[f64],
-    u_count: usize,
-    v_count: usize,
+    p: usize,
+    q: usize,
+    uk: &[f64],
+    vk: &[f64],
+    m: usize,
+    n: usize,
     points: &[f64],
     rational: bool,
     weights: &[f64],
     u: f64,
     v: f64,
 ) -> Refusal
-    ensures { λ r. ⌜ r ≡ surfaceEvalRefusal clamping «u_degree» «v_degree» (now («u_knots» .entry)) (now («v_knots» .entry)) «u_count» «v_count» (now (points .entry)) rational (now (weights .entry)) u v ⌝ }
+    ensures { λ r. ⌜ r ≡ surfaceEvalRefusal clamping p q (now (uk .entry)) (now (vk .entry)) m n (now (points .entry)) rational (now (weights .entry)) u v ⌝ }
 {
-    let refusal = surface_refusal(
-        u_degree,
-        v_degree,
-        u_knots,
-        v_knots,
-        u_count,
-        v_count,
-        points,
-        rational,
-        weights,
-    );
+    let refusal = surface_refusal(p, q, uk, vk, m, n, points, rational, weights);
     if refusal.number != 0 {
         return refusal;
     }
-    parameters_refusal(
-        clamping,
-        u_degree,
-        v_degree,
-        u_knots,
-        v_knots,
-        u_count,
-        v_count,
-        u,
-        v,
-    )
+    parameters_refusal(clamping, p, q, uk, vk, m, n, u, v)
 }

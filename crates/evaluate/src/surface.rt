@@ -16,7 +16,8 @@ ghost use mathlib.Core.Bool.{true};
 ghost use Prim.Native.Nat.{_+_, _-_, _*_, _/_, _<_, _≤_};
 ghost use lib.ListN.{length};
 ghost use Rattle.knots.specs.Span.{refusing, clamping};
-ghost use Rattle.evaluate.specs.Surface.{NetReach, surfaceQuotient, surfaceOf, surfaceAtOf, evalSurfaceOf};
+ghost use Rattle.knots.specs.Shape.{surfaceShape};
+ghost use Rattle.evaluate.specs.Surface.{NetReach, surfaceQuotient, surfaceOf, surfaceFound, surfaceAtOf, evalSurfaceOf};
 
 pub struct SurfaceDerivs {
     pub point: Vector,
@@ -103,8 +104,34 @@ fn surface_at(
     surface_quotient_of(o, c, d, e)
 }
 
-// The point and the first partial derivatives at u and v of a surface that was validated before: only lengths are tested.
-fn surface_step(
+// The point and the first partial derivatives at u and v of runs that fit each other, on the spans that the search finds.
+fn surface_found(
+    p: usize,
+    q: usize,
+    uk: &[f64],
+    vk: &[f64],
+    m: usize,
+    n: usize,
+    points: &[f64],
+    rational: bool,
+    weights: &[f64],
+    u: f64,
+    v: f64,
+) -> SurfaceDerivs
+    requires { ⌜ p ≤ 64 ⌝ }
+    requires { ⌜ q ≤ 64 ⌝ }
+    requires { ⌜ surfaceShape p q (now uk) (now vk) m n (now points) rational (now weights) .number ≡ 0 ⌝ }
+    ensures { λ r. ⌜ r ≡ surfaceFound p q (now (uk .entry)) (now (vk .entry)) m n (now (points .entry)) rational (now (weights .entry)) u v ⌝ }
+{
+    let s = span_of(p, m, u, uk);
+    let x = clamp(p, m, u, uk);
+    let t = span_of(q, n, v, vk);
+    let y = clamp(q, n, v, vk);
+    surface_at(s, t, x, y, p, q, uk, vk, n, points, rational, weights)
+}
+
+// The point and the first partial derivatives at u and v of a surface that was validated before: only lengths, the degrees, u, v and the domains' ends are tested.
+pub fn surface_step(
     clamping: bool,
     p: usize,
     q: usize,
@@ -137,11 +164,7 @@ fn surface_step(
     if refusal.number != 0 {
         return SurfaceAnswer::Refused(refusal);
     }
-    let s = span_of(p, m, u, uk);
-    let x = clamp(p, m, u, uk);
-    let t = span_of(q, n, v, vk);
-    let y = clamp(q, n, v, vk);
-    SurfaceAnswer::At(surface_at(s, t, x, y, p, q, uk, vk, n, points, rational, weights))
+    SurfaceAnswer::At(surface_found(p, q, uk, vk, m, n, points, rational, weights, u, v))
 }
 
 // The step of eval_surface: a parameter outside the domain is refused.
@@ -161,25 +184,6 @@ pub fn eval_surface_at(
     ensures { λ r. ⌜ r ≡ surfaceAtOf refusing p q (now (uk .entry)) (now (vk .entry)) m n (now (points .entry)) rational (now (weights .entry)) u v ⌝ }
 {
     surface_step(false, p, q, uk, vk, m, n, points, rational, weights, u, v)
-}
-
-// The step of eval_surface_clamped: a parameter outside the domain becomes the nearer end.
-pub fn eval_surface_at_clamped(
-    p: usize,
-    q: usize,
-    uk: &[f64],
-    vk: &[f64],
-    m: usize,
-    n: usize,
-    points: &[f64],
-    rational: bool,
-    weights: &[f64],
-    u: f64,
-    v: f64,
-) -> SurfaceAnswer
-    ensures { λ r. ⌜ r ≡ surfaceAtOf clamping p q (now (uk .entry)) (now (vk .entry)) m n (now (points .entry)) rational (now (weights .entry)) u v ⌝ }
-{
-    surface_step(true, p, q, uk, vk, m, n, points, rational, weights, u, v)
 }
 
 // The point and the first partial derivatives of a surface, by either mode.
@@ -216,20 +220,7 @@ fn surface_by(
     if refusal.number != 0 {
         return SurfaceAnswer::Refused(refusal);
     }
-    surface_step(
-        clamping,
-        p,
-        q,
-        uk,
-        vk,
-        m,
-        n,
-        points,
-        rational,
-        weights,
-        u,
-        v,
-    )
+    SurfaceAnswer::At(surface_found(p, q, uk, vk, m, n, points, rational, weights, u, v))
 }
 
 // The point and the first partial derivatives of a surface, or a refusal: 43 where u or v lies outside the domain.

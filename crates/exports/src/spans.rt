@@ -59,7 +59,7 @@ pub extern "C" fn tasulogi_next_span(
     }
 }
 
-// The parameter that is looked up: u, or the nearer end of the domain.
+// The clamped parameter: u, or the nearer end of the domain.
 #[no_mangle]
 pub extern "C" fn tasulogi_clamp(degree: usize, count: usize, u: f64, knots: &[f64]) -> f64
     ensures { λ r. ⌜ r ≡ clamped degree count (now (knots .entry)) u ⌝ }

@@ -1,4 +1,4 @@
--- The parameter that is looked up, and the answers of `span_of` and `find_span`: any two that the contract permits coincide.
+-- The parameter that is looked up, inside the domain and outside, and the answers of `span_of` and `find_span` in either mode: any two that the contract permits coincide.
 -- Assumes nothing.
 use Prim.Native.Nat.{ℕ, _-_, _≤_, _<_}
 use mathlib.Core.Bool.{Bool, true, false, not, cond, _&&_}

@@ -1,4 +1,4 @@
--- The span of a parameter, what the search for it finds on any knots, and the answer of `find_span`.
+-- What lies outside the domain, the span of a parameter, what the search for it finds on any knots, and the answer of `find_span`, by its mode.
 -- Assumes nothing.
 use Prim.Native.Nat.{ℕ, zero, suc, _+_, _-_, _/_, _≤_, _<_}
 use mathlib.Core.Bool.{Bool, true, false, not, cond, _&&_, _||_}
@@ -20,7 +20,7 @@ use Rattle.knots.specs.declared.span.SpanAnswer.the-variants.{Span, Refu
 unfoldable pub outside : ℕ → ℕ → List Float → Float → Bool
 outside p n ks u = lt u (at ks p) || lt (at ks n) u
 
--- the parameter that is looked up: u, or the nearer end of the domain where u lies outside it
+-- the clamped parameter, which is looked up: u, or the nearer end of the domain where u lies outside it. A call that refuses looks up u inside alone
 unfoldable pub clamped : ℕ → ℕ → List Float → Float → Float
 clamped p n ks u = cond (lt u (at ks p)) (at ks p) (cond (lt (at ks n) u) (at ks n) u)
 

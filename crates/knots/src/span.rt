@@ -16,7 +16,7 @@ pub enum SpanAnswer {
     Refused(Refusal),
 }
 
-// u lies outside the domain, as a number: an end with the other zero's sign does not. Where the run has no such knot nothing is outside.
+// u lies outside the domain, as a number: an end with the other zero's sign does not. An end that the run does not have sets no limit.
 pub fn is_outside(degree: usize, count: usize, knots: &[f64], u: f64) -> bool
     ensures { λ r. ⌜ r ≡ outside degree count (now (knots .entry)) u ⌝ }
 {
@@ -47,7 +47,7 @@ pub fn domain_refusal(clamping: bool, degree: usize, count: usize, knots: &[f64]
     refuse(0)
 }
 
-// The parameter that is looked up: u, or the nearer end of the domain where u lies outside it. A NaN stays a NaN, a zero keeps its sign.
+// The clamped parameter: u, or the nearer end of the domain where u lies outside it. A NaN stays a NaN, a zero keeps its sign.
 pub fn clamp(degree: usize, count: usize, u: f64, knots: &[f64]) -> f64
     ensures { λ r. ⌜ r ≡ clamped degree count (now (knots .entry)) u ⌝ }
 {
@@ -101,7 +101,7 @@ fn inner_span(degree: usize, count: usize, v: f64, knots: &[f64]) -> usize
     low
 }
 
-// The span of a parameter of a run that was validated before; on any other run what its search finds, and the degree where an index would leave the run.
+// The span of the clamped parameter of a run that was validated before; on any other run what its search finds, and the degree where an index would leave the run.
 pub fn span_of(degree: usize, count: usize, u: f64, knots: &[f64]) -> usize
     ensures { λ r. ⌜ SpanFound degree count (now (knots .entry)) u r ⌝ }
 {

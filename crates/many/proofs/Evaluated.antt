@@ -16,26 +16,25 @@ use Rattle.doubles.specs.Run.{at}
 use Rattle.doubles.specs.Value.{zero+}
 use Rattle.knots.specs.Span.{outside, refusing, clamping, spanOf, searched}
 use Rattle.knots.specs.Clear.{zeros}
-use Rattle.knots.specs.Refusal.{refuse, length-bad, second-not-finite}
+use Rattle.knots.specs.Refusal.{refuse, length-bad}
 use Rattle.knots.specs.Curve.{overLong, countOf, ValidCurve}
 use Rattle.knots.specs.declared.refusal.Refusal.{Refusal}
 use Rattle.knots.proofs.Refusals.{passed, orElse-none}
 use Rattle.knots.proofs.Curves.{within, curve-not-refused}
-use Rattle.evaluate.specs.Curve.{curveOf, looked, parameterRefusal, stepRefusal, evalRefusal, answer, evalAtOf, evalOf}
-use Rattle.evaluate.specs.Curve2.{curve2Of, finite2, answer2, eval2AtOf, eval2Of}
+use Rattle.evaluate.specs.Curve.{curveOf, foundOf, looked, parameterRefusal, stepRefusal, evalRefusal, evalAtOf, evalOf}
+use Rattle.evaluate.specs.Curve2.{curve2Of, told2, found2Of, eval2AtOf, eval2Of}
 use Rattle.runs.specs.Point.{threeOf, storedThree}
 use Rattle.runs.specs.declared.vector.Vector.{Vector}
 use Rattle.runs.proofs.Stores.{sets-more, sets-three}
 use Rattle.evaluate.specs.declared.curve.CurveAnswer.the-variants.{At, Refused}
 use Rattle.knots.proofs.Shapes.{shape-none}
 use Rattle.evaluate.proofs.Steps.{parameter-open}
-use Rattle.evaluate.proofs.Curves.{eval-inside-same, eval2-inside-same}
+use Rattle.evaluate.proofs.Curves.{eval-inside-same, eval2-inside-same, eval-outside, eval2-outside}
 use Rattle.knots.proofs.Searches.{searched-is}
-use Rattle.evaluate.specs.declared.curve2.CurveAnswer2.{CurveAnswer2}
 use Rattle.evaluate.specs.declared.curve2.CurveAnswer2.the-variants as two
 use Rattle.many.specs.Rows.{tableRefusal}
 use Rattle.many.specs.Points.{width, numberAt, numbersAt, numbersOf, pointsStart}
-use Rattle.many.specs.declared.points.PointRow.{PointRow}
+use Rattle.many.specs.declared.row.PointRow.{PointRow}
 use Rattle.many.proofs.Rows.{InRows, in-start, in-more, table-open, rooms-open}
 
 -- ---- a row
@@ -76,37 +75,35 @@ module _ (c : Bool) (p : ℕ) (ks ps : List Float) (g : Bool) (ws : List Float) 
     eval-is = simp (curve-not-refused p ks ps g ws v)
 
     -- a parameter that is not refused is looked up in the same span, and of another no point is asked
-    pub valid-answered : evalAtOf c p ks ps g ws t ≡ evalOf c p ks ps g ws t
-    unfolding evalAtOf evalOf
-    valid-answered = ap (λ (r : Refusal). answer r (curveOf p ks ps g ws (searched p (countOf ps) ks (looked p ks ps t)) (looked p ks ps t))) step-is
-        ∙ (go (eqb (parameterRefusal c p (countOf ps) ks t .number) 0) refl
-        ∙ ap (λ (r : Refusal). answer r (curveOf p ks ps g ws (spanOf p (countOf ps) ks (looked p ks ps t)) (looked p ks ps t))) (sym eval-is))
+    same-span : eqb (parameterRefusal c p (countOf ps) ks t .number) 0 ≡ true → searched p (countOf ps) ks (looked p ks ps t) ≡ spanOf p (countOf ps) ks (looked p ks ps t)
+    same-span e = searched-is p (countOf ps) ks t (v .knots) (parameter-open c p (countOf ps) ks t (eqb-true (parameterRefusal c p (countOf ps) ks t .number) 0 e) .1)
+
+    asked : {A : Type 0} (f : ℕ → A) (z : A) → cond (eqb (parameterRefusal c p (countOf ps) ks t .number) 0) (f (searched p (countOf ps) ks (looked p ks ps t))) z
+        ≡ cond (eqb (parameterRefusal c p (countOf ps) ks t .number) 0) (f (spanOf p (countOf ps) ks (looked p ks ps t))) z
+    asked {A} f z = go (eqb (parameterRefusal c p (countOf ps) ks t .number) 0) refl
       where
-        go : (b : Bool) → eqb (parameterRefusal c p (countOf ps) ks t .number) 0 ≡ b
-            → cond b (At (curveOf p ks ps g ws (searched p (countOf ps) ks (looked p ks ps t)) (looked p ks ps t))) (Refused (parameterRefusal c p (countOf ps) ks t))
-            ≡ cond b (At (curveOf p ks ps g ws (spanOf p (countOf ps) ks (looked p ks ps t)) (looked p ks ps t))) (Refused (parameterRefusal c p (countOf ps) ks t))
-        go true e = ap (λ (s : ℕ). At (curveOf p ks ps g ws s (looked p ks ps t))) (searched-is p (countOf ps) ks t (v .knots) (parameter-open c p (countOf ps) ks t (eqb-true (parameterRefusal c p (countOf ps) ks t .number) 0 e) .1))
+        go : (b : Bool) → eqb (parameterRefusal c p (countOf ps) ks t .number) 0 ≡ b → cond b (f (searched p (countOf ps) ks (looked p ks ps t))) z ≡ cond b (f (spanOf p (countOf ps) ks (looked p ks ps t))) z
+        go true e = ap f (same-span e)
         go false e = refl
+
+    pub valid-answered : evalAtOf c p ks ps g ws t ≡ evalOf c p ks ps g ws t
+    unfolding evalAtOf foundOf evalOf
+    valid-answered = simp (step-is, eval-is) (asked (λ s. At (curveOf p ks ps g ws s (looked p ks ps t))) (Refused (parameterRefusal c p (countOf ps) ks t)))
 
     pub valid-answered2 : eval2AtOf c p ks ps g ws t ≡ eval2Of c p ks ps g ws t
-    unfolding eval2AtOf eval2Of
-    valid-answered2 = ap (λ (r : Refusal). answer2 r (curve2Of p ks ps g ws (searched p (countOf ps) ks (looked p ks ps t)) (looked p ks ps t))) step-is
-        ∙ (go (eqb (parameterRefusal c p (countOf ps) ks t .number) 0) refl
-        ∙ ap (λ (r : Refusal). answer2 r (curve2Of p ks ps g ws (spanOf p (countOf ps) ks (looked p ks ps t)) (looked p ks ps t))) (sym eval-is))
-      where
-        given : ℕ → CurveAnswer2
-        given s = let d = curve2Of p ks ps g ws s (looked p ks ps t) in cond (finite2 d) (two.At d) (two.Refused (refuse second-not-finite))
-
-        go : (b : Bool) → eqb (parameterRefusal c p (countOf ps) ks t .number) 0 ≡ b
-            → cond b (given (searched p (countOf ps) ks (looked p ks ps t))) (two.Refused (parameterRefusal c p (countOf ps) ks t)) ≡ cond b (given (spanOf p (countOf ps) ks (looked p ks ps t)))
-            (two.Refused (parameterRefusal c p (countOf ps) ks t))
-        go true e = ap given (searched-is p (countOf ps) ks t (v .knots) (parameter-open c p (countOf ps) ks t (eqb-true (parameterRefusal c p (countOf ps) ks t .number) 0 e) .1))
-        go false e = refl
+    unfolding eval2AtOf found2Of eval2Of
+    valid-answered2 = simp (step-is, eval-is) (asked (λ s. told2 (curve2Of p ks ps g ws s (looked p ks ps t))) (two.Refused (parameterRefusal c p (countOf ps) ks t)))
 
 -- ---- where a parameter is not outside the domain, its row is the same in both modes
 pub row-inside-same : (p : ℕ) (ks ps : List Float) (g : Bool) (ws : List Float) (b : Bool) (t : Float) → outside p (countOf ps) ks t ≡ false
     → (numberAt refusing p ks ps g ws b t ≡ numberAt clamping p ks ps g ws b t) × (numbersAt refusing p ks ps g ws b t ≡ numbersAt clamping p ks ps g ws b t)
 row-inside-same p ks ps g ws b t i = simp (eval-inside-same p ks ps g ws t i, eval2-inside-same p ks ps g ws t i) (refl, refl)
+
+-- where it is, and the clamped call has a point, its row has 43 and +0.0
+pub row-outside : (p : ℕ) (ks ps : List Float) (g : Bool) (ws : List Float) (b : Bool) (t : Float) → evalRefusal clamping p ks ps g ws t .number ≡ 0 → outside p (countOf ps) ks t ≡ true
+    → (numberAt refusing p ks ps g ws b t ≡ 43 ∷ []) × (numbersAt refusing p ks ps g ws b t ≡ zeros (width b))
+row-outside p ks ps g ws true t h o = simp (eval2-outside p ks ps g ws t h o) (refl, refl)
+row-outside p ks ps g ws false t h o = simp (eval-outside p ks ps g ws t h o) (refl, refl)
 
 -- ---- the loop, whatever a row holds
 module _ (f : Float → List ℕ) (h : Float → List Float) (w : ℕ) where

@@ -1,4 +1,4 @@
--- The answers of `eval_many` and `eval2_many`, by the mode: for each parameter what `eval` and `eval2` answer in it, in a row.
+-- The answers of `eval_many` and `eval2_many`, by the mode: for each parameter what `eval` and `eval2` answer in that mode, in a row.
 -- Assumes nothing.
 use Prim.Native.Nat.{ℕ, _*_}
 use mathlib.Core.Bool.{Bool, true, false, cond}
@@ -20,7 +20,7 @@ use Rattle.evaluate.specs.declared.curve2.CurveAnswer2.{CurveAnswer2}
 use Rattle.evaluate.specs.declared.curve2.CurveAnswer2.the-variants as two
 use Rattle.many.specs.Rows.{RowsMeet, rowOf, tableRefusal, roomsRefusal}
 use Rattle.many.specs.declared.answer.ManyAnswer.{ManyAnswer}
-use Rattle.many.specs.declared.points.PointRow.{PointRow}
+use Rattle.many.specs.declared.row.PointRow.{PointRow}
 
 -- how many numbers a row has: the point and one derivative, or two
 abbrev pub width : Bool → ℕ

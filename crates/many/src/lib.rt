@@ -2,5 +2,6 @@
 pub mod answer;
 pub mod boxes;
 pub mod points;
+mod row;
 mod start;
 mod store;

@@ -1,18 +1,15 @@
 // A curve with one derivative, or with two, at many parameters.
 use crate::answer::ManyAnswer;
+use crate::row::PointRow;
+use crate::row::row_of;
+use crate::row::row2_of;
+use crate::row::width;
 use crate::start::points_start;
 use crate::store::clear_numbers;
-use crate::store::origin;
-use evaluate::curve::CurveAnswer;
-use evaluate::curve::eval_at;
-use evaluate::curve::eval_at_clamped;
-use evaluate::curve2::CurveAnswer2;
-use evaluate::curve2::eval2_at;
-use evaluate::curve2::eval2_at_clamped;
+use evaluate::curve::eval_step;
+use evaluate::curve2::eval2_step;
 use knots::clear::clear;
-use knots::refusal::Refusal;
 use runs::store::store_vector;
-use runs::vector::Vector;
 ghost use mathlib.Core.Path.{_≡_};
 ghost use mathlib.Core.List.{_++_};
 ghost use Prim.Native.Nat.{_*_, _<_, _≤_};
@@ -20,116 +17,10 @@ ghost use lib.ListN.{length, drop, set};
 ghost use lib.Seq.{sets};
 ghost use Rattle.knots.specs.Curve.{ValidCurve};
 ghost use Rattle.knots.specs.Span.{refusing, clamping};
-ghost use Rattle.evaluate.specs.Curve.{evalOf};
-ghost use Rattle.evaluate.specs.Curve2.{eval2Of};
 ghost use Rattle.many.specs.Rows.{rowsBy};
-ghost use Rattle.many.specs.Points.{width as widthOf, noRow, pointRow, pointRow2, rowAt, numbersOf, numberAt, numbersAt, EachMeets, PointsMeet, Points2Meet};
+ghost use Rattle.many.specs.Points.{width as widthOf, rowAt, numbersOf, numberAt, numbersAt, EachMeets, PointsMeet, Points2Meet};
 
-// What is stored of one answer: the number of its refusal or 0, then the point and the derivatives. Where one is asked for, d2 is not stored.
-struct PointRow {
-    number: u32,
-    point: Vector,
-    d1: Vector,
-    d2: Vector,
-}
-
-// How many numbers a row has.
-fn width(two: bool) -> usize
-    ensures { λ r. ⌜ r ≡ widthOf two ⌝ }
-{
-    if two {
-        return 9;
-    }
-    6
-}
-
-fn no_row(r: Refusal) -> PointRow
-    ensures { λ a. ⌜ a ≡ noRow r ⌝ }
-{
-    PointRow {
-        number: r.number,
-        point: origin(),
-        d1: origin(),
-        d2: origin(),
-    }
-}
-
-fn row_of(a: CurveAnswer) -> PointRow
-    ensures { λ r. ⌜ r ≡ pointRow a ⌝ }
-{
-    match a {
-        CurveAnswer::At(d) => {
-            let point = d.point;
-            let d1 = d.d1;
-            PointRow {
-                number: 0,
-                point,
-                d1,
-                d2: origin(),
-            }
-        }
-        CurveAnswer::Refused(r) => no_row(r),
-    }
-}
-
-fn row2_of(a: CurveAnswer2) -> PointRow
-    ensures { λ r. ⌜ r ≡ pointRow2 a ⌝ }
-{
-    match a {
-        CurveAnswer2::At(d) => {
-            let point = d.point;
-            let d1 = d.d1;
-            let d2 = d.d2;
-            PointRow {
-                number: 0,
-                point,
-                d1,
-                d2,
-            }
-        }
-        CurveAnswer2::Refused(r) => no_row(r),
-    }
-}
-
-// The row of one parameter with one derivative, by the mode, on a curve that was validated.
-fn row1_at(
-    clamping: bool,
-    degree: usize,
-    knots: &[f64],
-    points: &[f64],
-    rational: bool,
-    weights: &[f64],
-    t: f64,
-) -> PointRow
-    requires { ⌜ ValidCurve degree (now knots) (now points) rational (now weights) ⌝ }
-    ensures { λ r. ⌜ r ≡ pointRow (evalOf clamping degree (now (knots .entry)) (now (points .entry)) rational (now (weights .entry)) t) ⌝ }
-{
-    if clamping {
-        return row_of(eval_at_clamped(degree, knots, points, rational, weights, t));
-    }
-    row_of(eval_at(degree, knots, points, rational, weights, t))
-}
-
-// The same with two derivatives.
-fn row2_at(
-    clamping: bool,
-    degree: usize,
-    knots: &[f64],
-    points: &[f64],
-    rational: bool,
-    weights: &[f64],
-    t: f64,
-) -> PointRow
-    requires { ⌜ ValidCurve degree (now knots) (now points) rational (now weights) ⌝ }
-    ensures { λ r. ⌜ r ≡ pointRow2 (eval2Of clamping degree (now (knots .entry)) (now (points .entry)) rational (now (weights .entry)) t) ⌝ }
-{
-    if clamping {
-        return row2_of(eval2_at_clamped(degree, knots, points, rational, weights, t));
-    }
-    row2_of(eval2_at(degree, knots, points, rational, weights, t))
-}
-
-// The row of one parameter.
+// The row of one parameter, by the mode, on a curve that was validated.
 fn row_at(
     clamping: bool,
     two: bool,
@@ -144,9 +35,9 @@ fn row_at(
     ensures { λ r. ⌜ r ≡ rowAt clamping degree (now (knots .entry)) (now (points .entry)) rational (now (weights .entry)) two t ⌝ }
 {
     if two {
-        return row2_at(clamping, degree, knots, points, rational, weights, t);
+        return row2_of(eval2_step(clamping, degree, knots, points, rational, weights, t));
     }
-    row1_at(clamping, degree, knots, points, rational, weights, t)
+    row_of(eval_step(clamping, degree, knots, points, rational, weights, t))
 }
 
 // Row i of both runs.

@@ -1,7 +1,6 @@
 -- `made::iso_curve::iso_start` meets its contract.
 -- Assumes nothing.
 use mathlib.Core.Path.{_≡_, sym, _∙_, ap}
-use native.Mathlib.Omega.{arith}
 use denote.Ref.{now}
 use Rattle.knots.proofs.Refusals.{stop, skip}
 use Rattle.knots.specs.Surface.{surfaceRefusal}

@@ -9,7 +9,7 @@ use mathlib.Core.Path.{refl, _∙_, ap}
 use mathlib.Core.List.{[], _∷_}
 use Rattle.doubles.specs.Run.{at}
 use Rattle.many.specs.Points.{width, numbersOf, numberAt, numbersAt}
-use Rattle.many.specs.declared.points.PointRow.{PointRow}
+use Rattle.many.specs.declared.row.PointRow.{PointRow}
 use Rattle.many.proofs.Said.{row-says}
 use Rattle.many.proofs.Evaluated.{InEach, each-start, each-more, each-fits, each-end}
 use Rattle.many.proofs.points.eval_each.Statement.{statement}

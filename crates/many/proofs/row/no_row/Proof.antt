@@ -1,12 +1,12 @@
--- `many::points::no_row` meets its contract.
+-- `many::row::no_row` meets its contract.
 -- Assumes nothing.
 use mathlib.Core.Path.{_∙_, ap, ap₂}
 use Rattle.runs.specs.declared.vector.Vector.{Vector}
 use Rattle.many.specs.Points.{origin}
 use Rattle.many.proofs.Evaluated.{bare}
 use borrow.Author.Needs.{needs}
-use Rattle.many.proofs.points.no_row.Statement.{statement}
-use Rattle.many.proofs.points.no_row.Tie as tie
+use Rattle.many.proofs.row.no_row.Statement.{statement}
+use Rattle.many.proofs.row.no_row.Tie as tie
 
 origin-requires : tie.Need-origin-requires
 origin-requires c κs = search needs

@@ -1,11 +1,11 @@
--- `many::points::row_of` meets its contract.
+-- `many::row::row_of` meets its contract.
 -- Assumes nothing.
 use mathlib.Core.Path.{_∙_, sym, ap}
 use Rattle.many.specs.Points.{pointRow}
 use Rattle.many.proofs.Evaluated.{bare}
 use borrow.Author.Needs.{needs}
-use Rattle.many.proofs.points.row_of.Statement.{statement}
-use Rattle.many.proofs.points.row_of.Tie as tie
+use Rattle.many.proofs.row.row_of.Statement.{statement}
+use Rattle.many.proofs.row.row_of.Tie as tie
 
 enum-known-a : tie.Need-enum-known-a
 enum-known-a c = search needs

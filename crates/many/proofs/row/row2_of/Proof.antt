@@ -1,10 +1,10 @@
--- `many::points::row2_of` meets its contract.
+-- `many::row::row2_of` meets its contract.
 -- Assumes nothing.
 use mathlib.Core.Path.{_∙_, sym, ap}
 use Rattle.many.specs.Points.{pointRow2}
 use borrow.Author.Needs.{needs}
-use Rattle.many.proofs.points.row2_of.Statement.{statement}
-use Rattle.many.proofs.points.row2_of.Tie as tie
+use Rattle.many.proofs.row.row2_of.Statement.{statement}
+use Rattle.many.proofs.row.row2_of.Tie as tie
 
 enum-known-a : tie.Need-enum-known-a
 enum-known-a c = search needs
