@@ -21,10 +21,10 @@
  *   direction. 8: the first point with a coordinate that is not finite. 10: the first weight that is none; of a surface both
  *   are i * v_count + j. Where a call refuses the curve that it has formed, the place is in that curve.
  * - 43: a finite parameter lies outside the domain, knots[degree] to knots[count] with both ends, both zeros being one
- *   number. A function whose name ends in _clamped takes the nearer end instead, and is else the one without.
+ *   number. A function whose name ends in _clamped takes the nearer end, and is otherwise the one without it.
  * - What a call on curves or surfaces returns has the refusal in its low half, which a uint32_t keeps, and the place in
  *   its high half: at most 2^32 - 1, and 0 where there is none; of an edit that forms a curve the high half is the count of
- *   its points. The two find_span and tasulogi_bound_spans answer in the low half: their refusals have the halves exchanged.
+ *   its points. find_span, clamped or not, and bound_spans answer in the low half, and refuse with the halves exchanged.
  * - A function with no lent run returns its answer.
  * - An interval is passed by its ends, low before high, and answered as two doubles, low before high. Infinite ends
  *   are allowed.
@@ -54,13 +54,13 @@ enum {
     TASULOGI_NO_INTERVAL = 99
 };
 
-/* Of what a call returns, but the two find_span and tasulogi_bound_spans: the number without its direction; the direction:
+/* Of what a call returns, but find_span, clamped or not, and bound_spans: the number without its direction; the direction:
  * 0 none, 1 u, 2 v; and the place of 4, 7, 8 and 10. Compare these, and not the whole that was returned. */
 #define TASULOGI_REFUSAL(r) ((uint32_t)(r) % 100)
 #define TASULOGI_DIRECTION(r) ((uint32_t)(r) / 100)
 #define TASULOGI_PLACE(r) ((size_t)((uint64_t)(r) >> 32))
 
-/* The refusal of the two find_span and tasulogi_bound_spans, and its place; where the refusal is 0, what was returned is
+/* The refusal of find_span, clamped or not, and bound_spans, and its place; where the refusal is 0, what was returned is
  * the span or the count. */
 #define TASULOGI_SPAN_REFUSAL(r) ((uint32_t)((r) >> 32))
 #define TASULOGI_SPAN_PLACE(r) ((size_t)(uint32_t)(r))

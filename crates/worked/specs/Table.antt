@@ -164,7 +164,7 @@ rows =
     ∷ row "span of A at 0.5" (spanA half) (0 ∷ 2 ∷ [])
     ∷ row "span of A at 1" (spanA one) (0 ∷ 3 ∷ [])
     ∷ row "span of A at 2" (spanA two) (0 ∷ 3 ∷ [])
-    -- at -0.0 it is 2; -2^-1074 and 3 are 43; clamped, their spans are 2 and 3
+    -- at -0.0 it is 2; at -2^-1074 and 3, 43; clamped, 2 and 3
     ∷ row "span of A at -0.0" (spanA (minus 0)) (0 ∷ 2 ∷ [])
     ∷ row "span of A at -2^-1074" (spanA (minus tiny)) (43 ∷ [])
     ∷ row "span of A at 3" (spanA three) (43 ∷ [])

@@ -5,14 +5,26 @@ use crate::lent::Match;
 use crate::rng::Rng;
 use crate::tables::{Refused, hex};
 use oracle::{BCurve, Point3, class_of};
+use std::sync::LazyLock;
 
-/// The class of a number that some call gives, invalid 0 to internal 4, and 5 of all others. That of 43 is ours.
-pub fn class_number(number: u32) -> u32 {
-    match number {
-        1..=33 => "IDUCN".find(class_of(number)).expect("a class") as u32,
-        43 => 0,
-        _ => 5,
+/// A line for each number that some call gives: the number, the letter of its class, the text.
+const TABLE: &str = include_str!("../../../../docs/refusals.txt");
+
+/// The classes of the table, invalid 0 to internal 4, and 5 where it has no line; those of the Rust's own are the oracle's.
+static CLASSES: LazyLock<[u32; 55]> = LazyLock::new(|| {
+    let mut classes = [5; 55];
+    for line in TABLE.lines() {
+        let (number, rest) = line.split_once(' ').expect("a number");
+        let number: u32 = number.parse().expect("a number");
+        assert!(number > 33 || rest.starts_with(class_of(number)), "{line}");
+        classes[number as usize] = "IDUCN".find(&rest[..1]).expect("a class") as u32;
     }
+    classes
+});
+
+/// The class of a number, and 5 of one that no call gives.
+pub fn class_number(number: u32) -> u32 {
+    CLASSES.get(number as usize).copied().unwrap_or(5)
 }
 
 /// Whether our class of a returned number is that.

@@ -14,28 +14,22 @@ use calls::{CurveCase, Order, SurfaceCase};
 const CARE: Care = Care { steep: [300, 300, 200, 100, 20, 20], broken: 6, long: 20_000 };
 const SURFACE_CARE: Care = Care { steep: [400, 300, 100, 30, 5, 5], broken: 8, long: 8000 };
 
-const CALLS: [(&str, &[u32], &[u32]); 9] = [
-    ("eval", &[0, 1, 2, 3, 4, 5, 6, 7, 8, 9, 10, 12, 30, 31, 32, 43], &[]),
-    ("eval_clamped", &[0, 1, 2, 3, 4, 5, 6, 7, 8, 9, 10, 12, 30, 31, 32], &[43]),
-    ("eval2", &[0, 1, 2, 3, 4, 5, 6, 7, 8, 9, 10, 12, 21, 30, 31, 32, 43], &[]),
-    ("eval2_clamped", &[0, 1, 2, 3, 4, 5, 6, 7, 8, 9, 10, 12, 21, 30, 31, 32], &[43]),
+const CALLS: [(&str, &[u32]); 9] = [
+    ("eval", &[0, 1, 2, 3, 4, 5, 6, 7, 8, 9, 10, 12, 30, 31, 32, 43]),
+    ("eval_clamped", &[0, 1, 2, 3, 4, 5, 6, 7, 8, 9, 10, 12, 30, 31, 32]),
+    ("eval2", &[0, 1, 2, 3, 4, 5, 6, 7, 8, 9, 10, 12, 21, 30, 31, 32, 43]),
+    ("eval2_clamped", &[0, 1, 2, 3, 4, 5, 6, 7, 8, 9, 10, 12, 21, 30, 31, 32]),
     (
         "eval_surface",
         &[0, 8, 9, 10, 11, 12, 30, 31, 32, 43, 101, 102, 103, 104, 105, 106, 107, 201, 202, 203, 204, 205, 206, 207],
-        &[],
     ),
     (
         "eval_surface_clamped",
         &[0, 8, 9, 10, 11, 12, 30, 31, 32, 101, 102, 103, 104, 105, 106, 107, 201, 202, 203, 204, 205, 206, 207],
-        &[43],
     ),
-    ("reversed", &[0, 1, 2, 3, 4, 5, 6, 7, 8, 9, 10, 30, 32], &[]),
-    (
-        "iso_curve",
-        &[0, 8, 9, 10, 11, 22, 23, 30, 31, 32, 101, 102, 103, 104, 105, 106, 107, 201, 202, 203, 204, 205, 206, 207],
-        &[],
-    ),
-    ("eval_at", &[0, 12, 30, 31, 43], &[]),
+    ("reversed", &[0, 1, 2, 3, 4, 5, 6, 7, 8, 9, 10, 30, 32]),
+    ("iso_curve", &[0, 8, 9, 10, 11, 22, 23, 30, 31, 32, 101, 102, 103, 104, 105, 106, 107, 201, 202, 203, 204, 205, 206, 207]),
+    ("eval_at", &[0, 12, 30, 31, 43]),
 ];
 
 /// Refusals of curves that were formed, then pairs of a surface's parameters by mode.
@@ -61,7 +55,7 @@ const SEEN: [&str; TABLES.len() + PARAMETERS.len()] = joined(&TABLES, &PARAMETER
 
 pub const MODULE: Module = Module {
     name: "evaluate",
-    calls: || CALLS.map(|c| Call { name: c.0, numbers: c.1, idle: c.2 }).into(),
+    calls: || CALLS.map(|c| Call { name: c.0, numbers: c.1, idle: &[] }).into(),
     features: &SEEN,
     default_cases: 2_000_000,
     case,

@@ -17,14 +17,14 @@ use calls::*;
 const CARE: Care = Care { steep: [200, 300, 200, 150, 50, 30], broken: 32, long: 6000 };
 
 /// The rows of the table. A span is 0, none 1; a parameter stays 0, is raised 1, is lowered 2; a class is its number.
-const CALLS: [(&str, &[u32], &[u32]); 7] = [
-    ("curve_refusal", &[0, 1, 2, 3, 4, 5, 6, 7, 8, 9, 10, 30, 32], &[]),
-    ("surface_refusal", &[0, 8, 9, 10, 11, 30, 32, 101, 102, 103, 104, 105, 106, 107, 201, 202, 203, 204, 205, 206, 207], &[]),
-    ("find_span", &[0, 1, 2, 3, 4, 5, 6, 7, 12, 30, 43], &[]),
-    ("find_span_clamped", &[0, 1, 2, 3, 4, 5, 6, 7, 12, 30], &[43]),
-    ("next_span", &[0, 1], &[]),
-    ("clamp", &[0, 1, 2], &[]),
-    ("class_of", &[0, 1, 2, 3, 4, 5], &[]),
+const CALLS: [(&str, &[u32]); 7] = [
+    ("curve_refusal", &[0, 1, 2, 3, 4, 5, 6, 7, 8, 9, 10, 30, 32]),
+    ("surface_refusal", &[0, 8, 9, 10, 11, 30, 32, 101, 102, 103, 104, 105, 106, 107, 201, 202, 203, 204, 205, 206, 207]),
+    ("find_span", &[0, 1, 2, 3, 4, 5, 6, 7, 12, 30, 43]),
+    ("find_span_clamped", &[0, 1, 2, 3, 4, 5, 6, 7, 12, 30]),
+    ("next_span", &[0, 1]),
+    ("clamp", &[0, 1, 2]),
+    ("class_of", &[0, 1, 2, 3, 4, 5]),
 ];
 
 const TABLES: [&str; FEATURES.len() + PLACES.len()] = joined(&FEATURES, &PLACES);
@@ -34,7 +34,7 @@ const SEEN: [&str; TABLES.len() + PARAMETERS.len()] = joined(&TABLES, &PARAMETER
 
 pub const MODULE: Module = Module {
     name: "knots",
-    calls: || CALLS.map(|c| Call { name: c.0, numbers: c.1, idle: c.2 }).into(),
+    calls: || CALLS.map(|c| Call { name: c.0, numbers: c.1, idle: &[] }).into(),
     features: &SEEN,
     default_cases: 4_000_000,
     case,

@@ -24,8 +24,8 @@ pub fn parameter(r: &mut Rng, knots: &[f64]) -> f64 {
     }
 }
 
-/// A parameter of a call that looks at the domain: one in four is an end of it, its negative, so the other zero of an end
-/// that is one, or next to an end.
+/// A parameter of a call that looks at the domain: one in four is an end of it, its negative (the other zero
+/// where the end is 0), or next to an end.
 pub fn of_domain(r: &mut Rng, degree: usize, count: usize, knots: &[f64]) -> f64 {
     match knots.get(r.pick(&[degree, count])) {
         Some(&end) if r.below(4) == 0 => r.pick(&[end, -end, end.next_up(), end.next_down()]),

@@ -15,7 +15,7 @@ impl Domain {
         Self { lo: knots[degree], hi: knots[count] }
     }
 
-    /// A finite parameter, as a number: the other zero of an end is inside.
+    /// Whether a finite parameter lies outside, as a number: the other zero of an end is inside.
     pub fn is_outside(self, t: f64) -> bool {
         t.is_finite() && (t < self.lo || t > self.hi)
     }

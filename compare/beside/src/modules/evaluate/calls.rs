@@ -62,7 +62,7 @@ impl CurveCase {
         }
     }
 
-    /// The step after validation has one mode.
+    /// Of the step after validation one mode is exported.
     pub fn ours_point(&self, order: Order, mode: Mode, out: &mut [f64]) -> u64 {
         match (order, mode) {
             (Order::One, Mode::Refusing) => tasulogi_eval(&self.table, self.t, out),

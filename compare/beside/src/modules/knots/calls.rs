@@ -60,7 +60,7 @@ pub fn clamp(k: &Run, u: f64) -> f64 {
     }
 }
 
-/// The Rust's span, of the nearer end where u lies outside and the mode clamps; 30, 12 and 43 are ours.
+/// The Rust's span, which is that of the nearer end where u lies outside; 30, 12 and 43 are ours.
 pub fn span(k: &Run, u: f64, mode: Mode) -> Result<usize, Refused> {
     if k.knots.len() > LIMIT {
         return Err(Refused::unplaced(30));
@@ -68,7 +68,7 @@ pub fn span(k: &Run, u: f64, mode: Mode) -> Result<usize, Refused> {
     knot_refusal(k)?;
     match mode.refusal(k.domain(), u) {
         Some(number) => Err(Refused::unplaced(number)),
-        None => Ok(find_span(k.count - 1, k.degree, clamp(k, u), k.knots)),
+        None => Ok(find_span(k.count - 1, k.degree, u, k.knots)),
     }
 }
 
