@@ -1,7 +1,7 @@
 -- The answers of `eval_at`, `eval`, `eval2_at`, `eval2`.
 -- Assumes nothing.
 use Prim.Native.Nat.{ℕ, _+_, _-_, _≤_}
-use mathlib.Core.Bool.{Bool, true, false}
+use mathlib.Core.Bool.{Bool, true, false, cond}
 use mathlib.Core.Path.{_≡_, sym, _∙_, ap, ap₂}
 use mathlib.Core.List.{List}
 use native.Mathlib.Omega.{arith}
@@ -31,7 +31,7 @@ use Rattle.evaluate.specs.declared.curve2.CurveDerivs2.{CurveDerivs2}
 use Rattle.evaluate.specs.declared.curve2.CurveAnswer2.{CurveAnswer2}
 use Rattle.evaluate.specs.declared.curve2.CurveAnswer2.the-variants as two
 use Rattle.evaluate.proofs.Summed.{row-cong}
-use Rattle.evaluate.proofs.Steps.{open-span}
+use Rattle.evaluate.proofs.Steps.{Fits, step-fits, eval-fits, open-span}
 
 -- ---- the sums over a row of the table are the sums over the derivatives
 module _ (p n : ℕ) (ks ps : List Float) (g : Bool) (ws : List Float) (s : ℕ) (v : Float) (R : Reach 195 p n ks s) (ders : List Float)
@@ -61,29 +61,29 @@ module _ (p n : ℕ) (ks ps : List Float) (g : Bool) (ws : List Float) (s : ℕ)
 -- ---- the answers
 module _ (c : Bool) (p : ℕ) (ks ps : List Float) (g : Bool) (ws : List Float) (t : Float) where
   module _ (r : Refusal) (h : r .number ≡ 0 → ⊥) where
-    pub at-refused : r ≡ stepRefusal c p ks ps g ws t → Refused r ≡ evalAtOf c p ks ps g ws t
+    at-refused : r ≡ stepRefusal c p ks ps g ws t → Refused r ≡ evalAtOf c p ks ps g ws t
     unfolding evalAtOf
     at-refused e = simp (stop e h) (ap Refused e)
 
-    pub eval-refused : r ≡ evalRefusal c p ks ps g ws t → Refused r ≡ evalOf c p ks ps g ws t
+    eval-refused : r ≡ evalRefusal c p ks ps g ws t → Refused r ≡ evalOf c p ks ps g ws t
     unfolding evalOf
     eval-refused e = simp (stop e h) (ap Refused e)
 
-    pub at2-refused : r ≡ stepRefusal c p ks ps g ws t → two.Refused r ≡ eval2AtOf c p ks ps g ws t
+    at2-refused : r ≡ stepRefusal c p ks ps g ws t → two.Refused r ≡ eval2AtOf c p ks ps g ws t
     unfolding eval2AtOf
     at2-refused e = simp (stop e h) (ap two.Refused e)
 
-    pub eval2-refused : r ≡ evalRefusal c p ks ps g ws t → two.Refused r ≡ eval2Of c p ks ps g ws t
+    eval2-refused : r ≡ evalRefusal c p ks ps g ws t → two.Refused r ≡ eval2Of c p ks ps g ws t
     unfolding eval2Of
     eval2-refused e = simp (stop e h) (ap two.Refused e)
 
   -- what was found where nothing is refused is the step's answer
   module _ (r : Refusal) (e : r ≡ stepRefusal c p ks ps g ws t) (h : r .number ≡ 0) where
-    pub at-answered : (d : CurveDerivs) → d ≡ foundOf p ks ps g ws t → At d ≡ evalAtOf c p ks ps g ws t
+    at-answered : (d : CurveDerivs) → d ≡ foundOf p ks ps g ws t → At d ≡ evalAtOf c p ks ps g ws t
     unfolding evalAtOf
     at-answered d D = simp (skip e h) (ap At D)
 
-    pub at2-answered : (a : CurveAnswer2) → a ≡ told2 (found2Of p ks ps g ws t) → a ≡ eval2AtOf c p ks ps g ws t
+    at2-answered : (a : CurveAnswer2) → a ≡ told2 (found2Of p ks ps g ws t) → a ≡ eval2AtOf c p ks ps g ws t
     unfolding eval2AtOf
     at2-answered a D = simp (skip e h) D
 
@@ -92,13 +92,38 @@ module _ (c : Bool) (p : ℕ) (ks ps : List Float) (g : Bool) (ws : List Float) 
     none : evalRefusal c p ks ps g ws t .number ≡ 0
     none = sym (ap (λ (x : Refusal). x .number) e) ∙ h
 
-    pub eval-answered : (d : CurveDerivs) → d ≡ foundOf p ks ps g ws t → At d ≡ evalOf c p ks ps g ws t
+    eval-answered : (d : CurveDerivs) → d ≡ foundOf p ks ps g ws t → At d ≡ evalOf c p ks ps g ws t
     unfolding evalOf foundOf
     eval-answered d D = simp (skip e h) (ap At (D ∙ ap (λ (s : ℕ). curveOf p ks ps g ws s (looked p ks ps t)) (open-span p ks ps g ws c t none)))
 
-    pub eval2-answered : (a : CurveAnswer2) → a ≡ told2 (found2Of p ks ps g ws t) → a ≡ eval2Of c p ks ps g ws t
+    eval2-answered : (a : CurveAnswer2) → a ≡ told2 (found2Of p ks ps g ws t) → a ≡ eval2Of c p ks ps g ws t
     unfolding eval2Of found2Of
     eval2-answered a D = simp (skip e h) (D ∙ ap (λ (s : ℕ). told2 (curve2Of p ks ps g ws s (looked p ks ps t))) (open-span p ks ps g ws c t none))
+
+-- ---- both in one, by whether the table was validated before
+module _ (c : Bool) (p : ℕ) (ks ps : List Float) (g : Bool) (ws : List Float) (t : Float) (r : Refusal) where
+  abbrev IsRefusal : Bool → Type 0
+  IsRefusal b = r ≡ cond b (stepRefusal c p ks ps g ws t) (evalRefusal c p ks ps g ws t)
+
+  pub by-fits : (b : Bool) → IsRefusal b → r .number ≡ 0 → Fits p ks ps g ws
+  by-fits true e h = step-fits p ks ps g ws c t (sym (ap (λ (x : Refusal). x .number) e) ∙ h)
+  by-fits false e h = eval-fits p ks ps g ws c t (sym (ap (λ (x : Refusal). x .number) e) ∙ h)
+
+  pub by-refused : (b : Bool) → IsRefusal b → (r .number ≡ 0 → ⊥) → Refused r ≡ cond b (evalAtOf c p ks ps g ws t) (evalOf c p ks ps g ws t)
+  by-refused true e h = at-refused c p ks ps g ws t r h e
+  by-refused false e h = eval-refused c p ks ps g ws t r h e
+
+  pub by-answered : (b : Bool) → IsRefusal b → r .number ≡ 0 → (d : CurveDerivs) → d ≡ foundOf p ks ps g ws t → At d ≡ cond b (evalAtOf c p ks ps g ws t) (evalOf c p ks ps g ws t)
+  by-answered true e h = at-answered c p ks ps g ws t r e h
+  by-answered false e h = eval-answered c p ks ps g ws t r e h
+
+  pub by2-refused : (b : Bool) → IsRefusal b → (r .number ≡ 0 → ⊥) → two.Refused r ≡ cond b (eval2AtOf c p ks ps g ws t) (eval2Of c p ks ps g ws t)
+  by2-refused true e h = at2-refused c p ks ps g ws t r h e
+  by2-refused false e h = eval2-refused c p ks ps g ws t r h e
+
+  pub by2-answered : (b : Bool) → IsRefusal b → r .number ≡ 0 → (a : CurveAnswer2) → a ≡ told2 (found2Of p ks ps g ws t) → a ≡ cond b (eval2AtOf c p ks ps g ws t) (eval2Of c p ks ps g ws t)
+  by2-answered true e h = at2-answered c p ks ps g ws t r e h
+  by2-answered false e h = eval2-answered c p ks ps g ws t r e h
 
 -- ---- where the parameter is not outside the domain, both modes answer alike
 module _ (p : ℕ) (ks ps : List Float) (g : Bool) (ws : List Float) (t : Float) (i : outside p (countOf ps) ks t ≡ false) where

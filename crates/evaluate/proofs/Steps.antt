@@ -41,7 +41,7 @@ module _ (c : Bool) (p n : ℕ) (ks : List Float) (t : Float) where
 
 module _ (p : ℕ) (ks ps : List Float) (g : Bool) (ws : List Float) where
   -- what is asked of runs that fit each other
-  abbrev Fits : Type 0
+  abbrev pub Fits : Type 0
   Fits = (p ≤ 64) × (curveShape p ks ps g ws .number ≡ 0)
 
   -- what is read then lies in the runs

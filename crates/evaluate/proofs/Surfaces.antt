@@ -1,7 +1,7 @@
 -- The answers of `eval_surface_at` and `eval_surface`.
 -- Assumes nothing.
 use Prim.Native.Nat.{ℕ, _+_, _-_, _*_, _/_, _%_, _≤_}
-use mathlib.Core.Bool.{Bool, true, false, not, _||_}
+use mathlib.Core.Bool.{Bool, true, false, not, _||_, cond}
 use mathlib.Core.Path.{_≡_, refl, sym, _∙_, ap, ap₂, subst}
 use mathlib.Core.List.{List}
 use native.Mathlib.Omega.{arith}
@@ -140,7 +140,7 @@ module _ (p q : ℕ) (us vs : List Float) (m n : ℕ) (ps : List Float) (g : Boo
     weights-net e = subst (λ (l : ℕ). NetReach l n (s - p) p (t - q) q) (sym (o .weights e)) net-reach
 
   module _ (c : Bool) (u v : Float) where
-    pub surface-step-fits : surfaceStepRefusal c p q us vs m n ps g ws u v .number ≡ 0 → SurfaceFits
+    surface-step-fits : surfaceStepRefusal c p q us vs m n ps g ws u v .number ≡ 0 → SurfaceFits
     unfolding surfaceStepRefusal
     surface-step-fits h =
         let a = orElse-none (surfaceShape p q us vs m n ps g ws) (parametersRefusal c p q us vs m n u v) h in
@@ -157,34 +157,52 @@ module _ (p q : ℕ) (us vs : List Float) (m n : ℕ) (ps : List Float) (g : Boo
         let a = orElse-none (surfaceRefusal p q us vs m n ps g ws) (parametersRefusal c p q us vs m n u v) h in
         record { surface = valid-surface p q us vs m n ps g ws (a .0); parameters = parameters-open c p q us vs m n u v (a .1) }
 
-    pub surface-eval-fits : surfaceEvalRefusal c p q us vs m n ps g ws u v .number ≡ 0 → SurfaceFits
+    surface-eval-fits : surfaceEvalRefusal c p q us vs m n ps g ws u v .number ≡ 0 → SurfaceFits
     surface-eval-fits h =
         let o = surface-open h in
         (o .parameters .u-high, (o .parameters .v-high, ap (λ (r : Refusal). r .number) (surface-shape-none (o .surface))))
 
     -- ---- the answers
     module _ (r : Refusal) (h : r .number ≡ 0 → ⊥) where
-      pub surface-at-refused : r ≡ surfaceStepRefusal c p q us vs m n ps g ws u v → Refused r ≡ surfaceAtOf c p q us vs m n ps g ws u v
+      surface-at-refused : r ≡ surfaceStepRefusal c p q us vs m n ps g ws u v → Refused r ≡ surfaceAtOf c p q us vs m n ps g ws u v
       unfolding surfaceAtOf
       surface-at-refused e = simp (stop e h) (ap Refused e)
 
-      pub surface-refused : r ≡ surfaceEvalRefusal c p q us vs m n ps g ws u v → Refused r ≡ evalSurfaceOf c p q us vs m n ps g ws u v
+      surface-refused : r ≡ surfaceEvalRefusal c p q us vs m n ps g ws u v → Refused r ≡ evalSurfaceOf c p q us vs m n ps g ws u v
       unfolding evalSurfaceOf
       surface-refused e = simp (stop e h) (ap Refused e)
 
     -- what was found where nothing is refused is the step's answer, and the evaluation's
     module _ (r : Refusal) (h : r .number ≡ 0) (d : SurfaceDerivs) (D : d ≡ surfaceFound p q us vs m n ps g ws u v) where
-      pub surface-at-answered : r ≡ surfaceStepRefusal c p q us vs m n ps g ws u v → At d ≡ surfaceAtOf c p q us vs m n ps g ws u v
+      surface-at-answered : r ≡ surfaceStepRefusal c p q us vs m n ps g ws u v → At d ≡ surfaceAtOf c p q us vs m n ps g ws u v
       unfolding surfaceAtOf
       surface-at-answered e = simp (skip e h) (ap At D)
 
-      pub surface-answered : r ≡ surfaceEvalRefusal c p q us vs m n ps g ws u v → At d ≡ evalSurfaceOf c p q us vs m n ps g ws u v
+      surface-answered : r ≡ surfaceEvalRefusal c p q us vs m n ps g ws u v → At d ≡ evalSurfaceOf c p q us vs m n ps g ws u v
       unfolding evalSurfaceOf surfaceFound
       surface-answered e =
           let o = surface-open (sym (ap (λ (x : Refusal). x .number) e) ∙ h) in
           let a = searched-is p m us u (o .surface .u) (domain-open p m us u c (o .parameters .u-open) .0) in
           let b = searched-is q n vs v (o .surface .v) (domain-open q n vs v c (o .parameters .v-open) .0) in
           simp (skip e h) (ap At (D ∙ ap₂ (λ (i j : ℕ). surfaceOf p q us vs n ps g ws i j (clamped p m us u) (clamped q n vs v)) a b))
+
+  -- ---- both in one, by whether the surface was validated before
+  module _ (c : Bool) (u v : Float) (r : Refusal) where
+    abbrev IsRefusal : Bool → Type 0
+    IsRefusal b = r ≡ cond b (surfaceStepRefusal c p q us vs m n ps g ws u v) (surfaceEvalRefusal c p q us vs m n ps g ws u v)
+
+    pub surface-by-fits : (b : Bool) → IsRefusal b → r .number ≡ 0 → SurfaceFits
+    surface-by-fits true e h = surface-step-fits c u v (sym (ap (λ (x : Refusal). x .number) e) ∙ h)
+    surface-by-fits false e h = surface-eval-fits c u v (sym (ap (λ (x : Refusal). x .number) e) ∙ h)
+
+    pub surface-by-refused : (b : Bool) → IsRefusal b → (r .number ≡ 0 → ⊥) → Refused r ≡ cond b (surfaceAtOf c p q us vs m n ps g ws u v) (evalSurfaceOf c p q us vs m n ps g ws u v)
+    surface-by-refused true e h = surface-at-refused c u v r h e
+    surface-by-refused false e h = surface-refused c u v r h e
+
+    pub surface-by-answered : (b : Bool) → IsRefusal b → r .number ≡ 0 → (d : SurfaceDerivs) → d ≡ surfaceFound p q us vs m n ps g ws u v
+        → At d ≡ cond b (surfaceAtOf c p q us vs m n ps g ws u v) (evalSurfaceOf c p q us vs m n ps g ws u v)
+    surface-by-answered true e h d D = surface-at-answered c u v r h d D e
+    surface-by-answered false e h d D = surface-answered c u v r h d D e
 
   -- ---- where neither parameter is outside the domain, both modes answer alike
   pub surface-inside-same : (u v : Float) → outside p m us u ≡ false → outside q n vs v ≡ false

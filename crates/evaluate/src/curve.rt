@@ -1,8 +1,7 @@
 // Point and derivative of a curve: eval, and the step that it takes after validation.
 use crate::controls::scale_at;
 use crate::controls::value_and_slope;
-use crate::refusals::eval_refusal;
-use crate::refusals::step_refusal;
+use crate::refusals::refusal_by;
 use crate::sums::Sums;
 use basis::ders::basis_derivatives;
 use knots::refusal::Refusal;
@@ -11,7 +10,7 @@ use knots::span::span_of;
 use runs::points::point_at;
 use runs::vector::Vector;
 ghost use mathlib.Core.Path.{_≡_};
-ghost use mathlib.Core.Bool.{true};
+ghost use mathlib.Core.Bool.{true, cond};
 ghost use Prim.Native.Nat.{_+_, _*_, _<_, _≤_};
 ghost use lib.ListN.{length};
 ghost use Rattle.knots.specs.Span.{refusing, clamping};
@@ -94,7 +93,36 @@ fn found_at(
     curve_at(span, u, degree, knots, points, rational, weights)
 }
 
-// The point and the first derivative at t of a curve that was validated before: only lengths, the degree, t and the domain's ends are tested, so that many calls validate once.
+// The point and the first derivative at t, in a mode, of a curve that was validated before or is validated here. One function for all: a call more on the way costs a tenth of a cubic's point.
+fn eval_by(
+    validated: bool,
+    clamping: bool,
+    degree: usize,
+    knots: &[f64],
+    points: &[f64],
+    rational: bool,
+    weights: &[f64],
+    t: f64,
+) -> CurveAnswer
+    ensures { λ r. ⌜ r ≡ cond validated (evalAtOf clamping degree (now (knots .entry)) (now (points .entry)) rational (now (weights .entry)) t) (evalOf clamping degree (now (knots .entry)) (now (points .entry)) rational (now (weights .entry)) t) ⌝ }
+{
+    let refusal = refusal_by(
+        validated,
+        clamping,
+        degree,
+        knots,
+        points,
+        rational,
+        weights,
+        t,
+    );
+    if refusal.number != 0 {
+        return CurveAnswer::Refused(refusal);
+    }
+    CurveAnswer::At(found_at(degree, knots, points, rational, weights, t))
+}
+
+// The step of eval in a mode, on a curve that was validated before: only lengths, the degree, t and the domain's ends are tested, so that many calls validate once.
 pub fn eval_step(
     clamping: bool,
     degree: usize,
@@ -106,14 +134,10 @@ pub fn eval_step(
 ) -> CurveAnswer
     ensures { λ r. ⌜ r ≡ evalAtOf clamping degree (now (knots .entry)) (now (points .entry)) rational (now (weights .entry)) t ⌝ }
 {
-    let refusal = step_refusal(clamping, degree, knots, points, rational, weights, t);
-    if refusal.number != 0 {
-        return CurveAnswer::Refused(refusal);
-    }
-    CurveAnswer::At(found_at(degree, knots, points, rational, weights, t))
+    eval_by(true, clamping, degree, knots, points, rational, weights, t)
 }
 
-// The step of eval: a t outside the domain is refused.
+// The same where a t outside the domain is refused.
 pub fn eval_at(
     degree: usize,
     knots: &[f64],
@@ -124,26 +148,7 @@ pub fn eval_at(
 ) -> CurveAnswer
     ensures { λ r. ⌜ r ≡ evalAtOf refusing degree (now (knots .entry)) (now (points .entry)) rational (now (weights .entry)) t ⌝ }
 {
-    eval_step(false, degree, knots, points, rational, weights, t)
-}
-
-// The point and the first derivative of a curve at t, by either mode.
-fn eval_by(
-    clamping: bool,
-    degree: usize,
-    knots: &[f64],
-    points: &[f64],
-    rational: bool,
-    weights: &[f64],
-    t: f64,
-) -> CurveAnswer
-    ensures { λ r. ⌜ r ≡ evalOf clamping degree (now (knots .entry)) (now (points .entry)) rational (now (weights .entry)) t ⌝ }
-{
-    let refusal = eval_refusal(clamping, degree, knots, points, rational, weights, t);
-    if refusal.number != 0 {
-        return CurveAnswer::Refused(refusal);
-    }
-    CurveAnswer::At(found_at(degree, knots, points, rational, weights, t))
+    eval_by(true, false, degree, knots, points, rational, weights, t)
 }
 
 // The point and the first derivative of a curve at t, or a refusal: 43 where t lies outside the domain.
@@ -157,7 +162,7 @@ pub fn eval(
 ) -> CurveAnswer
     ensures { λ r. ⌜ r ≡ evalOf refusing degree (now (knots .entry)) (now (points .entry)) rational (now (weights .entry)) t ⌝ }
 {
-    eval_by(false, degree, knots, points, rational, weights, t)
+    eval_by(false, false, degree, knots, points, rational, weights, t)
 }
 
 // The same, where a finite t outside the domain becomes the nearer end.
@@ -171,5 +176,5 @@ pub fn eval_clamped(
 ) -> CurveAnswer
     ensures { λ r. ⌜ r ≡ evalOf clamping degree (now (knots .entry)) (now (points .entry)) rational (now (weights .entry)) t ⌝ }
 {
-    eval_by(true, degree, knots, points, rational, weights, t)
+    eval_by(false, true, degree, knots, points, rational, weights, t)
 }

@@ -1,8 +1,7 @@
 // Point and two derivatives of a curve: eval2, and the step that it takes after validation.
 use crate::controls::row_sums;
 use crate::controls::scale_at;
-use crate::refusals::eval_refusal;
-use crate::refusals::step_refusal;
+use crate::refusals::refusal_by;
 use crate::sums::Sums;
 use basis::ders::basis_derivatives;
 use knots::refusal::Refusal;
@@ -13,7 +12,7 @@ use runs::points::point_at;
 use runs::vector::Vector;
 use runs::vector::finite_vector;
 ghost use mathlib.Core.Path.{_≡_};
-ghost use mathlib.Core.Bool.{true};
+ghost use mathlib.Core.Bool.{true, cond};
 ghost use Prim.Native.Nat.{_+_, _*_, _<_, _≤_};
 ghost use lib.ListN.{length};
 ghost use Rattle.knots.specs.Span.{refusing, clamping};
@@ -133,7 +132,36 @@ fn told2_of(r: CurveDerivs2) -> CurveAnswer2
     CurveAnswer2::Refused(refuse(21))
 }
 
-// The point and two derivatives at t of a curve that was validated before: only lengths, the degree, t and the domain's ends are tested, so that many calls validate once.
+// The point and two derivatives at t, in a mode, of a curve that was validated before or is validated here. One function for all: a call more on the way costs a tenth of a cubic's point.
+fn eval2_by(
+    validated: bool,
+    clamping: bool,
+    degree: usize,
+    knots: &[f64],
+    points: &[f64],
+    rational: bool,
+    weights: &[f64],
+    t: f64,
+) -> CurveAnswer2
+    ensures { λ r. ⌜ r ≡ cond validated (eval2AtOf clamping degree (now (knots .entry)) (now (points .entry)) rational (now (weights .entry)) t) (eval2Of clamping degree (now (knots .entry)) (now (points .entry)) rational (now (weights .entry)) t) ⌝ }
+{
+    let refusal = refusal_by(
+        validated,
+        clamping,
+        degree,
+        knots,
+        points,
+        rational,
+        weights,
+        t,
+    );
+    if refusal.number != 0 {
+        return CurveAnswer2::Refused(refusal);
+    }
+    told2_of(found2_at(degree, knots, points, rational, weights, t))
+}
+
+// The step of eval2 in a mode, on a curve that was validated before: only lengths, the degree, t and the domain's ends are tested, so that many calls validate once.
 pub fn eval2_step(
     clamping: bool,
     degree: usize,
@@ -145,14 +173,10 @@ pub fn eval2_step(
 ) -> CurveAnswer2
     ensures { λ r. ⌜ r ≡ eval2AtOf clamping degree (now (knots .entry)) (now (points .entry)) rational (now (weights .entry)) t ⌝ }
 {
-    let refusal = step_refusal(clamping, degree, knots, points, rational, weights, t);
-    if refusal.number != 0 {
-        return CurveAnswer2::Refused(refusal);
-    }
-    told2_of(found2_at(degree, knots, points, rational, weights, t))
+    eval2_by(true, clamping, degree, knots, points, rational, weights, t)
 }
 
-// The step of eval2: a t outside the domain is refused.
+// The same where a t outside the domain is refused.
 pub fn eval2_at(
     degree: usize,
     knots: &[f64],
@@ -163,29 +187,10 @@ pub fn eval2_at(
 ) -> CurveAnswer2
     ensures { λ r. ⌜ r ≡ eval2AtOf refusing degree (now (knots .entry)) (now (points .entry)) rational (now (weights .entry)) t ⌝ }
 {
-    eval2_step(false, degree, knots, points, rational, weights, t)
+    eval2_by(true, false, degree, knots, points, rational, weights, t)
 }
 
-// The point and two derivatives of a curve at t, by either mode: 21 where one of the numbers is not finite.
-fn eval2_by(
-    clamping: bool,
-    degree: usize,
-    knots: &[f64],
-    points: &[f64],
-    rational: bool,
-    weights: &[f64],
-    t: f64,
-) -> CurveAnswer2
-    ensures { λ r. ⌜ r ≡ eval2Of clamping degree (now (knots .entry)) (now (points .entry)) rational (now (weights .entry)) t ⌝ }
-{
-    let refusal = eval_refusal(clamping, degree, knots, points, rational, weights, t);
-    if refusal.number != 0 {
-        return CurveAnswer2::Refused(refusal);
-    }
-    told2_of(found2_at(degree, knots, points, rational, weights, t))
-}
-
-// The point and two derivatives of a curve at t, or a refusal: 43 where t lies outside the domain.
+// The point and two derivatives of a curve at t, or a refusal: 43 where t lies outside the domain, 21 where one of the numbers is not finite.
 pub fn eval2(
     degree: usize,
     knots: &[f64],
@@ -196,7 +201,7 @@ pub fn eval2(
 ) -> CurveAnswer2
     ensures { λ r. ⌜ r ≡ eval2Of refusing degree (now (knots .entry)) (now (points .entry)) rational (now (weights .entry)) t ⌝ }
 {
-    eval2_by(false, degree, knots, points, rational, weights, t)
+    eval2_by(false, false, degree, knots, points, rational, weights, t)
 }
 
 // The same, where a finite t outside the domain becomes the nearer end.
@@ -210,5 +215,5 @@ pub fn eval2_clamped(
 ) -> CurveAnswer2
     ensures { λ r. ⌜ r ≡ eval2Of clamping degree (now (knots .entry)) (now (points .entry)) rational (now (weights .entry)) t ⌝ }
 {
-    eval2_by(true, degree, knots, points, rational, weights, t)
+    eval2_by(false, true, degree, knots, points, rational, weights, t)
 }

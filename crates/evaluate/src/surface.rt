@@ -2,8 +2,7 @@
 use crate::net::Net;
 use crate::net::net_scale;
 use crate::net::net_sums;
-use crate::refusals::surface_eval_refusal;
-use crate::refusals::surface_step_refusal;
+use crate::refusals::surface_refusal_by;
 use crate::sums::Sums;
 use basis::ders::basis_derivatives;
 use knots::refusal::Refusal;
@@ -12,7 +11,7 @@ use knots::span::span_of;
 use runs::points::point_at;
 use runs::vector::Vector;
 ghost use mathlib.Core.Path.{_≡_};
-ghost use mathlib.Core.Bool.{true};
+ghost use mathlib.Core.Bool.{true, cond};
 ghost use Prim.Native.Nat.{_+_, _-_, _*_, _/_, _<_, _≤_};
 ghost use lib.ListN.{length};
 ghost use Rattle.knots.specs.Span.{refusing, clamping};
@@ -130,8 +129,9 @@ fn surface_found(
     surface_at(s, t, x, y, p, q, uk, vk, n, points, rational, weights)
 }
 
-// The point and the first partial derivatives at u and v of a surface that was validated before: only lengths, the degrees, u, v and the domains' ends are tested.
-pub fn surface_step(
+// The point and the first partial derivatives at u and v, in a mode, of a surface that was validated before or is validated here.
+fn surface_by(
+    validated: bool,
     clamping: bool,
     p: usize,
     q: usize,
@@ -145,9 +145,10 @@ pub fn surface_step(
     u: f64,
     v: f64,
 ) -> SurfaceAnswer
-    ensures { λ r. ⌜ r ≡ surfaceAtOf clamping p q (now (uk .entry)) (now (vk .entry)) m n (now (points .entry)) rational (now (weights .entry)) u v ⌝ }
+    ensures { λ r. ⌜ r ≡ cond validated (surfaceAtOf clamping p q (now (uk .entry)) (now (vk .entry)) m n (now (points .entry)) rational (now (weights .entry)) u v) (evalSurfaceOf clamping p q (now (uk .entry)) (now (vk .entry)) m n (now (points .entry)) rational (now (weights .entry)) u v) ⌝ }
 {
-    let refusal = surface_step_refusal(
+    let refusal = surface_refusal_by(
+        validated,
         clamping,
         p,
         q,
@@ -167,7 +168,7 @@ pub fn surface_step(
     SurfaceAnswer::At(surface_found(p, q, uk, vk, m, n, points, rational, weights, u, v))
 }
 
-// The step of eval_surface: a parameter outside the domain is refused.
+// The step of eval_surface, on a surface that was validated before: only lengths, the degrees, u, v and the domains' ends are tested.
 pub fn eval_surface_at(
     p: usize,
     q: usize,
@@ -183,12 +184,58 @@ pub fn eval_surface_at(
 ) -> SurfaceAnswer
     ensures { λ r. ⌜ r ≡ surfaceAtOf refusing p q (now (uk .entry)) (now (vk .entry)) m n (now (points .entry)) rational (now (weights .entry)) u v ⌝ }
 {
-    surface_step(false, p, q, uk, vk, m, n, points, rational, weights, u, v)
+    surface_by(
+        true,
+        false,
+        p,
+        q,
+        uk,
+        vk,
+        m,
+        n,
+        points,
+        rational,
+        weights,
+        u,
+        v,
+    )
 }
 
-// The point and the first partial derivatives of a surface, by either mode.
-fn surface_by(
-    clamping: bool,
+// The point and the first partial derivatives of a surface of degrees p and q, knots uk and vk, m · n points, or a refusal: 43 where u or v lies outside the domain.
+pub fn eval_surface(
+    p: usize,
+    q: usize,
+    uk: &[f64],
+    vk: &[f64],
+    m: usize,
+    n: usize,
+    points: &[f64],
+    rational: bool,
+    weights: &[f64],
+    u: f64,
+    v: f64,
+) -> SurfaceAnswer
+    ensures { λ r. ⌜ r ≡ evalSurfaceOf refusing p q (now (uk .entry)) (now (vk .entry)) m n (now (points .entry)) rational (now (weights .entry)) u v ⌝ }
+{
+    surface_by(
+        false,
+        false,
+        p,
+        q,
+        uk,
+        vk,
+        m,
+        n,
+        points,
+        rational,
+        weights,
+        u,
+        v,
+    )
+}
+
+// The same, where finite parameters outside the domain become the nearer ends.
+pub fn eval_surface_clamped(
     p: usize,
     q: usize,
     uk: &[f64],
@@ -203,82 +250,15 @@ fn surface_by(
 ) -> SurfaceAnswer
     ensures { λ r. ⌜ r ≡ evalSurfaceOf clamping p q (now (uk .entry)) (now (vk .entry)) m n (now (points .entry)) rational (now (weights .entry)) u v ⌝ }
 {
-    let refusal = surface_eval_refusal(
-        clamping,
+    surface_by(
+        false,
+        true,
         p,
         q,
         uk,
         vk,
         m,
         n,
-        points,
-        rational,
-        weights,
-        u,
-        v,
-    );
-    if refusal.number != 0 {
-        return SurfaceAnswer::Refused(refusal);
-    }
-    SurfaceAnswer::At(surface_found(p, q, uk, vk, m, n, points, rational, weights, u, v))
-}
-
-// The point and the first partial derivatives of a surface, or a refusal: 43 where u or v lies outside the domain.
-pub fn eval_surface(
-    u_degree: usize,
-    v_degree: usize,
-    u_knots: &[f64],
-    v_knots: &[f64],
-    u_count: usize,
-    v_count: usize,
-    points: &[f64],
-    rational: bool,
-    weights: &[f64],
-    u: f64,
-    v: f64,
-) -> SurfaceAnswer
-    ensures { λ r. ⌜ r ≡ evalSurfaceOf refusing «u_degree» «v_degree» (now («u_knots» .entry)) (now («v_knots» .entry)) «u_count» «v_count» (now (points .entry)) rational (now (weights .entry)) u v ⌝ }
-{
-    surface_by(
-        false,
-        u_degree,
-        v_degree,
-        u_knots,
-        v_knots,
-        u_count,
-        v_count,
-        points,
-        rational,
-        weights,
-        u,
-        v,
-    )
-}
-
-// The same, where finite parameters outside the domain become the nearer ends.
-pub fn eval_surface_clamped(
-    u_degree: usize,
-    v_degree: usize,
-    u_knots: &[f64],
-    v_knots: &[f64],
-    u_count: usize,
-    v_count: usize,
-    points: &[f64],
-    rational: bool,
-    weights: &[f64],
-    u: f64,
-    v: f64,
-) -> SurfaceAnswer
-    ensures { λ r. ⌜ r ≡ evalSurfaceOf clamping «u_degree» «v_degree» (now («u_knots» .entry)) (now («v_knots» .entry)) «u_count» «v_count» (now (points .entry)) rational (now (weights .entry)) u v ⌝ }
-{
-    surface_by(
-        true,
-        u_degree,
-        v_degree,
-        u_knots,
-        v_knots,
-        u_count,
-        v_count,
         points,
         rational,
         weights,
