@@ -2,18 +2,19 @@
 -- Assumes nothing.
 use Prim.Native.Nat.{ℕ, _+_, _-_, _≤_}
 use mathlib.Core.Bool.{Bool, true, false, cond}
-use mathlib.Core.Path.{_≡_, sym, _∙_, ap, ap₂}
+use mathlib.Core.Path.{_≡_, _∙_, ap, ap₂}
 use mathlib.Core.List.{List}
 use native.Mathlib.Omega.{arith}
+use lib.Dec.{eqb}
 use lib.Ieee.{Float}
 use borrow.Author.Tests.{eq-eqb}
 use Rattle.exact.specs.Scheme.{dersOf}
 use Rattle.knots.specs.Refusal.{refuse, parameter-outside}
-use Rattle.knots.specs.Span.{outside, refusing, clamping, domainRefusal}
+use Rattle.knots.specs.Span.{outside, refusing, clamping, domainRefusal, spanOf, searched}
 use Rattle.knots.specs.Curve.{countOf, curveRefusal}
 use Rattle.knots.specs.Shape.{degreeRefusal}
 use Rattle.knots.specs.declared.refusal.Refusal.{Refusal}
-use Rattle.knots.proofs.Refusals.{stop, skip, orElse-none}
+use Rattle.knots.proofs.Refusals.{orElse-none, where-none}
 use Rattle.knots.proofs.Answers.{modes-same, outside-refused}
 use Rattle.basis.specs.Floats.{floats}
 use Rattle.basis.specs.Basis.{cell, leftOf, rightOf}
@@ -21,17 +22,16 @@ use Rattle.basis.specs.Ders.{basisTable}
 use Rattle.basis.proofs.Whole.{Reach, basis-at}
 use Rattle.evaluate.specs.Controls.{scaleOf, rowSums}
 use Rattle.runs.specs.Point.{pointOf}
-use Rattle.evaluate.specs.Curve.{quotient, activeSums, curveOf, foundOf, looked, parameterRefusal, stepRefusal, evalRefusal, evalAtOf, evalOf}
-use Rattle.evaluate.specs.Curve2.{quotient2, curve2Of, told2, found2Of, eval2AtOf, eval2Of}
+use Rattle.evaluate.specs.Curve.{quotient, activeSums, curveOf, answer, foundOf, looked, parameterRefusal, stepRefusal, evalRefusal, evalAtOf, evalOf}
+use Rattle.evaluate.specs.Curve2.{quotient2, curve2Of, told2, answer2, found2Of, eval2AtOf, eval2Of}
 use Rattle.runs.specs.declared.vector.Vector.{Vector}
 use Rattle.evaluate.specs.declared.sums.Sums.{Sums}
 use Rattle.evaluate.specs.declared.curve.CurveDerivs.{CurveDerivs}
 use Rattle.evaluate.specs.declared.curve.CurveAnswer.the-variants.{At, Refused}
 use Rattle.evaluate.specs.declared.curve2.CurveDerivs2.{CurveDerivs2}
-use Rattle.evaluate.specs.declared.curve2.CurveAnswer2.{CurveAnswer2}
 use Rattle.evaluate.specs.declared.curve2.CurveAnswer2.the-variants as two
 use Rattle.evaluate.proofs.Summed.{row-cong}
-use Rattle.evaluate.proofs.Steps.{Fits, step-fits, eval-fits, open-span}
+use Rattle.evaluate.proofs.Steps.{open-span}
 
 -- ---- the sums over a row of the table are the sums over the derivatives
 module _ (p n : ℕ) (ks ps : List Float) (g : Bool) (ws : List Float) (s : ℕ) (v : Float) (R : Reach 195 p n ks s) (ders : List Float)
@@ -58,72 +58,33 @@ module _ (p n : ℕ) (ks ps : List Float) (g : Bool) (ws : List Float) (s : ℕ)
       E ∙ (ap₂ (λ (x : Vector) (y : Sums). quotient2 x y d e) O (active-is true 0 (omega arith) a A)
       ∙ ap₂ (quotient2 (pointOf ps (s - p)) (activeSums p ks ps g ws true s v 0)) (active-is true 1 (omega arith) d B) (active-is true 2 N e C))
 
--- ---- the answers
-module _ (c : Bool) (p : ℕ) (ks ps : List Float) (g : Bool) (ws : List Float) (t : Float) where
-  module _ (r : Refusal) (h : r .number ≡ 0 → ⊥) where
-    at-refused : r ≡ stepRefusal c p ks ps g ws t → Refused r ≡ evalAtOf c p ks ps g ws t
-    unfolding evalAtOf
-    at-refused e = simp (stop e h) (ap Refused e)
-
-    eval-refused : r ≡ evalRefusal c p ks ps g ws t → Refused r ≡ evalOf c p ks ps g ws t
-    unfolding evalOf
-    eval-refused e = simp (stop e h) (ap Refused e)
-
-    at2-refused : r ≡ stepRefusal c p ks ps g ws t → two.Refused r ≡ eval2AtOf c p ks ps g ws t
-    unfolding eval2AtOf
-    at2-refused e = simp (stop e h) (ap two.Refused e)
-
-    eval2-refused : r ≡ evalRefusal c p ks ps g ws t → two.Refused r ≡ eval2Of c p ks ps g ws t
-    unfolding eval2Of
-    eval2-refused e = simp (stop e h) (ap two.Refused e)
-
-  -- what was found where nothing is refused is the step's answer
-  module _ (r : Refusal) (e : r ≡ stepRefusal c p ks ps g ws t) (h : r .number ≡ 0) where
-    at-answered : (d : CurveDerivs) → d ≡ foundOf p ks ps g ws t → At d ≡ evalAtOf c p ks ps g ws t
-    unfolding evalAtOf
-    at-answered d D = simp (skip e h) (ap At D)
-
-    at2-answered : (a : CurveAnswer2) → a ≡ told2 (found2Of p ks ps g ws t) → a ≡ eval2AtOf c p ks ps g ws t
-    unfolding eval2AtOf
-    at2-answered a D = simp (skip e h) D
-
-  -- and the evaluation's
-  module _ (r : Refusal) (e : r ≡ evalRefusal c p ks ps g ws t) (h : r .number ≡ 0) where
-    none : evalRefusal c p ks ps g ws t .number ≡ 0
-    none = sym (ap (λ (x : Refusal). x .number) e) ∙ h
-
-    eval-answered : (d : CurveDerivs) → d ≡ foundOf p ks ps g ws t → At d ≡ evalOf c p ks ps g ws t
-    unfolding evalOf foundOf
-    eval-answered d D = simp (skip e h) (ap At (D ∙ ap (λ (s : ℕ). curveOf p ks ps g ws s (looked p ks ps t)) (open-span p ks ps g ws c t none)))
-
-    eval2-answered : (a : CurveAnswer2) → a ≡ told2 (found2Of p ks ps g ws t) → a ≡ eval2Of c p ks ps g ws t
-    unfolding eval2Of found2Of
-    eval2-answered a D = simp (skip e h) (D ∙ ap (λ (s : ℕ). told2 (curve2Of p ks ps g ws s (looked p ks ps t))) (open-span p ks ps g ws c t none))
-
--- ---- both in one, by whether the table was validated before
+-- ---- the answers: what was found, or the refusal, is the step's and the evaluation's
 module _ (c : Bool) (p : ℕ) (ks ps : List Float) (g : Bool) (ws : List Float) (t : Float) (r : Refusal) where
-  abbrev IsRefusal : Bool → Type 0
-  IsRefusal b = r ≡ cond b (stepRefusal c p ks ps g ws t) (evalRefusal c p ks ps g ws t)
+  pub step-is : r ≡ stepRefusal c p ks ps g ws t → answer r (foundOf p ks ps g ws t) ≡ evalAtOf c p ks ps g ws t
+  unfolding evalAtOf
+  step-is e = ap (λ (x : Refusal). answer x (foundOf p ks ps g ws t)) e
 
-  pub by-fits : (b : Bool) → IsRefusal b → r .number ≡ 0 → Fits p ks ps g ws
-  by-fits true e h = step-fits p ks ps g ws c t (sym (ap (λ (x : Refusal). x .number) e) ∙ h)
-  by-fits false e h = eval-fits p ks ps g ws c t (sym (ap (λ (x : Refusal). x .number) e) ∙ h)
+  pub step2-is : r ≡ stepRefusal c p ks ps g ws t → answer2 r (found2Of p ks ps g ws t) ≡ eval2AtOf c p ks ps g ws t
+  unfolding eval2AtOf
+  step2-is e = ap (λ (x : Refusal). answer2 x (found2Of p ks ps g ws t)) e
 
-  pub by-refused : (b : Bool) → IsRefusal b → (r .number ≡ 0 → ⊥) → Refused r ≡ cond b (evalAtOf c p ks ps g ws t) (evalOf c p ks ps g ws t)
-  by-refused true e h = at-refused c p ks ps g ws t r h e
-  by-refused false e h = eval-refused c p ks ps g ws t r h e
+  module _ (e : r ≡ evalRefusal c p ks ps g ws t) where
+    -- the same where something is refused, and the same span where nothing is
+    spanned : {A : Type 0} (f : ℕ → A) (z : A) → cond (eqb (r .number) 0) (f (searched p (countOf ps) ks (looked p ks ps t))) z
+        ≡ cond (eqb (r .number) 0) (f (spanOf p (countOf ps) ks (looked p ks ps t))) z
+    spanned = where-none (r .number) _ _ (open-span p ks ps g ws c t r e)
 
-  pub by-answered : (b : Bool) → IsRefusal b → r .number ≡ 0 → (d : CurveDerivs) → d ≡ foundOf p ks ps g ws t → At d ≡ cond b (evalAtOf c p ks ps g ws t) (evalOf c p ks ps g ws t)
-  by-answered true e h = at-answered c p ks ps g ws t r e h
-  by-answered false e h = eval-answered c p ks ps g ws t r e h
+    pub eval-is : answer r (foundOf p ks ps g ws t) ≡ evalOf c p ks ps g ws t
+    unfolding foundOf evalOf
+    eval-is =
+        spanned (λ s. At (curveOf p ks ps g ws s (looked p ks ps t))) (Refused r)
+        ∙ ap (λ (x : Refusal). answer x (curveOf p ks ps g ws (spanOf p (countOf ps) ks (looked p ks ps t)) (looked p ks ps t))) e
 
-  pub by2-refused : (b : Bool) → IsRefusal b → (r .number ≡ 0 → ⊥) → two.Refused r ≡ cond b (eval2AtOf c p ks ps g ws t) (eval2Of c p ks ps g ws t)
-  by2-refused true e h = at2-refused c p ks ps g ws t r h e
-  by2-refused false e h = eval2-refused c p ks ps g ws t r h e
-
-  pub by2-answered : (b : Bool) → IsRefusal b → r .number ≡ 0 → (a : CurveAnswer2) → a ≡ told2 (found2Of p ks ps g ws t) → a ≡ cond b (eval2AtOf c p ks ps g ws t) (eval2Of c p ks ps g ws t)
-  by2-answered true e h = at2-answered c p ks ps g ws t r e h
-  by2-answered false e h = eval2-answered c p ks ps g ws t r e h
+    pub eval2-is : answer2 r (found2Of p ks ps g ws t) ≡ eval2Of c p ks ps g ws t
+    unfolding found2Of eval2Of
+    eval2-is =
+        spanned (λ s. told2 (curve2Of p ks ps g ws s (looked p ks ps t))) (two.Refused r)
+        ∙ ap (λ (x : Refusal). answer2 x (curve2Of p ks ps g ws (spanOf p (countOf ps) ks (looked p ks ps t)) (looked p ks ps t))) e
 
 -- ---- where the parameter is not outside the domain, both modes answer alike
 module _ (p : ℕ) (ks ps : List Float) (g : Bool) (ws : List Float) (t : Float) (i : outside p (countOf ps) ks t ≡ false) where

@@ -2,7 +2,7 @@
 -- Assumes nothing.
 use Prim.Native.Nat.{ℕ, _+_, _*_, _≤_, _<_}
 use mathlib.Core.Bool.{Bool, true}
-use mathlib.Core.Path.{_≡_, ap}
+use mathlib.Core.Path.{_≡_, sym, _∙_, ap}
 use mathlib.Core.List.{List}
 use native.Mathlib.Omega.{arith}
 use lib.ListN.{length}
@@ -40,11 +40,7 @@ module _ (c : Bool) (p n : ℕ) (ks : List Float) (t : Float) where
   parameter-open h = let a = orElse-none (degreeRefusal p) (domainRefusal c p n ks t) h in (degree-open p (a .0), domain-open p n ks t c (a .1) .0)
 
 module _ (p : ℕ) (ks ps : List Float) (g : Bool) (ws : List Float) where
-  -- what is asked of runs that fit each other
-  abbrev pub Fits : Type 0
-  Fits = (p ≤ 64) × (curveShape p ks ps g ws .number ≡ 0)
-
-  -- what is read then lies in the runs
+  -- what is read of runs that fit each other lies in them
   module _ (o : Shaped p ks ps g ws) (s : ℕ) (f : Found p (countOf ps) ks s) where
     pub points-reach : s * 3 + 2 < length ps
     points-reach = let l = o .triples in let b = f .below in omega arith
@@ -52,28 +48,33 @@ module _ (p : ℕ) (ks ps : List Float) (g : Bool) (ws : List Float) where
     pub weights-reach : g ≡ true → s < length ws
     weights-reach e = let l = o .weights e in let b = f .below in omega arith
 
-  module _ (c : Bool) (t : Float) where
-    pub step-fits : stepRefusal c p ks ps g ws t .number ≡ 0 → Fits
+  module _ (c : Bool) (t : Float) (r : Refusal) where
+    -- where nothing is refused the runs fit
+    abbrev Fits : Type 0
+    Fits = (r .number ≡ 0 → p ≤ 64) × (r .number ≡ 0 → curveShape p ks ps g ws .number ≡ 0)
+
+    pub step-fits : r ≡ stepRefusal c p ks ps g ws t → Fits
     unfolding stepRefusal
-    step-fits h =
-        let a = orElse-none (curveShape p ks ps g ws) (parameterRefusal c p (countOf ps) ks t) h in
-        (parameter-open c p (countOf ps) ks t (a .1) .0, a .0)
+    step-fits e =
+        let a : r .number ≡ 0 → (curveShape p ks ps g ws .number ≡ 0) × (parameterRefusal c p (countOf ps) ks t .number ≡ 0) =
+        λ h. orElse-none (curveShape p ks ps g ws) (parameterRefusal c p (countOf ps) ks t) (sym (ap (λ (x : Refusal). x .number) e) ∙ h) in
+        (λ h. parameter-open c p (countOf ps) ks t (a h .1) .0, λ h. a h .0)
 
-    pub record EvalOpen : Type 0 where
-      pub curve : ValidCurve p ks ps g ws
-      pub high : p ≤ 64
-      pub parameter : finite t ≡ true
+    record EvalOpen : Type 0 where
+      curve : ValidCurve p ks ps g ws
+      high : p ≤ 64
+      parameter : finite t ≡ true
 
-    pub eval-open : evalRefusal c p ks ps g ws t .number ≡ 0 → EvalOpen
+    eval-open : r ≡ evalRefusal c p ks ps g ws t → r .number ≡ 0 → EvalOpen
     unfolding evalRefusal
-    eval-open h =
-        let a = orElse-none (curveRefusal p ks ps g ws) (parameterRefusal c p (countOf ps) ks t) h in
+    eval-open e h =
+        let a = orElse-none (curveRefusal p ks ps g ws) (parameterRefusal c p (countOf ps) ks t) (sym (ap (λ (x : Refusal). x .number) e) ∙ h) in
         let b = parameter-open c p (countOf ps) ks t (a .1) in
         record { curve = valid-curve p ks ps g ws (a .0); high = b .0; parameter = b .1 }
 
-    pub eval-fits : evalRefusal c p ks ps g ws t .number ≡ 0 → Fits
-    eval-fits h = let o = eval-open h in (o .high, ap (λ (r : Refusal). r .number) (shape-none p ks ps g ws (o .curve)))
+    pub eval-fits : r ≡ evalRefusal c p ks ps g ws t → Fits
+    eval-fits e = (λ h. eval-open e h .high, λ h. ap (λ (x : Refusal). x .number) (shape-none p ks ps g ws (eval-open e h .curve)))
 
-    -- the search has found the span
-    pub open-span : evalRefusal c p ks ps g ws t .number ≡ 0 → searched p (countOf ps) ks (looked p ks ps t) ≡ spanOf p (countOf ps) ks (looked p ks ps t)
-    open-span h = let o = eval-open h in searched-is p (countOf ps) ks t (o .curve .knots) (o .parameter)
+    -- and the search has found the span
+    pub open-span : r ≡ evalRefusal c p ks ps g ws t → r .number ≡ 0 → searched p (countOf ps) ks (looked p ks ps t) ≡ spanOf p (countOf ps) ks (looked p ks ps t)
+    open-span e h = let o = eval-open e h in searched-is p (countOf ps) ks t (o .curve .knots) (o .parameter)

@@ -1,7 +1,7 @@
 -- The answers of `eval_surface_at` and `eval_surface`.
 -- Assumes nothing.
 use Prim.Native.Nat.{ℕ, _+_, _-_, _*_, _/_, _%_, _≤_}
-use mathlib.Core.Bool.{Bool, true, false, not, _||_, cond}
+use mathlib.Core.Bool.{Bool, true, false, not, _||_}
 use mathlib.Core.Path.{_≡_, refl, sym, _∙_, ap, ap₂, subst}
 use mathlib.Core.List.{List}
 use native.Mathlib.Omega.{arith}
@@ -13,10 +13,10 @@ use borrow.Author.Tests.{eqb-true, eq-eqb, not-false}
 use Rattle.exact.specs.Scheme.{dersOf}
 use Rattle.knots.specs.Refusal.{refuse, accepted, along, orElse, net-size, points-uneven, parameter-outside}
 use Rattle.knots.specs.Curve.{countOf}
-use Rattle.knots.specs.Span.{outside, clamped, refusing, clamping, domainRefusal}
+use Rattle.knots.specs.Span.{outside, clamped, refusing, clamping, domainRefusal, spanOf, searched}
 use Rattle.knots.specs.Surface.{surfaceRefusal, ValidSurface}
 use Rattle.knots.specs.declared.refusal.Refusal.{Refusal}
-use Rattle.knots.proofs.Refusals.{passed, orElse-none, stop, skip}
+use Rattle.knots.proofs.Refusals.{passed, orElse-none, where-none}
 use Rattle.knots.proofs.Surfaces.{valid-surface}
 use Rattle.basis.specs.Floats.{floats}
 use Rattle.basis.specs.Basis.{cell, leftOf, rightOf}
@@ -24,7 +24,7 @@ use Rattle.basis.specs.Ders.{basisTable}
 use Rattle.basis.proofs.Whole.{Reach, basis-at}
 use Rattle.knots.specs.Shape.{degreeRefusal, weightShape, knotShape, surfaceShape}
 use Rattle.runs.specs.Point.{pointOf}
-use Rattle.evaluate.specs.Surface.{NetReach, netScale, netSums, surfaceQuotient, activeNet, surfaceOf, surfaceFound, degreesRefusal, parametersRefusal, surfaceStepRefusal}
+use Rattle.evaluate.specs.Surface.{NetReach, netScale, netSums, surfaceQuotient, activeNet, surfaceOf, surfaceAnswer, surfaceFound, degreesRefusal, parametersRefusal, surfaceStepRefusal}
 use Rattle.evaluate.specs.Surface.{surfaceEvalRefusal, surfaceAtOf, evalSurfaceOf}
 use Rattle.runs.specs.declared.vector.Vector.{Vector}
 use Rattle.evaluate.specs.declared.sums.Sums.{Sums}
@@ -118,11 +118,7 @@ module _ (p q : ℕ) (us vs : List Float) (m n : ℕ) (ps : List Float) (g : Boo
         weights-none (countOf ps) g ws (λ e. s .controls .weights e ∙ sym (size-is s)),
       )
 
-  -- what is asked of runs that fit each other
-  abbrev SurfaceFits : Type 0
-  SurfaceFits = (p ≤ 64) × ((q ≤ 64) × (surfaceShape p q us vs m n ps g ws .number ≡ 0))
-
-  -- what is read then lies in the net
+  -- what is read of runs that fit each other lies in the net
   module _ (o : SurfaceShaped) (s t : ℕ) (S : Found p m us s) (T : Found q n vs t) where
     net-reach : NetReach (m * n) n (s - p) p (t - q) q
     net-reach k K =
@@ -139,70 +135,54 @@ module _ (p q : ℕ) (us vs : List Float) (m n : ℕ) (ps : List Float) (g : Boo
     pub weights-net : g ≡ true → NetReach (length ws) n (s - p) p (t - q) q
     weights-net e = subst (λ (l : ℕ). NetReach l n (s - p) p (t - q) q) (sym (o .weights e)) net-reach
 
-  module _ (c : Bool) (u v : Float) where
-    surface-step-fits : surfaceStepRefusal c p q us vs m n ps g ws u v .number ≡ 0 → SurfaceFits
+  module _ (c : Bool) (u v : Float) (r : Refusal) where
+    -- where nothing is refused the runs fit
+    abbrev SurfaceFits : Type 0
+    SurfaceFits = (r .number ≡ 0 → p ≤ 64) × ((r .number ≡ 0 → q ≤ 64) × (r .number ≡ 0 → surfaceShape p q us vs m n ps g ws .number ≡ 0))
+
+    record StepOpen : Type 0 where
+      shape : surfaceShape p q us vs m n ps g ws .number ≡ 0
+      parameters : ParametersOpen c p q us vs m n u v
+
+    step-open : r ≡ surfaceStepRefusal c p q us vs m n ps g ws u v → r .number ≡ 0 → StepOpen
     unfolding surfaceStepRefusal
-    surface-step-fits h =
-        let a = orElse-none (surfaceShape p q us vs m n ps g ws) (parametersRefusal c p q us vs m n u v) h in
-        let b = parameters-open c p q us vs m n u v (a .1) in
-        (b .u-high, (b .v-high, a .0))
+    step-open e h =
+        let a = orElse-none (surfaceShape p q us vs m n ps g ws) (parametersRefusal c p q us vs m n u v) (sym (ap (λ (x : Refusal). x .number) e) ∙ h) in
+        record { shape = a .0; parameters = parameters-open c p q us vs m n u v (a .1) }
+
+    pub surface-step-fits : r ≡ surfaceStepRefusal c p q us vs m n ps g ws u v → SurfaceFits
+    surface-step-fits e = (λ h. step-open e h .parameters .u-high, (λ h. step-open e h .parameters .v-high, λ h. step-open e h .shape))
 
     record SurfaceOpen : Type 0 where
       surface : ValidSurface p q us vs m n ps g ws
       parameters : ParametersOpen c p q us vs m n u v
 
-    surface-open : surfaceEvalRefusal c p q us vs m n ps g ws u v .number ≡ 0 → SurfaceOpen
+    surface-open : r ≡ surfaceEvalRefusal c p q us vs m n ps g ws u v → r .number ≡ 0 → SurfaceOpen
     unfolding surfaceEvalRefusal
-    surface-open h =
-        let a = orElse-none (surfaceRefusal p q us vs m n ps g ws) (parametersRefusal c p q us vs m n u v) h in
+    surface-open e h =
+        let a = orElse-none (surfaceRefusal p q us vs m n ps g ws) (parametersRefusal c p q us vs m n u v) (sym (ap (λ (x : Refusal). x .number) e) ∙ h) in
         record { surface = valid-surface p q us vs m n ps g ws (a .0); parameters = parameters-open c p q us vs m n u v (a .1) }
 
-    surface-eval-fits : surfaceEvalRefusal c p q us vs m n ps g ws u v .number ≡ 0 → SurfaceFits
-    surface-eval-fits h =
-        let o = surface-open h in
-        (o .parameters .u-high, (o .parameters .v-high, ap (λ (r : Refusal). r .number) (surface-shape-none (o .surface))))
+    pub surface-eval-fits : r ≡ surfaceEvalRefusal c p q us vs m n ps g ws u v → SurfaceFits
+    surface-eval-fits e =
+        (λ h. surface-open e h .parameters .u-high, (λ h. surface-open e h .parameters .v-high, λ h. ap (λ (x : Refusal). x .number) (surface-shape-none (surface-open e h .surface))))
 
-    -- ---- the answers
-    module _ (r : Refusal) (h : r .number ≡ 0 → ⊥) where
-      surface-at-refused : r ≡ surfaceStepRefusal c p q us vs m n ps g ws u v → Refused r ≡ surfaceAtOf c p q us vs m n ps g ws u v
-      unfolding surfaceAtOf
-      surface-at-refused e = simp (stop e h) (ap Refused e)
+    -- ---- the answers: what was found, or the refusal, is the step's and the evaluation's
+    pub surface-step-is : r ≡ surfaceStepRefusal c p q us vs m n ps g ws u v → surfaceAnswer r (surfaceFound p q us vs m n ps g ws u v) ≡ surfaceAtOf c p q us vs m n ps g ws u v
+    unfolding surfaceAtOf
+    surface-step-is e = ap (λ (x : Refusal). surfaceAnswer x (surfaceFound p q us vs m n ps g ws u v)) e
 
-      surface-refused : r ≡ surfaceEvalRefusal c p q us vs m n ps g ws u v → Refused r ≡ evalSurfaceOf c p q us vs m n ps g ws u v
-      unfolding evalSurfaceOf
-      surface-refused e = simp (stop e h) (ap Refused e)
-
-    -- what was found where nothing is refused is the step's answer, and the evaluation's
-    module _ (r : Refusal) (h : r .number ≡ 0) (d : SurfaceDerivs) (D : d ≡ surfaceFound p q us vs m n ps g ws u v) where
-      surface-at-answered : r ≡ surfaceStepRefusal c p q us vs m n ps g ws u v → At d ≡ surfaceAtOf c p q us vs m n ps g ws u v
-      unfolding surfaceAtOf
-      surface-at-answered e = simp (skip e h) (ap At D)
-
-      surface-answered : r ≡ surfaceEvalRefusal c p q us vs m n ps g ws u v → At d ≡ evalSurfaceOf c p q us vs m n ps g ws u v
-      unfolding evalSurfaceOf surfaceFound
-      surface-answered e =
-          let o = surface-open (sym (ap (λ (x : Refusal). x .number) e) ∙ h) in
-          let a = searched-is p m us u (o .surface .u) (domain-open p m us u c (o .parameters .u-open) .0) in
-          let b = searched-is q n vs v (o .surface .v) (domain-open q n vs v c (o .parameters .v-open) .0) in
-          simp (skip e h) (ap At (D ∙ ap₂ (λ (i j : ℕ). surfaceOf p q us vs n ps g ws i j (clamped p m us u) (clamped q n vs v)) a b))
-
-  -- ---- both in one, by whether the surface was validated before
-  module _ (c : Bool) (u v : Float) (r : Refusal) where
-    abbrev IsRefusal : Bool → Type 0
-    IsRefusal b = r ≡ cond b (surfaceStepRefusal c p q us vs m n ps g ws u v) (surfaceEvalRefusal c p q us vs m n ps g ws u v)
-
-    pub surface-by-fits : (b : Bool) → IsRefusal b → r .number ≡ 0 → SurfaceFits
-    surface-by-fits true e h = surface-step-fits c u v (sym (ap (λ (x : Refusal). x .number) e) ∙ h)
-    surface-by-fits false e h = surface-eval-fits c u v (sym (ap (λ (x : Refusal). x .number) e) ∙ h)
-
-    pub surface-by-refused : (b : Bool) → IsRefusal b → (r .number ≡ 0 → ⊥) → Refused r ≡ cond b (surfaceAtOf c p q us vs m n ps g ws u v) (evalSurfaceOf c p q us vs m n ps g ws u v)
-    surface-by-refused true e h = surface-at-refused c u v r h e
-    surface-by-refused false e h = surface-refused c u v r h e
-
-    pub surface-by-answered : (b : Bool) → IsRefusal b → r .number ≡ 0 → (d : SurfaceDerivs) → d ≡ surfaceFound p q us vs m n ps g ws u v
-        → At d ≡ cond b (surfaceAtOf c p q us vs m n ps g ws u v) (evalSurfaceOf c p q us vs m n ps g ws u v)
-    surface-by-answered true e h d D = surface-at-answered c u v r h d D e
-    surface-by-answered false e h d D = surface-answered c u v r h d D e
+    pub surface-eval-is : r ≡ surfaceEvalRefusal c p q us vs m n ps g ws u v → surfaceAnswer r (surfaceFound p q us vs m n ps g ws u v) ≡ evalSurfaceOf c p q us vs m n ps g ws u v
+    unfolding surfaceFound evalSurfaceOf
+    surface-eval-is e =
+        let along-u : r .number ≡ 0 → searched p m us (clamped p m us u) ≡ spanOf p m us (clamped p m us u) = λ h.
+        searched-is p m us u (surface-open e h .surface .u) (domain-open p m us u c (surface-open e h .parameters .u-open) .0) in
+        let along-v : r .number ≡ 0 → searched q n vs (clamped q n vs v) ≡ spanOf q n vs (clamped q n vs v) = λ h.
+        searched-is q n vs v (surface-open e h .surface .v) (domain-open q n vs v c (surface-open e h .parameters .v-open) .0) in
+        let at : ℕ → ℕ → SurfaceDerivs = λ s t. surfaceOf p q us vs n ps g ws s t (clamped p m us u) (clamped q n vs v) in
+        where-none (r .number) _ _ along-u (λ (s : ℕ). At (at s (searched q n vs (clamped q n vs v)))) (Refused r)
+        ∙ (where-none (r .number) _ _ along-v (λ (t : ℕ). At (at (spanOf p m us (clamped p m us u)) t)) (Refused r)
+        ∙ ap (λ (x : Refusal). surfaceAnswer x (at (spanOf p m us (clamped p m us u)) (spanOf q n vs (clamped q n vs v)))) e)
 
   -- ---- where neither parameter is outside the domain, both modes answer alike
   pub surface-inside-same : (u v : Float) → outside p m us u ≡ false → outside q n vs v ≡ false

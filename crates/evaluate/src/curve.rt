@@ -1,7 +1,8 @@
 // Point and derivative of a curve: eval, and the step that it takes after validation.
 use crate::controls::scale_at;
 use crate::controls::value_and_slope;
-use crate::refusals::refusal_by;
+use crate::refusals::eval_refusal;
+use crate::refusals::step_refusal;
 use crate::sums::Sums;
 use basis::ders::basis_derivatives;
 use knots::refusal::Refusal;
@@ -10,12 +11,12 @@ use knots::span::span_of;
 use runs::points::point_at;
 use runs::vector::Vector;
 ghost use mathlib.Core.Path.{_≡_};
-ghost use mathlib.Core.Bool.{true, cond};
+ghost use mathlib.Core.Bool.{true};
 ghost use Prim.Native.Nat.{_+_, _*_, _<_, _≤_};
 ghost use lib.ListN.{length};
 ghost use Rattle.knots.specs.Span.{refusing, clamping};
 ghost use Rattle.knots.specs.Shape.{curveShape};
-ghost use Rattle.evaluate.specs.Curve.{quotient, curveOf, foundOf, evalAtOf, evalOf};
+ghost use Rattle.evaluate.specs.Curve.{quotient, curveOf, answer, foundOf, evalAtOf, evalOf};
 
 pub struct CurveDerivs {
     pub point: Vector,
@@ -93,10 +94,9 @@ fn found_at(
     curve_at(span, u, degree, knots, points, rational, weights)
 }
 
-// The point and the first derivative at t, in a mode, of a curve that was validated before or is validated here. One function for all: a call more on the way costs a tenth of a cubic's point.
-fn eval_by(
-    validated: bool,
-    clamping: bool,
+// The refusal, or the point and the first derivative at t of runs that fit each other where there is none.
+fn eval_with(
+    refusal: Refusal,
     degree: usize,
     knots: &[f64],
     points: &[f64],
@@ -104,18 +104,10 @@ fn eval_by(
     weights: &[f64],
     t: f64,
 ) -> CurveAnswer
-    ensures { λ r. ⌜ r ≡ cond validated (evalAtOf clamping degree (now (knots .entry)) (now (points .entry)) rational (now (weights .entry)) t) (evalOf clamping degree (now (knots .entry)) (now (points .entry)) rational (now (weights .entry)) t) ⌝ }
+    requires { ⌜ (refusal .number ≡ 0 → degree ≤ 64) ⌝ }
+    requires { ⌜ (refusal .number ≡ 0 → curveShape degree (now knots) (now points) rational (now weights) .number ≡ 0) ⌝ }
+    ensures { λ r. ⌜ r ≡ answer refusal (foundOf degree (now (knots .entry)) (now (points .entry)) rational (now (weights .entry)) t) ⌝ }
 {
-    let refusal = refusal_by(
-        validated,
-        clamping,
-        degree,
-        knots,
-        points,
-        rational,
-        weights,
-        t,
-    );
     if refusal.number != 0 {
         return CurveAnswer::Refused(refusal);
     }
@@ -134,7 +126,8 @@ pub fn eval_step(
 ) -> CurveAnswer
     ensures { λ r. ⌜ r ≡ evalAtOf clamping degree (now (knots .entry)) (now (points .entry)) rational (now (weights .entry)) t ⌝ }
 {
-    eval_by(true, clamping, degree, knots, points, rational, weights, t)
+    let refusal = step_refusal(clamping, degree, knots, points, rational, weights, t);
+    eval_with(refusal, degree, knots, points, rational, weights, t)
 }
 
 // The same where a t outside the domain is refused.
@@ -148,7 +141,7 @@ pub fn eval_at(
 ) -> CurveAnswer
     ensures { λ r. ⌜ r ≡ evalAtOf refusing degree (now (knots .entry)) (now (points .entry)) rational (now (weights .entry)) t ⌝ }
 {
-    eval_by(true, false, degree, knots, points, rational, weights, t)
+    eval_step(false, degree, knots, points, rational, weights, t)
 }
 
 // The point and the first derivative of a curve at t, or a refusal: 43 where t lies outside the domain.
@@ -162,7 +155,8 @@ pub fn eval(
 ) -> CurveAnswer
     ensures { λ r. ⌜ r ≡ evalOf refusing degree (now (knots .entry)) (now (points .entry)) rational (now (weights .entry)) t ⌝ }
 {
-    eval_by(false, false, degree, knots, points, rational, weights, t)
+    let refusal = eval_refusal(false, degree, knots, points, rational, weights, t);
+    eval_with(refusal, degree, knots, points, rational, weights, t)
 }
 
 // The same, where a finite t outside the domain becomes the nearer end.
@@ -176,5 +170,6 @@ pub fn eval_clamped(
 ) -> CurveAnswer
     ensures { λ r. ⌜ r ≡ evalOf clamping degree (now (knots .entry)) (now (points .entry)) rational (now (weights .entry)) t ⌝ }
 {
-    eval_by(false, true, degree, knots, points, rational, weights, t)
+    let refusal = eval_refusal(true, degree, knots, points, rational, weights, t);
+    eval_with(refusal, degree, knots, points, rational, weights, t)
 }

@@ -1,7 +1,8 @@
 // Point and two derivatives of a curve: eval2, and the step that it takes after validation.
 use crate::controls::row_sums;
 use crate::controls::scale_at;
-use crate::refusals::refusal_by;
+use crate::refusals::eval_refusal;
+use crate::refusals::step_refusal;
 use crate::sums::Sums;
 use basis::ders::basis_derivatives;
 use knots::refusal::Refusal;
@@ -12,12 +13,12 @@ use runs::points::point_at;
 use runs::vector::Vector;
 use runs::vector::finite_vector;
 ghost use mathlib.Core.Path.{_≡_};
-ghost use mathlib.Core.Bool.{true, cond};
+ghost use mathlib.Core.Bool.{true};
 ghost use Prim.Native.Nat.{_+_, _*_, _<_, _≤_};
 ghost use lib.ListN.{length};
 ghost use Rattle.knots.specs.Span.{refusing, clamping};
 ghost use Rattle.knots.specs.Shape.{curveShape};
-ghost use Rattle.evaluate.specs.Curve2.{quotient2, curve2Of, finite2, told2, found2Of, eval2AtOf, eval2Of};
+ghost use Rattle.evaluate.specs.Curve2.{quotient2, curve2Of, finite2, told2, answer2, found2Of, eval2AtOf, eval2Of};
 
 pub struct CurveDerivs2 {
     pub point: Vector,
@@ -132,10 +133,9 @@ fn told2_of(r: CurveDerivs2) -> CurveAnswer2
     CurveAnswer2::Refused(refuse(21))
 }
 
-// The point and two derivatives at t, in a mode, of a curve that was validated before or is validated here. One function for all: a call more on the way costs a tenth of a cubic's point.
-fn eval2_by(
-    validated: bool,
-    clamping: bool,
+// The refusal, or the point and two derivatives at t of runs that fit each other where there is none.
+fn eval2_with(
+    refusal: Refusal,
     degree: usize,
     knots: &[f64],
     points: &[f64],
@@ -143,18 +143,10 @@ fn eval2_by(
     weights: &[f64],
     t: f64,
 ) -> CurveAnswer2
-    ensures { λ r. ⌜ r ≡ cond validated (eval2AtOf clamping degree (now (knots .entry)) (now (points .entry)) rational (now (weights .entry)) t) (eval2Of clamping degree (now (knots .entry)) (now (points .entry)) rational (now (weights .entry)) t) ⌝ }
+    requires { ⌜ (refusal .number ≡ 0 → degree ≤ 64) ⌝ }
+    requires { ⌜ (refusal .number ≡ 0 → curveShape degree (now knots) (now points) rational (now weights) .number ≡ 0) ⌝ }
+    ensures { λ r. ⌜ r ≡ answer2 refusal (found2Of degree (now (knots .entry)) (now (points .entry)) rational (now (weights .entry)) t) ⌝ }
 {
-    let refusal = refusal_by(
-        validated,
-        clamping,
-        degree,
-        knots,
-        points,
-        rational,
-        weights,
-        t,
-    );
     if refusal.number != 0 {
         return CurveAnswer2::Refused(refusal);
     }
@@ -173,7 +165,8 @@ pub fn eval2_step(
 ) -> CurveAnswer2
     ensures { λ r. ⌜ r ≡ eval2AtOf clamping degree (now (knots .entry)) (now (points .entry)) rational (now (weights .entry)) t ⌝ }
 {
-    eval2_by(true, clamping, degree, knots, points, rational, weights, t)
+    let refusal = step_refusal(clamping, degree, knots, points, rational, weights, t);
+    eval2_with(refusal, degree, knots, points, rational, weights, t)
 }
 
 // The same where a t outside the domain is refused.
@@ -187,7 +180,7 @@ pub fn eval2_at(
 ) -> CurveAnswer2
     ensures { λ r. ⌜ r ≡ eval2AtOf refusing degree (now (knots .entry)) (now (points .entry)) rational (now (weights .entry)) t ⌝ }
 {
-    eval2_by(true, false, degree, knots, points, rational, weights, t)
+    eval2_step(false, degree, knots, points, rational, weights, t)
 }
 
 // The point and two derivatives of a curve at t, or a refusal: 43 where t lies outside the domain, 21 where one of the numbers is not finite.
@@ -201,7 +194,8 @@ pub fn eval2(
 ) -> CurveAnswer2
     ensures { λ r. ⌜ r ≡ eval2Of refusing degree (now (knots .entry)) (now (points .entry)) rational (now (weights .entry)) t ⌝ }
 {
-    eval2_by(false, false, degree, knots, points, rational, weights, t)
+    let refusal = eval_refusal(false, degree, knots, points, rational, weights, t);
+    eval2_with(refusal, degree, knots, points, rational, weights, t)
 }
 
 // The same, where a finite t outside the domain becomes the nearer end.
@@ -215,5 +209,6 @@ pub fn eval2_clamped(
 ) -> CurveAnswer2
     ensures { λ r. ⌜ r ≡ eval2Of clamping degree (now (knots .entry)) (now (points .entry)) rational (now (weights .entry)) t ⌝ }
 {
-    eval2_by(false, true, degree, knots, points, rational, weights, t)
+    let refusal = eval_refusal(true, degree, knots, points, rational, weights, t);
+    eval2_with(refusal, degree, knots, points, rational, weights, t)
 }

@@ -7,7 +7,6 @@ use knots::shape::surface_shape;
 use knots::span::domain_refusal;
 use knots::surface::surface_refusal;
 ghost use mathlib.Core.Path.{_≡_};
-ghost use mathlib.Core.Bool.{cond};
 ghost use Rattle.evaluate.specs.Curve.{parameterRefusal, stepRefusal, evalRefusal};
 ghost use Rattle.evaluate.specs.Surface.{degreesRefusal, parametersRefusal, surfaceStepRefusal, surfaceEvalRefusal};
 
@@ -66,25 +65,6 @@ pub fn eval_refusal(
     }
     let count = points.len() / 3;
     parameter_refusal(clamping, degree, count, knots, t)
-}
-
-// One of the two: of a step where the table was validated before, else of an evaluation.
-pub fn refusal_by(
-    validated: bool,
-    clamping: bool,
-    degree: usize,
-    knots: &[f64],
-    points: &[f64],
-    rational: bool,
-    weights: &[f64],
-    t: f64,
-) -> Refusal
-    ensures { λ r. ⌜ r ≡ cond validated (stepRefusal clamping degree (now (knots .entry)) (now (points .entry)) rational (now (weights .entry)) t) (evalRefusal clamping degree (now (knots .entry)) (now (points .entry)) rational (now (weights .entry)) t) ⌝ }
-{
-    if validated {
-        return step_refusal(clamping, degree, knots, points, rational, weights, t);
-    }
-    eval_refusal(clamping, degree, knots, points, rational, weights, t)
 }
 
 // Refusal 31 of either direction.
@@ -169,54 +149,4 @@ pub fn surface_eval_refusal(
         return refusal;
     }
     parameters_refusal(clamping, p, q, uk, vk, m, n, u, v)
-}
-
-// One of the two: of a step where the surface was validated before, else of an evaluation.
-pub fn surface_refusal_by(
-    validated: bool,
-    clamping: bool,
-    p: usize,
-    q: usize,
-    uk: &[f64],
-    vk: &[f64],
-    m: usize,
-    n: usize,
-    points: &[f64],
-    rational: bool,
-    weights: &[f64],
-    u: f64,
-    v: f64,
-) -> Refusal
-    ensures { λ r. ⌜ r ≡ cond validated (surfaceStepRefusal clamping p q (now (uk .entry)) (now (vk .entry)) m n (now (points .entry)) rational (now (weights .entry)) u v) (surfaceEvalRefusal clamping p q (now (uk .entry)) (now (vk .entry)) m n (now (points .entry)) rational (now (weights .entry)) u v) ⌝ }
-{
-    if validated {
-        return surface_step_refusal(
-            clamping,
-            p,
-            q,
-            uk,
-            vk,
-            m,
-            n,
-            points,
-            rational,
-            weights,
-            u,
-            v,
-        );
-    }
-    surface_eval_refusal(
-        clamping,
-        p,
-        q,
-        uk,
-        vk,
-        m,
-        n,
-        points,
-        rational,
-        weights,
-        u,
-        v,
-    )
 }

@@ -2,7 +2,8 @@
 use crate::net::Net;
 use crate::net::net_scale;
 use crate::net::net_sums;
-use crate::refusals::surface_refusal_by;
+use crate::refusals::surface_eval_refusal;
+use crate::refusals::surface_step_refusal;
 use crate::sums::Sums;
 use basis::ders::basis_derivatives;
 use knots::refusal::Refusal;
@@ -11,12 +12,12 @@ use knots::span::span_of;
 use runs::points::point_at;
 use runs::vector::Vector;
 ghost use mathlib.Core.Path.{_≡_};
-ghost use mathlib.Core.Bool.{true, cond};
+ghost use mathlib.Core.Bool.{true};
 ghost use Prim.Native.Nat.{_+_, _-_, _*_, _/_, _<_, _≤_};
 ghost use lib.ListN.{length};
 ghost use Rattle.knots.specs.Span.{refusing, clamping};
 ghost use Rattle.knots.specs.Shape.{surfaceShape};
-ghost use Rattle.evaluate.specs.Surface.{NetReach, surfaceQuotient, surfaceOf, surfaceFound, surfaceAtOf, evalSurfaceOf};
+ghost use Rattle.evaluate.specs.Surface.{NetReach, surfaceQuotient, surfaceOf, surfaceAnswer, surfaceFound, surfaceAtOf, evalSurfaceOf};
 
 pub struct SurfaceDerivs {
     pub point: Vector,
@@ -129,10 +130,9 @@ fn surface_found(
     surface_at(s, t, x, y, p, q, uk, vk, n, points, rational, weights)
 }
 
-// The point and the first partial derivatives at u and v, in a mode, of a surface that was validated before or is validated here.
-fn surface_by(
-    validated: bool,
-    clamping: bool,
+// The refusal, or the point and the first partial derivatives of runs that fit each other where there is none.
+fn surface_with(
+    refusal: Refusal,
     p: usize,
     q: usize,
     uk: &[f64],
@@ -145,23 +145,11 @@ fn surface_by(
     u: f64,
     v: f64,
 ) -> SurfaceAnswer
-    ensures { λ r. ⌜ r ≡ cond validated (surfaceAtOf clamping p q (now (uk .entry)) (now (vk .entry)) m n (now (points .entry)) rational (now (weights .entry)) u v) (evalSurfaceOf clamping p q (now (uk .entry)) (now (vk .entry)) m n (now (points .entry)) rational (now (weights .entry)) u v) ⌝ }
+    requires { ⌜ (refusal .number ≡ 0 → p ≤ 64) ⌝ }
+    requires { ⌜ (refusal .number ≡ 0 → q ≤ 64) ⌝ }
+    requires { ⌜ (refusal .number ≡ 0 → surfaceShape p q (now uk) (now vk) m n (now points) rational (now weights) .number ≡ 0) ⌝ }
+    ensures { λ r. ⌜ r ≡ surfaceAnswer refusal (surfaceFound p q (now (uk .entry)) (now (vk .entry)) m n (now (points .entry)) rational (now (weights .entry)) u v) ⌝ }
 {
-    let refusal = surface_refusal_by(
-        validated,
-        clamping,
-        p,
-        q,
-        uk,
-        vk,
-        m,
-        n,
-        points,
-        rational,
-        weights,
-        u,
-        v,
-    );
     if refusal.number != 0 {
         return SurfaceAnswer::Refused(refusal);
     }
@@ -184,21 +172,8 @@ pub fn eval_surface_at(
 ) -> SurfaceAnswer
     ensures { λ r. ⌜ r ≡ surfaceAtOf refusing p q (now (uk .entry)) (now (vk .entry)) m n (now (points .entry)) rational (now (weights .entry)) u v ⌝ }
 {
-    surface_by(
-        true,
-        false,
-        p,
-        q,
-        uk,
-        vk,
-        m,
-        n,
-        points,
-        rational,
-        weights,
-        u,
-        v,
-    )
+    let refusal = surface_step_refusal(false, p, q, uk, vk, m, n, points, rational, weights, u, v);
+    surface_with(refusal, p, q, uk, vk, m, n, points, rational, weights, u, v)
 }
 
 // The point and the first partial derivatives of a surface of degrees p and q, knots uk and vk, m · n points, or a refusal: 43 where u or v lies outside the domain.
@@ -217,21 +192,8 @@ pub fn eval_surface(
 ) -> SurfaceAnswer
     ensures { λ r. ⌜ r ≡ evalSurfaceOf refusing p q (now (uk .entry)) (now (vk .entry)) m n (now (points .entry)) rational (now (weights .entry)) u v ⌝ }
 {
-    surface_by(
-        false,
-        false,
-        p,
-        q,
-        uk,
-        vk,
-        m,
-        n,
-        points,
-        rational,
-        weights,
-        u,
-        v,
-    )
+    let refusal = surface_eval_refusal(false, p, q, uk, vk, m, n, points, rational, weights, u, v);
+    surface_with(refusal, p, q, uk, vk, m, n, points, rational, weights, u, v)
 }
 
 // The same, where finite parameters outside the domain become the nearer ends.
@@ -250,19 +212,6 @@ pub fn eval_surface_clamped(
 ) -> SurfaceAnswer
     ensures { λ r. ⌜ r ≡ evalSurfaceOf clamping p q (now (uk .entry)) (now (vk .entry)) m n (now (points .entry)) rational (now (weights .entry)) u v ⌝ }
 {
-    surface_by(
-        false,
-        true,
-        p,
-        q,
-        uk,
-        vk,
-        m,
-        n,
-        points,
-        rational,
-        weights,
-        u,
-        v,
-    )
+    let refusal = surface_eval_refusal(true, p, q, uk, vk, m, n, points, rational, weights, u, v);
+    surface_with(refusal, p, q, uk, vk, m, n, points, rational, weights, u, v)
 }

@@ -55,3 +55,11 @@ orElse-none a b = go (eqb (a .number) 0) refl
     go : (t : Bool) → eqb (a .number) 0 ≡ t → cond t b a .number ≡ 0 → (a .number ≡ 0) × (b .number ≡ 0)
     go true e h = (eqb-true (a .number) 0 e, h)
     go false e h = absurd (eqb-false (a .number) 0 e h)
+
+-- what differs only where something is refused is asked alike
+pub where-none : {A X : Type 0} (n : ℕ) (x y : X) → (n ≡ 0 → x ≡ y) → (f : X → A) (z : A) → cond (eqb n 0) (f x) z ≡ cond (eqb n 0) (f y) z
+where-none {A} {X} n x y e f z = go (eqb n 0) refl
+  where
+    go : (b : Bool) → eqb n 0 ≡ b → cond b (f x) z ≡ cond b (f y) z
+    go true h = ap f (e (eqb-true n 0 h))
+    go false h = refl

@@ -7,7 +7,6 @@ use mathlib.Core.List.{List, [], _∷_, _++_}
 use native.Mathlib.Omega.{arith}
 use native.Mathlib.Nat.{le-trans, suc-mul, mul-le-mul-right}
 use native.Mathlib.Numerals.{add-one}
-use borrow.Author.Tests.{eqb-true}
 use lib.Dec.{eqb}
 use lib.ListN.{length, take, replicate, length-replicate}
 use lib.Seq.{sets, take-suc, take-length}
@@ -19,7 +18,7 @@ use Rattle.knots.specs.Clear.{zeros}
 use Rattle.knots.specs.Refusal.{refuse, length-bad}
 use Rattle.knots.specs.Curve.{overLong, countOf, ValidCurve}
 use Rattle.knots.specs.declared.refusal.Refusal.{Refusal}
-use Rattle.knots.proofs.Refusals.{passed, orElse-none}
+use Rattle.knots.proofs.Refusals.{passed, orElse-none, where-none}
 use Rattle.knots.proofs.Curves.{within, curve-not-refused}
 use Rattle.evaluate.specs.Curve.{curveOf, foundOf, looked, parameterRefusal, stepRefusal, evalRefusal, evalAtOf, evalOf}
 use Rattle.evaluate.specs.Curve2.{curve2Of, told2, found2Of, eval2AtOf, eval2Of}
@@ -75,16 +74,12 @@ module _ (c : Bool) (p : ℕ) (ks ps : List Float) (g : Bool) (ws : List Float) 
     eval-is = simp (curve-not-refused p ks ps g ws v)
 
     -- a parameter that is not refused is looked up in the same span, and of another no point is asked
-    same-span : eqb (parameterRefusal c p (countOf ps) ks t .number) 0 ≡ true → searched p (countOf ps) ks (looked p ks ps t) ≡ spanOf p (countOf ps) ks (looked p ks ps t)
-    same-span e = searched-is p (countOf ps) ks t (v .knots) (parameter-open c p (countOf ps) ks t (eqb-true (parameterRefusal c p (countOf ps) ks t .number) 0 e) .1)
+    same-span : parameterRefusal c p (countOf ps) ks t .number ≡ 0 → searched p (countOf ps) ks (looked p ks ps t) ≡ spanOf p (countOf ps) ks (looked p ks ps t)
+    same-span h = searched-is p (countOf ps) ks t (v .knots) (parameter-open c p (countOf ps) ks t h .1)
 
     asked : {A : Type 0} (f : ℕ → A) (z : A) → cond (eqb (parameterRefusal c p (countOf ps) ks t .number) 0) (f (searched p (countOf ps) ks (looked p ks ps t))) z
         ≡ cond (eqb (parameterRefusal c p (countOf ps) ks t .number) 0) (f (spanOf p (countOf ps) ks (looked p ks ps t))) z
-    asked {A} f z = go (eqb (parameterRefusal c p (countOf ps) ks t .number) 0) refl
-      where
-        go : (b : Bool) → eqb (parameterRefusal c p (countOf ps) ks t .number) 0 ≡ b → cond b (f (searched p (countOf ps) ks (looked p ks ps t))) z ≡ cond b (f (spanOf p (countOf ps) ks (looked p ks ps t))) z
-        go true e = ap f (same-span e)
-        go false e = refl
+    asked = where-none (parameterRefusal c p (countOf ps) ks t .number) _ _ same-span
 
     pub valid-answered : evalAtOf c p ks ps g ws t ≡ evalOf c p ks ps g ws t
     unfolding evalAtOf foundOf evalOf
