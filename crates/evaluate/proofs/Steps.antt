@@ -2,7 +2,7 @@
 -- Assumes nothing.
 use Prim.Native.Nat.{ℕ, _+_, _*_, _≤_, _<_}
 use mathlib.Core.Bool.{Bool, true}
-use mathlib.Core.Path.{_≡_, sym, _∙_, ap}
+use mathlib.Core.Path.{_≡_, sym, _∙_, ap, subst}
 use mathlib.Core.List.{List}
 use native.Mathlib.Omega.{arith}
 use lib.ListN.{length}
@@ -14,7 +14,7 @@ use Rattle.knots.specs.Span.{searched, spanOf, domainRefusal}
 use Rattle.knots.proofs.Refusals.{orElse-none}
 use Rattle.knots.proofs.Curves.{valid-curve}
 use Rattle.knots.specs.Shape.{degreeRefusal, curveShape}
-use Rattle.knots.proofs.Shapes.{degree-open, Fitting, Shaped, shape-none}
+use Rattle.knots.proofs.Shapes.{degree-open, Fitting, shaped, shape-none}
 use Rattle.evaluate.specs.Curve.{parameterRefusal, stepRefusal, evalRefusal, looked}
 use Rattle.knots.proofs.Searches.{searched-in, searched-is}
 use Rattle.knots.proofs.Answers.{domain-open}
@@ -40,13 +40,15 @@ module _ (c : Bool) (p n : ℕ) (ks : List Float) (t : Float) where
   parameter-open h = let a = orElse-none (degreeRefusal p) (domainRefusal c p n ks t) h in (degree-open p (a .0), domain-open p n ks t c (a .1) .0)
 
 module _ (p : ℕ) (ks ps : List Float) (g : Bool) (ws : List Float) where
-  -- what is read of runs that fit each other lies in them
-  module _ (o : Shaped p ks ps g ws) (s : ℕ) (f : Found p (countOf ps) ks s) where
-    pub points-reach : s * 3 + 2 < length ps
-    points-reach = let l = o .triples in let b = f .below in omega arith
-
-    pub weights-reach : g ≡ true → s < length ws
-    weights-reach e = let l = o .weights e in let b = f .below in omega arith
+  -- what is read of runs that fit each other, on the span that the search finds, lies in them
+  pub found-reach : p ≤ 64 → curveShape p ks ps g ws .number ≡ 0 → (v : Float) (s : ℕ) → s ≡ searched p (countOf ps) ks v
+      → (0 < p) × ((p ≤ 64) × ((p ≤ s) × ((s + p < length ks) × ((s * 3 + 2 < length ps) × (g ≡ true → s < length ws)))))
+  found-reach H h v s e =
+      let o = shaped p ks ps g ws h in
+      let f = subst (Found p (countOf ps) ks) (sym e) (found p (countOf ps) ks (o .knots) v) in
+      let l = o .triples in
+      let b = f .below in
+      (o .knots .degree, (H, (f .from, (f .reach, (omega arith, λ q. let w = o .weights q in omega arith)))))
 
   module _ (c : Bool) (t : Float) (r : Refusal) where
     -- where nothing is refused the runs fit

@@ -1,12 +1,9 @@
 -- `evaluate::curve::found_at` meets its contract.
 -- Assumes nothing.
-use mathlib.Core.Path.{sym, _∙_, ap₂, subst}
+use mathlib.Core.Path.{_∙_, ap₂}
 use denote.Ref.{now}
-use Rattle.knots.specs.Curve.{countOf}
-use Rattle.knots.proofs.Shapes.{shaped}
-use Rattle.evaluate.specs.Curve.{looked}
 use Rattle.evaluate.specs.Curve.{curveOf, foundOf}
-use Rattle.evaluate.proofs.Steps.{Found, found, points-reach, weights-reach}
+use Rattle.evaluate.proofs.Steps.{found-reach}
 use borrow.Author.Needs.{needs}
 use Rattle.evaluate.proofs.curve.found_at.Statement.{statement}
 use Rattle.evaluate.proofs.curve.found_at.Tie as tie
@@ -21,27 +18,7 @@ curve-at-requires : tie.Need-curve-at-requires
 curve-at-requires c κs =
     let q = c .before .before .before .before .before .pre in
     let a = c .before .before .before .before .before .args in
-    let o = shaped (a .degree) (now (a .knots)) (now (a .points)) (a .rational) (now (a .weights)) (q .1) in
-    let n = countOf (now (a .points)) in
-    let f =
-    subst
-    (Found (a .degree) n (now (a .knots))) (sym (c .before .span-of .ensures .found))
-    (found (a .degree) n (now (a .knots)) (o .knots) (looked (a .degree) (now (a .knots)) (now (a .points)) (a .t))) in (
-      o .knots .degree,
-      (
-        q .0,
-        (
-          f .from,
-          (
-            f .reach,
-            (
-              points-reach (a .degree) (now (a .knots)) (now (a .points)) (a .rational) (now (a .weights)) o _ f,
-              weights-reach (a .degree) (now (a .knots)) (now (a .points)) (a .rational) (now (a .weights)) o _ f,
-            ),
-          ),
-        ),
-      ),
-    )
+    found-reach (a .degree) (now (a .knots)) (now (a .points)) (a .rational) (now (a .weights)) (q .0) (q .1) _ _ (c .before .span-of .ensures .found)
 
 returns : tie.Need-returns
 unfolding foundOf
