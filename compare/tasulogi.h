@@ -21,7 +21,7 @@
  *   direction. 8: the first point with a coordinate that is not finite. 10: the first weight that is none; of a surface both
  *   are i * v_count + j. Where a call refuses the curve that it has formed, the place is in that curve.
  * - 43: a finite parameter lies outside the domain, knots[degree] to knots[count] with both ends, both zeros being one
- *   number. A function whose name ends in _clamped takes the nearer end, and is otherwise the one without it.
+ *   number. A function whose name ends in _clamped takes the nearer end, and is otherwise the one without _clamped.
  * - What a call on curves or surfaces returns has the refusal in its low half, which a uint32_t keeps, and the place in
  *   its high half: at most 2^32 - 1, and 0 where there is none; of an edit that forms a curve the high half is the count of
  *   its points. find_span, clamped or not, and bound_spans answer in the low half, and refuse with the halves exchanged.

@@ -10,7 +10,7 @@ struct tasulogi_refusal {
     const char *text;
 };
 
-/* Each number from 0 to 54 stands at its own place. One that no call gives has the letter and the text of 0. */
+/* Each number from 0 to 54 stands at its own place. One that document 01 does not have has the letter and the text of 0. */
 static const struct tasulogi_refusal tasulogi_refusals[] = {
     { 0, '-', "no refusal of document 01" },
     { 1, 'I', "degree 0" },

@@ -19,7 +19,7 @@
 //! ```
 //!
 //! A loop that runs past the end of a table gets the points inside it, then refusal 43. Methods whose names end in
-//! `_clamped` take the nearer end for a parameter outside the domain.
+//! `_clamped` take the nearer end for a finite parameter outside the domain.
 //!
 //! ```
 //! use tasulogi::TABLE_A;

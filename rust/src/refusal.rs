@@ -1,7 +1,7 @@
 use crate::face;
 use std::fmt;
 
-/// A line for each refusal: number, class, text. Numbers that no call gives have none.
+/// A line for each refusal of document 01: number, class, text.
 const TABLE: &str = include_str!("../../docs/refusals.txt");
 
 /// Along which direction of a surface refusals 1 to 7 were met.

@@ -96,7 +96,7 @@ module _ (p : ℕ) (ks ps : List Float) (g : Bool) (ws : List Float) (t : Float)
   unfolding eval2Of evalRefusal parameterRefusal
   eval2-inside-same = simp (modes-same p (countOf ps) ks t i)
 
--- ---- where it is, and the clamped call is not refused, the other is refused by 43
+-- ---- where it is, and the clamped call is refused by nothing before 21, the other is refused by 43
 module _ (p : ℕ) (ks ps : List Float) (g : Bool) (ws : List Float) (t : Float) (h : evalRefusal clamping p ks ps g ws t .number ≡ 0) (o : outside p (countOf ps) ks t ≡ true) where
   refused-43 : evalRefusal refusing p ks ps g ws t ≡ refuse parameter-outside
   unfolding evalRefusal parameterRefusal

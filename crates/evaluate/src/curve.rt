@@ -1,4 +1,4 @@
-// Point and derivative of a curve: eval, and the step that it takes after validation.
+// Point and derivative of a curve: eval in both modes, and its steps for a curve that was validated before.
 use crate::controls::scale_at;
 use crate::controls::value_and_slope;
 use crate::refusals::eval_refusal;
@@ -116,7 +116,7 @@ fn eval_with(
 
 // The step of eval in a mode, on a curve that was validated before: only lengths, the degree, t and the domain's ends are tested, so that many calls validate once.
 pub fn eval_step(
-    clamping: bool,
+    clamps: bool,
     degree: usize,
     knots: &[f64],
     points: &[f64],
@@ -124,9 +124,9 @@ pub fn eval_step(
     weights: &[f64],
     t: f64,
 ) -> CurveAnswer
-    ensures { λ r. ⌜ r ≡ evalAtOf clamping degree (now (knots .entry)) (now (points .entry)) rational (now (weights .entry)) t ⌝ }
+    ensures { λ r. ⌜ r ≡ evalAtOf clamps degree (now (knots .entry)) (now (points .entry)) rational (now (weights .entry)) t ⌝ }
 {
-    let refusal = step_refusal(clamping, degree, knots, points, rational, weights, t);
+    let refusal = step_refusal(clamps, degree, knots, points, rational, weights, t);
     eval_with(refusal, degree, knots, points, rational, weights, t)
 }
 

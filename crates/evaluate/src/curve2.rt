@@ -1,4 +1,4 @@
-// Point and two derivatives of a curve: eval2, and the step that it takes after validation.
+// Point and two derivatives of a curve: eval2 in both modes, and its steps for a curve that was validated before.
 use crate::controls::row_sums;
 use crate::controls::scale_at;
 use crate::refusals::eval_refusal;
@@ -155,7 +155,7 @@ fn eval2_with(
 
 // The step of eval2 in a mode, on a curve that was validated before: only lengths, the degree, t and the domain's ends are tested, so that many calls validate once.
 pub fn eval2_step(
-    clamping: bool,
+    clamps: bool,
     degree: usize,
     knots: &[f64],
     points: &[f64],
@@ -163,9 +163,9 @@ pub fn eval2_step(
     weights: &[f64],
     t: f64,
 ) -> CurveAnswer2
-    ensures { λ r. ⌜ r ≡ eval2AtOf clamping degree (now (knots .entry)) (now (points .entry)) rational (now (weights .entry)) t ⌝ }
+    ensures { λ r. ⌜ r ≡ eval2AtOf clamps degree (now (knots .entry)) (now (points .entry)) rational (now (weights .entry)) t ⌝ }
 {
-    let refusal = step_refusal(clamping, degree, knots, points, rational, weights, t);
+    let refusal = step_refusal(clamps, degree, knots, points, rational, weights, t);
     eval2_with(refusal, degree, knots, points, rational, weights, t)
 }
 

@@ -12,24 +12,24 @@ ghost use Rattle.evaluate.specs.Surface.{degreesRefusal, parametersRefus
 
 // Refusals 31, 12 and 43.
 pub fn parameter_refusal(
-    clamping: bool,
+    clamps: bool,
     degree: usize,
     count: usize,
     knots: &[f64],
     t: f64,
 ) -> Refusal
-    ensures { λ r. ⌜ r ≡ parameterRefusal clamping degree count (now (knots .entry)) t ⌝ }
+    ensures { λ r. ⌜ r ≡ parameterRefusal clamps degree count (now (knots .entry)) t ⌝ }
 {
     let refusal = degree_refusal(degree);
     if refusal.number != 0 {
         return refusal;
     }
-    domain_refusal(clamping, degree, count, knots, t)
+    domain_refusal(clamps, degree, count, knots, t)
 }
 
 // The refusal of a step on a curve that was validated before: the runs' lengths, 31, 12, 43.
 pub fn step_refusal(
-    clamping: bool,
+    clamps: bool,
     degree: usize,
     knots: &[f64],
     points: &[f64],
@@ -37,19 +37,19 @@ pub fn step_refusal(
     weights: &[f64],
     t: f64,
 ) -> Refusal
-    ensures { λ r. ⌜ r ≡ stepRefusal clamping degree (now (knots .entry)) (now (points .entry)) rational (now (weights .entry)) t ⌝ }
+    ensures { λ r. ⌜ r ≡ stepRefusal clamps degree (now (knots .entry)) (now (points .entry)) rational (now (weights .entry)) t ⌝ }
 {
     let refusal = curve_shape(degree, knots, points, rational, weights);
     if refusal.number != 0 {
         return refusal;
     }
     let count = points.len() / 3;
-    parameter_refusal(clamping, degree, count, knots, t)
+    parameter_refusal(clamps, degree, count, knots, t)
 }
 
 // The refusal of an evaluation of a curve: the curve's, 31, 12, 43.
 pub fn eval_refusal(
-    clamping: bool,
+    clamps: bool,
     degree: usize,
     knots: &[f64],
     points: &[f64],
@@ -57,14 +57,14 @@ pub fn eval_refusal(
     weights: &[f64],
     t: f64,
 ) -> Refusal
-    ensures { λ r. ⌜ r ≡ evalRefusal clamping degree (now (knots .entry)) (now (points .entry)) rational (now (weights .entry)) t ⌝ }
+    ensures { λ r. ⌜ r ≡ evalRefusal clamps degree (now (knots .entry)) (now (points .entry)) rational (now (weights .entry)) t ⌝ }
 {
     let refusal = curve_refusal(degree, knots, points, rational, weights);
     if refusal.number != 0 {
         return refusal;
     }
     let count = points.len() / 3;
-    parameter_refusal(clamping, degree, count, knots, t)
+    parameter_refusal(clamps, degree, count, knots, t)
 }
 
 // Refusal 31 of either direction.
@@ -80,7 +80,7 @@ pub fn degrees_refusal(u_degree: usize, v_degree: usize) -> Refusal
 
 // Refusals 31 of either direction, then 12 and 43 of u, then of v.
 pub fn parameters_refusal(
-    clamping: bool,
+    clamps: bool,
     p: usize,
     q: usize,
     uk: &[f64],
@@ -90,22 +90,22 @@ pub fn parameters_refusal(
     u: f64,
     v: f64,
 ) -> Refusal
-    ensures { λ r. ⌜ r ≡ parametersRefusal clamping p q (now (uk .entry)) (now (vk .entry)) m n u v ⌝ }
+    ensures { λ r. ⌜ r ≡ parametersRefusal clamps p q (now (uk .entry)) (now (vk .entry)) m n u v ⌝ }
 {
     let refusal = degrees_refusal(p, q);
     if refusal.number != 0 {
         return refusal;
     }
-    let refusal = domain_refusal(clamping, p, m, uk, u);
+    let refusal = domain_refusal(clamps, p, m, uk, u);
     if refusal.number != 0 {
         return refusal;
     }
-    domain_refusal(clamping, q, n, vk, v)
+    domain_refusal(clamps, q, n, vk, v)
 }
 
 // The refusal of a step on a surface that was validated before: the runs' lengths, 31, 12, 43.
 pub fn surface_step_refusal(
-    clamping: bool,
+    clamps: bool,
     p: usize,
     q: usize,
     uk: &[f64],
@@ -118,18 +118,18 @@ pub fn surface_step_refusal(
     u: f64,
     v: f64,
 ) -> Refusal
-    ensures { λ r. ⌜ r ≡ surfaceStepRefusal clamping p q (now (uk .entry)) (now (vk .entry)) m n (now (points .entry)) rational (now (weights .entry)) u v ⌝ }
+    ensures { λ r. ⌜ r ≡ surfaceStepRefusal clamps p q (now (uk .entry)) (now (vk .entry)) m n (now (points .entry)) rational (now (weights .entry)) u v ⌝ }
 {
     let refusal = surface_shape(p, q, uk, vk, m, n, points, rational, weights);
     if refusal.number != 0 {
         return refusal;
     }
-    parameters_refusal(clamping, p, q, uk, vk, m, n, u, v)
+    parameters_refusal(clamps, p, q, uk, vk, m, n, u, v)
 }
 
 // The refusal of an evaluation of a surface: the surface's, 31, 12, 43.
 pub fn surface_eval_refusal(
-    clamping: bool,
+    clamps: bool,
     p: usize,
     q: usize,
     uk: &[f64],
@@ -142,11 +142,11 @@ pub fn surface_eval_refusal(
     u: f64,
     v: f64,
 ) -> Refusal
-    ensures { λ r. ⌜ r ≡ surfaceEvalRefusal clamping p q (now (uk .entry)) (now (vk .entry)) m n (now (points .entry)) rational (now (weights .entry)) u v ⌝ }
+    ensures { λ r. ⌜ r ≡ surfaceEvalRefusal clamps p q (now (uk .entry)) (now (vk .entry)) m n (now (points .entry)) rational (now (weights .entry)) u v ⌝ }
 {
     let refusal = surface_refusal(p, q, uk, vk, m, n, points, rational, weights);
     if refusal.number != 0 {
         return refusal;
     }
-    parameters_refusal(clamping, p, q, uk, vk, m, n, u, v)
+    parameters_refusal(clamps, p, q, uk, vk, m, n, u, v)
 }

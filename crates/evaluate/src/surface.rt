@@ -1,4 +1,4 @@
-// Point and first partial derivatives of a surface: eval_surface, and the step that it takes after validation.
+// Point and first partial derivatives of a surface: eval_surface in both modes, and its step for a surface that was validated before.
 use crate::net::Net;
 use crate::net::net_scale;
 use crate::net::net_sums;

@@ -94,7 +94,7 @@ pub extern "C" fn tasulogi_eval(
     put_curve(out, eval(degree, knots, points, rational, weights, t))
 }
 
-// The same, where a parameter outside the domain becomes the nearer end.
+// The same, where a finite parameter outside the domain becomes the nearer end.
 #[no_mangle]
 pub extern "C" fn tasulogi_eval_clamped(
     degree: usize,
@@ -129,7 +129,7 @@ pub extern "C" fn tasulogi_eval2(
     put_curve2(out, eval2(degree, knots, points, rational, weights, t))
 }
 
-// The same, where a parameter outside the domain becomes the nearer end.
+// The same, where a finite parameter outside the domain becomes the nearer end.
 #[no_mangle]
 pub extern "C" fn tasulogi_eval2_clamped(
     degree: usize,
@@ -172,7 +172,7 @@ pub extern "C" fn tasulogi_eval_surface(
     )
 }
 
-// The same, where parameters outside the domain become the nearer ends.
+// The same, where finite parameters outside the domain become the nearer ends.
 #[no_mangle]
 pub extern "C" fn tasulogi_eval_surface_clamped(
     p: usize,

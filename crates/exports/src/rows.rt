@@ -53,7 +53,7 @@ pub extern "C" fn tasulogi_eval_many(
     rows_number(eval_many(degree, knots, points, rational, weights, ts, numbers, rows))
 }
 
-// The same, where a parameter outside the domain becomes the nearer end.
+// The same, where a finite parameter outside the domain becomes the nearer end.
 #[no_mangle]
 pub extern "C" fn tasulogi_eval_many_clamped(
     degree: usize,
@@ -89,7 +89,7 @@ pub extern "C" fn tasulogi_eval2_many(
     rows_number(eval2_many(degree, knots, points, rational, weights, ts, numbers, rows))
 }
 
-// The same, where a parameter outside the domain becomes the nearer end.
+// The same, where a finite parameter outside the domain becomes the nearer end.
 #[no_mangle]
 pub extern "C" fn tasulogi_eval2_many_clamped(
     degree: usize,

@@ -29,7 +29,7 @@ pub extern "C" fn tasulogi_find_span(degree: usize, count: usize, knots: &[f64],
     span_number(find_span(degree, count, knots, u))
 }
 
-// The same, where a parameter outside the domain becomes the nearer end.
+// The same, where a finite parameter outside the domain becomes the nearer end.
 #[no_mangle]
 pub extern "C" fn tasulogi_find_span_clamped(
     degree: usize,

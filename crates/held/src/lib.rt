@@ -46,7 +46,7 @@ pub fn span_in<'a>(
     knots::span::find_span(degree, points.len() / 3, knots, u)
 }
 
-// The same, where a u outside the domain becomes the nearer end.
+// The same, where a finite u outside the domain becomes the nearer end.
 pub fn span_clamped_in<'a>(
     degree: usize,
     knots: &'a [f64],
@@ -74,7 +74,7 @@ pub fn eval_in<'a>(
     evaluate::curve::eval(degree, knots, points, rational, weights, t)
 }
 
-// The same, where a t outside the domain becomes the nearer end.
+// The same, where a finite t outside the domain becomes the nearer end.
 pub fn eval_clamped_in<'a>(
     degree: usize,
     knots: &'a [f64],

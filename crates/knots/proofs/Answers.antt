@@ -124,7 +124,7 @@ module _ (p n : ℕ) (ks : List Float) (u : Float) where
     pub spoken-span : (not c && outside p n ks u) ≡ false → (s : ℕ) → SpanAt p n ks (clamped p n ks u) s → SpanAt p n ks (cond c (clamped p n ks u) u) s
     spoken-span h s = subst (λ (v : Float). SpanAt p n ks v s) (sym (spoken h))
 
-  -- where a parameter is not outside, both modes refuse alike; where it is, one refuses it by 43 that the other takes
+  -- where a parameter is not outside, both modes refuse alike; where it is, the one refuses by 43 what the other takes
   pub modes-same : outside p n ks u ≡ false → domainRefusal refusing p n ks u ≡ domainRefusal clamping p n ks u
   unfolding domainRefusal
   modes-same h = simp h

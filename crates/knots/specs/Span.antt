@@ -20,7 +20,7 @@ use Rattle.knots.specs.declared.span.SpanAnswer.the-variants.{Span, Refu
 unfoldable pub outside : ℕ → ℕ → List Float → Float → Bool
 outside p n ks u = lt u (at ks p) || lt (at ks n) u
 
--- the clamped parameter, which is looked up: u, or the nearer end of the domain where u lies outside it. A call that refuses looks up u inside alone
+-- the clamped parameter, which is looked up: u, or the nearer end of the domain where u lies outside it. A call that refuses comes here only where u is not outside, and there it is u
 unfoldable pub clamped : ℕ → ℕ → List Float → Float → Float
 clamped p n ks u = cond (lt u (at ks p)) (at ks p) (cond (lt (at ks n) u) (at ks n) u)
 

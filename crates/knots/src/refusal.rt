@@ -42,7 +42,7 @@ pub fn refuse_along(direction: u32, refusal: Refusal) -> Refusal
     }
 }
 
-// Invalid 0, degenerate 1, unimplemented 2, capacity 3, internal 4; 5 at 0 and at each number that no call gives.
+// Invalid 0, degenerate 1, unimplemented 2, capacity 3, internal 4; 5 at 0 and at each number that document 01's table does not have.
 const CLASS: [u8; 55] = [
     5,
     0,

@@ -32,13 +32,13 @@ pub fn is_outside(degree: usize, count: usize, knots: &[f64], u: f64) -> bool
 }
 
 // The refusal of a parameter: 12, then 43 where the mode is not to clamp.
-pub fn domain_refusal(clamping: bool, degree: usize, count: usize, knots: &[f64], u: f64) -> Refusal
-    ensures { λ r. ⌜ r ≡ domainRefusal clamping degree count (now (knots .entry)) u ⌝ }
+pub fn domain_refusal(clamps: bool, degree: usize, count: usize, knots: &[f64], u: f64) -> Refusal
+    ensures { λ r. ⌜ r ≡ domainRefusal clamps degree count (now (knots .entry)) u ⌝ }
 {
     if !is_finite(u) {
         return refuse(12);
     }
-    if clamping {
+    if clamps {
         return refuse(0);
     }
     if is_outside(degree, count, knots, u) {
@@ -119,8 +119,8 @@ pub fn span_of(degree: usize, count: usize, u: f64, knots: &[f64]) -> usize
 }
 
 // The number by which find_span refuses: 30, 1 to 7, 12, 43, in this order, or 0.
-fn span_number(clamping: bool, degree: usize, count: usize, knots: &[f64], u: f64) -> u32
-    ensures { λ r. ⌜ r ≡ spanRefusal clamping degree count (now (knots .entry)) u .number ⌝ }
+fn span_number(clamps: bool, degree: usize, count: usize, knots: &[f64], u: f64) -> u32
+    ensures { λ r. ⌜ r ≡ spanRefusal clamps degree count (now (knots .entry)) u .number ⌝ }
 {
     if over_long(true, knots) {
         return 30;
@@ -129,14 +129,14 @@ fn span_number(clamping: bool, degree: usize, count: usize, knots: &[f64], u: f6
     if number != 0 {
         return number;
     }
-    domain_refusal(clamping, degree, count, knots, u).number
+    domain_refusal(clamps, degree, count, knots, u).number
 }
 
 // The span of a parameter by either mode, for any input.
-fn find_by(clamping: bool, degree: usize, count: usize, knots: &[f64], u: f64) -> SpanAnswer
-    ensures { λ r. ⌜ SpanMeets clamping degree count (now (knots .entry)) u r ⌝ }
+fn find_by(clamps: bool, degree: usize, count: usize, knots: &[f64], u: f64) -> SpanAnswer
+    ensures { λ r. ⌜ SpanMeets clamps degree count (now (knots .entry)) u r ⌝ }
 {
-    let number = span_number(clamping, degree, count, knots, u);
+    let number = span_number(clamps, degree, count, knots, u);
     if number != 0 {
         return SpanAnswer::Refused(knot_placed(number, degree, knots));
     }
@@ -150,7 +150,7 @@ pub fn find_span(degree: usize, count: usize, knots: &[f64], u: f64) -> SpanAnsw
     find_by(false, degree, count, knots, u)
 }
 
-// The same, where a parameter outside the domain becomes the nearer end.
+// The same, where a finite parameter outside the domain becomes the nearer end.
 pub fn find_span_clamped(degree: usize, count: usize, knots: &[f64], u: f64) -> SpanAnswer
     ensures { λ r. ⌜ SpanMeets clamping degree count (now (knots .entry)) u r ⌝ }
 {

@@ -94,7 +94,7 @@ pub row-inside-same : (p : ℕ) (ks ps : List Float) (g : Bool) (ws : List Float
     → (numberAt refusing p ks ps g ws b t ≡ numberAt clamping p ks ps g ws b t) × (numbersAt refusing p ks ps g ws b t ≡ numbersAt clamping p ks ps g ws b t)
 row-inside-same p ks ps g ws b t i = simp (eval-inside-same p ks ps g ws t i, eval2-inside-same p ks ps g ws t i) (refl, refl)
 
--- where it is, and the clamped call has a point, its row has 43 and +0.0
+-- where it is, and the clamped call is refused by nothing before 21, the row of the call that refuses has 43 and +0.0
 pub row-outside : (p : ℕ) (ks ps : List Float) (g : Bool) (ws : List Float) (b : Bool) (t : Float) → evalRefusal clamping p ks ps g ws t .number ≡ 0 → outside p (countOf ps) ks t ≡ true
     → (numberAt refusing p ks ps g ws b t ≡ 43 ∷ []) × (numbersAt refusing p ks ps g ws b t ≡ zeros (width b))
 row-outside p ks ps g ws true t h o = simp (eval2-outside p ks ps g ws t h o) (refl, refl)

@@ -22,7 +22,7 @@ ghost use Rattle.many.specs.Points.{width as widthOf, rowAt, numbersOf, 
 
 // The row of one parameter, by the mode, on a curve that was validated.
 fn row_at(
-    clamping: bool,
+    clamps: bool,
     two: bool,
     degree: usize,
     knots: &[f64],
@@ -32,12 +32,12 @@ fn row_at(
     t: f64,
 ) -> PointRow
     requires { ⌜ ValidCurve degree (now knots) (now points) rational (now weights) ⌝ }
-    ensures { λ r. ⌜ r ≡ rowAt clamping degree (now (knots .entry)) (now (points .entry)) rational (now (weights .entry)) two t ⌝ }
+    ensures { λ r. ⌜ r ≡ rowAt clamps degree (now (knots .entry)) (now (points .entry)) rational (now (weights .entry)) two t ⌝ }
 {
     if two {
-        return row2_of(eval2_step(clamping, degree, knots, points, rational, weights, t));
+        return row2_of(eval2_step(clamps, degree, knots, points, rational, weights, t));
     }
-    row_of(eval_step(clamping, degree, knots, points, rational, weights, t))
+    row_of(eval_step(clamps, degree, knots, points, rational, weights, t))
 }
 
 // Row i of both runs.
@@ -58,7 +58,7 @@ fn put_row(two: bool, numbers: &mut [u32], rows: &mut [f64], i: usize, row: Poin
 
 // A row for each parameter, on a curve that was validated.
 fn eval_each(
-    clamping: bool,
+    clamps: bool,
     two: bool,
     degree: usize,
     knots: &[f64],
@@ -73,21 +73,12 @@ fn eval_each(
     requires { ⌜ length (now ts) ≤ 1048576 ⌝ }
     requires { ⌜ length (now ts) ≤ length (now numbers) ⌝ }
     requires { ⌜ length (now ts) * widthOf two ≤ length (now rows) ⌝ }
-    ensures { λ _. ⌜ now (numbers .exit) ≡ rowsBy (numberAt clamping degree (now (knots .entry)) (now (points .entry)) rational (now (weights .entry)) two) (now (ts .entry)) ++ drop (length (now (ts .entry))) (now (numbers .entry)) ⌝ }
-    ensures { λ _. ⌜ now (rows .exit) ≡ rowsBy (numbersAt clamping degree (now (knots .entry)) (now (points .entry)) rational (now (weights .entry)) two) (now (ts .entry)) ++ drop (length (now (ts .entry)) * widthOf two) (now (rows .entry)) ⌝ }
+    ensures { λ _. ⌜ now (numbers .exit) ≡ rowsBy (numberAt clamps degree (now (knots .entry)) (now (points .entry)) rational (now (weights .entry)) two) (now (ts .entry)) ++ drop (length (now (ts .entry))) (now (numbers .entry)) ⌝ }
+    ensures { λ _. ⌜ now (rows .exit) ≡ rowsBy (numbersAt clamps degree (now (knots .entry)) (now (points .entry)) rational (now (weights .entry)) two) (now (ts .entry)) ++ drop (length (now (ts .entry)) * widthOf two) (now (rows .entry)) ⌝ }
 {
     let mut i = 0usize;
     while i < ts.len() {
-        let row = row_at(
-            clamping,
-            two,
-            degree,
-            knots,
-            points,
-            rational,
-            weights,
-            ts[i],
-        );
+        let row = row_at(clamps, two, degree, knots, points, rational, weights, ts[i]);
         put_row(two, numbers, rows, i, row);
         i += 1;
     }
@@ -95,7 +86,7 @@ fn eval_each(
 
 // The point and its derivatives at each parameter, one validation for all: a row of numbers a parameter, and the number of its own refusal or 0.
 fn eval_all(
-    clamping: bool,
+    clamps: bool,
     two: bool,
     degree: usize,
     knots: &[f64],
@@ -106,7 +97,7 @@ fn eval_all(
     numbers: &mut [u32],
     rows: &mut [f64],
 ) -> ManyAnswer
-    ensures { λ r. ⌜ EachMeets clamping degree (now (knots .entry)) (now (points .entry)) rational (now (weights .entry)) two (now (ts .entry)) (length (now (numbers .entry))) (length (now (rows .entry))) (now (numbers .exit)) (now (rows .exit)) r ⌝ }
+    ensures { λ r. ⌜ EachMeets clamps degree (now (knots .entry)) (now (points .entry)) rational (now (weights .entry)) two (now (ts .entry)) (length (now (numbers .entry))) (length (now (rows .entry))) (now (numbers .exit)) (now (rows .exit)) r ⌝ }
 {
     clear_numbers(numbers);
     clear(rows);
@@ -118,7 +109,7 @@ fn eval_all(
         return ManyAnswer::Refused(refusal);
     }
     eval_each(
-        clamping,
+        clamps,
         two,
         degree,
         knots,
@@ -159,7 +150,7 @@ pub fn eval_many(
     )
 }
 
-// The same, where a parameter outside the domain becomes the nearer end.
+// The same, where a finite parameter outside the domain becomes the nearer end.
 pub fn eval_many_clamped(
     degree: usize,
     knots: &[f64],
@@ -213,7 +204,7 @@ pub fn eval2_many(
     )
 }
 
-// The same, where a parameter outside the domain becomes the nearer end.
+// The same, where a finite parameter outside the domain becomes the nearer end.
 pub fn eval2_many_clamped(
     degree: usize,
     knots: &[f64],

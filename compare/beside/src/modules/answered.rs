@@ -7,7 +7,7 @@ use crate::tables::{Refused, hex};
 use oracle::{BCurve, Point3, class_of};
 use std::sync::LazyLock;
 
-/// A line for each number that some call gives: the number, the letter of its class, the text.
+/// A line for each number of document 01's table: the number, the letter of its class, the text.
 const TABLE: &str = include_str!("../../../../docs/refusals.txt");
 
 /// The classes of the table, invalid 0 to internal 4, and 5 where it has no line; those of the Rust's own are the oracle's.
@@ -22,7 +22,7 @@ static CLASSES: LazyLock<[u32; 55]> = LazyLock::new(|| {
     classes
 });
 
-/// The class of a number, and 5 of one that no call gives.
+/// The class of a number, and 5 of one that the table does not have.
 pub fn class_number(number: u32) -> u32 {
     CLASSES.get(number as usize).copied().unwrap_or(5)
 }

@@ -19,7 +19,7 @@ returns : tie.Need-returns
 returns c =
     let a = c .before .before .before .before .args in
     let number = c .before .before .span-number .ensures in
-    let told = c .knot-placed .ensures ∙ span-told (a .clamping) (a .degree) (a .count) (now (a .knots)) (a .u) number in
+    let told = c .knot-placed .ensures ∙ span-told (a .clamps) (a .degree) (a .count) (now (a .knots)) (a .u) number in
     (sym told, λ z. c .before .if1 .taken (number ∙ (sym (ap (λ (r : Refusal). r .number) told) ∙ z)))
 
 span-of-requires : tie.Need-span-of-requires
@@ -29,8 +29,8 @@ returns-2 : tie.Need-returns-2
 returns-2 c =
     let a = c .before .before .before .before .args in
     let none = sym (c .before .before .span-number .ensures) ∙ c .before .if1 .left in
-    let q = unrefused (a .degree) (a .count) (now (a .knots)) (a .u) (a .clamping) none in
-    (none, spoken-span (a .degree) (a .count) (now (a .knots)) (a .u) (a .clamping) (q .2) _ (c .span-of .ensures .meets (q .0) (q .1)))
+    let q = unrefused (a .degree) (a .count) (now (a .knots)) (a .u) (a .clamps) none in
+    (none, spoken-span (a .degree) (a .count) (now (a .knots)) (a .u) (a .clamps) (q .2) _ (c .span-of .ensures .meets (q .0) (q .1)))
 
 pub find-by-spec : {M : Type 1} → statement M
 find-by-spec =

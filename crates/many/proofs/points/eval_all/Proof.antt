@@ -36,9 +36,9 @@ returns : tie.Need-returns
 returns c =
     let a = c .before .before .before .before .before .before .before .before .before .before .before .before .before .before .before .before .before .before .args in
     meets-refused
-    (numberAt (a .clamping) (a .degree) (now (a .knots)) (now (a .points)) (a .rational) (now (a .weights)) (a .two)) 1 (λ t. refl)
-    (numbersAt (a .clamping) (a .degree) (now (a .knots)) (now (a .points)) (a .rational) (now (a .weights)) (a .two)) (width (a .two))
-    (λ t. row-says (a .clamping) (a .degree) (now (a .knots)) (now (a .points)) (a .rational) (now (a .weights)) (a .two) t .count) (now (a .ts)) (length (now (a .numbers))) (length (now (a .rows)))
+    (numberAt (a .clamps) (a .degree) (now (a .knots)) (now (a .points)) (a .rational) (now (a .weights)) (a .two)) 1 (λ t. refl)
+    (numbersAt (a .clamps) (a .degree) (now (a .knots)) (now (a .points)) (a .rational) (now (a .weights)) (a .two)) (width (a .two))
+    (λ t. row-says (a .clamps) (a .degree) (now (a .knots)) (now (a .points)) (a .rational) (now (a .weights)) (a .two) t .count) (now (a .ts)) (length (now (a .numbers))) (length (now (a .rows)))
     (c .before .before .before .before .before .before .before .before .before .before .clear-numbers .last .0) (c .before .before .before .before .before .before .clear .last .0)
     (c .before .before .before .before .before .before .before .before .before .before .clear-numbers .ensures) (c .before .before .before .before .before .before .clear .ensures) _ _
     (start-is
@@ -74,9 +74,9 @@ returns-2 c =
     .before .before .before
     .before .args in
     meets-answered
-    (numberAt (a .clamping) (a .degree) (now (a .knots)) (now (a .points)) (a .rational) (now (a .weights)) (a .two)) 1 (λ t. refl)
-    (numbersAt (a .clamping) (a .degree) (now (a .knots)) (now (a .points)) (a .rational) (now (a .weights)) (a .two)) (width (a .two))
-    (λ t. row-says (a .clamping) (a .degree) (now (a .knots)) (now (a .points)) (a .rational) (now (a .weights)) (a .two) t .count) (now (a .ts)) (length (now (a .numbers))) (length (now (a .rows)))
+    (numberAt (a .clamps) (a .degree) (now (a .knots)) (now (a .points)) (a .rational) (now (a .weights)) (a .two)) 1 (λ t. refl)
+    (numbersAt (a .clamps) (a .degree) (now (a .knots)) (now (a .points)) (a .rational) (now (a .weights)) (a .two)) (width (a .two))
+    (λ t. row-says (a .clamps) (a .degree) (now (a .knots)) (now (a .points)) (a .rational) (now (a .weights)) (a .two) t .count) (now (a .ts)) (length (now (a .numbers))) (length (now (a .rows)))
     (b .last .0)
     (d .last .0)
     (b .ensures)

@@ -16,19 +16,19 @@ use Rattle.many.proofs.points.eval_each.Statement.{statement}
 use Rattle.many.proofs.points.eval_each.Tie as tie
 
 abbrev Inv-loop : tie.InvT-loop
-Inv-loop clamping two degree knots points rational weights ts numbers₀ rows₀ i₀ numbers rows i =
-    InEach (numberAt clamping degree knots points rational weights two) (numbersAt clamping degree knots points rational weights two) (width two) ts numbers₀ rows₀ numbers rows i
+Inv-loop clamps two degree knots points rational weights ts numbers₀ rows₀ i₀ numbers rows i =
+    InEach (numberAt clamps degree knots points rational weights two) (numbersAt clamps degree knots points rational weights two) (width two) ts numbers₀ rows₀ numbers rows i
 
 abbrev μ-loop : tie.MeasureT-loop
-μ-loop clamping two degree knots points rational weights ts numbers₀ rows₀ i₀ numbers rows i = length ts - i
+μ-loop clamps two degree knots points rational weights ts numbers₀ rows₀ i₀ numbers rows i = length ts - i
 
 loop-holds : tie.Need-loop-holds Inv-loop μ-loop
 loop-holds c =
     let a = c .before .before .before .before .before .before .args in
     each-start
-    (numberAt (a .clamping) (a .degree) (now (a .knots)) (now (a .points)) (a .rational) (now (a .weights)) (a .two)) (λ t. refl)
-    (numbersAt (a .clamping) (a .degree) (now (a .knots)) (now (a .points)) (a .rational) (now (a .weights)) (a .two)) (width (a .two))
-    (λ t. row-says (a .clamping) (a .degree) (now (a .knots)) (now (a .points)) (a .rational) (now (a .weights)) (a .two) t .count) (now (a .ts)) (now (a .numbers)) (now (a .rows))
+    (numberAt (a .clamps) (a .degree) (now (a .knots)) (now (a .points)) (a .rational) (now (a .weights)) (a .two)) (λ t. refl)
+    (numbersAt (a .clamps) (a .degree) (now (a .knots)) (now (a .points)) (a .rational) (now (a .weights)) (a .two)) (width (a .two))
+    (λ t. row-says (a .clamps) (a .degree) (now (a .knots)) (now (a .points)) (a .rational) (now (a .weights)) (a .two) t .count) (now (a .ts)) (now (a .numbers)) (now (a .rows))
 
 mul-row-at : tie.Need-mul-row-at Inv-loop μ-loop
 mul-row-at c = search needs
@@ -46,9 +46,9 @@ put-row-requires c κs =
     let a = c .before .before .before .before .before .before .before .before .before .before .before .before .args in
     let e =
     each-fits
-    (numberAt (a .clamping) (a .degree) (now (a .knots)) (now (a .points)) (a .rational) (now (a .weights)) (a .two)) (λ t. refl)
-    (numbersAt (a .clamping) (a .degree) (now (a .knots)) (now (a .points)) (a .rational) (now (a .weights)) (a .two)) (width (a .two))
-    (λ t. row-says (a .clamping) (a .degree) (now (a .knots)) (now (a .points)) (a .rational) (now (a .weights)) (a .two) t .count) (now (a .ts)) (now (a .numbers)) (now (a .rows)) (q .1 .1 .0) (q .1 .1 .1)
+    (numberAt (a .clamps) (a .degree) (now (a .knots)) (now (a .points)) (a .rational) (now (a .weights)) (a .two)) (λ t. refl)
+    (numbersAt (a .clamps) (a .degree) (now (a .knots)) (now (a .points)) (a .rational) (now (a .weights)) (a .two)) (width (a .two))
+    (λ t. row-says (a .clamps) (a .degree) (now (a .knots)) (now (a .points)) (a .rational) (now (a .weights)) (a .two) t .count) (now (a .ts)) (now (a .numbers)) (now (a .rows)) (q .1 .1 .0) (q .1 .1 .1)
     (l .numbers) (l .rows) (l .i) (l .inv) (c .before .before .before .before .loop-test .taken) in
     (e .0, omega (arith, q .1 .0, c .before .before .before .before .loop-test .taken))
 
@@ -68,11 +68,11 @@ loop-again c =
     let l = c .before .before .before .before .before .before .before .before .before .before .loop in
     let q = c .before .before .before .before .before .before .before .before .before .before .before .before .before .before .before .before .before .pre in
     let a = c .before .before .before .before .before .before .before .before .before .before .before .before .before .before .before .before .before .args in
-    let s = row-says (a .clamping) (a .degree) (now (a .knots)) (now (a .points)) (a .rational) (now (a .weights)) (a .two) (at (now (a .ts)) (l .i)) in
+    let s = row-says (a .clamps) (a .degree) (now (a .knots)) (now (a .points)) (a .rational) (now (a .weights)) (a .two) (at (now (a .ts)) (l .i)) in
     each-more
-    (numberAt (a .clamping) (a .degree) (now (a .knots)) (now (a .points)) (a .rational) (now (a .weights)) (a .two)) (λ t. refl)
-    (numbersAt (a .clamping) (a .degree) (now (a .knots)) (now (a .points)) (a .rational) (now (a .weights)) (a .two)) (width (a .two))
-    (λ t. row-says (a .clamping) (a .degree) (now (a .knots)) (now (a .points)) (a .rational) (now (a .weights)) (a .two) t .count) (now (a .ts)) (now (a .numbers)) (now (a .rows)) (q .1 .1 .0) (q .1 .1 .1)
+    (numberAt (a .clamps) (a .degree) (now (a .knots)) (now (a .points)) (a .rational) (now (a .weights)) (a .two)) (λ t. refl)
+    (numbersAt (a .clamps) (a .degree) (now (a .knots)) (now (a .points)) (a .rational) (now (a .weights)) (a .two)) (width (a .two))
+    (λ t. row-says (a .clamps) (a .degree) (now (a .knots)) (now (a .points)) (a .rational) (now (a .weights)) (a .two) t .count) (now (a .ts)) (now (a .numbers)) (now (a .rows)) (q .1 .1 .0) (q .1 .1 .1)
     (l .numbers) (l .rows) (l .i) (l .inv) (c .before .before .before .before .before .before .before .before .before .loop-test .taken) _ _ _ _
     (ap (λ (x : PointRow). x .number ∷ []) (c .before .before .before .before .before .before .before .row-at .ensures) ∙ s .number)
     (ap (numbersOf (a .two)) (c .before .before .before .before .before .before .before .row-at .ensures) ∙ s .numbers) (c .before .before .before .before .put-row .ensures .0)
@@ -89,9 +89,9 @@ returns c =
     let a = c .before .before .before .before .before .before .before .before .args in
     let e =
     each-end
-    (numberAt (a .clamping) (a .degree) (now (a .knots)) (now (a .points)) (a .rational) (now (a .weights)) (a .two)) (λ t. refl)
-    (numbersAt (a .clamping) (a .degree) (now (a .knots)) (now (a .points)) (a .rational) (now (a .weights)) (a .two)) (width (a .two))
-    (λ t. row-says (a .clamping) (a .degree) (now (a .knots)) (now (a .points)) (a .rational) (now (a .weights)) (a .two) t .count) (now (a .ts)) (now (a .numbers)) (now (a .rows)) (c .before .loop .numbers)
+    (numberAt (a .clamps) (a .degree) (now (a .knots)) (now (a .points)) (a .rational) (now (a .weights)) (a .two)) (λ t. refl)
+    (numbersAt (a .clamps) (a .degree) (now (a .knots)) (now (a .points)) (a .rational) (now (a .weights)) (a .two)) (width (a .two))
+    (λ t. row-says (a .clamps) (a .degree) (now (a .knots)) (now (a .points)) (a .rational) (now (a .weights)) (a .two) t .count) (now (a .ts)) (now (a .numbers)) (now (a .rows)) (c .before .loop .numbers)
     (c .before .loop .rows) (c .before .loop .i) (c .before .loop .inv) (c .loop-test .left) in
     (e .0 .front, e .1 .front)
 

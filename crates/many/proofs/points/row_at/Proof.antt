@@ -22,7 +22,7 @@ returns c =
     (c .row2-of .ensures
     ∙ ap
     pointRow2
-    (c .before .eval2-step .ensures ∙ valid-answered2 (a .clamping) (a .degree) (now (a .knots)) (now (a .points)) (a .rational) (now (a .weights)) (c .before .before .before .before .before .before .pre) (a .t)))
+    (c .before .eval2-step .ensures ∙ valid-answered2 (a .clamps) (a .degree) (now (a .knots)) (now (a .points)) (a .rational) (now (a .weights)) (c .before .before .before .before .before .before .pre) (a .t)))
 
 eval-step-requires : tie.Need-eval-step-requires
 eval-step-requires c κs = search needs
@@ -38,7 +38,7 @@ returns-2 c =
     (c .row-of .ensures
     ∙ ap
     pointRow
-    (c .before .eval-step .ensures ∙ valid-answered (a .clamping) (a .degree) (now (a .knots)) (now (a .points)) (a .rational) (now (a .weights)) (c .before .before .before .before .before .before .pre) (a .t)))
+    (c .before .eval-step .ensures ∙ valid-answered (a .clamps) (a .degree) (now (a .knots)) (now (a .points)) (a .rational) (now (a .weights)) (c .before .before .before .before .before .before .pre) (a .t)))
 
 pub row-at-spec : {M : Type 1} → statement M
 row-at-spec =
