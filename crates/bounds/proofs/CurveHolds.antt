@@ -38,24 +38,20 @@ use Rattle.ranges.specs.Range.{spanOver, takenSpan, rangeRefusal}
 use Rattle.runs.specs.Weight.{weightAt}
 use Rattle.ranges.specs.Read.{startRefusal}
 use Rattle.jets.specs.Three.{Three}
-use Rattle.bounds.specs.Enclosed.{Boxed, X, Y, Z, at-t}
 use Rattle.bounds.proofs.Active.{Active, Ranged, around, around-is, around-held, around-knots, around-near, valid-active, started, start-valid, taken-first}
 use Rattle.exact.proofs.Local.{Near, exact-local}
 use Rattle.exact.proofs.Window.{dexact-local}
 use Rattle.bounds.specs.Curve.{rangeIs, weightsAre, spanBound, boundOf, boundAt, unless}
 use Rattle.jets.specs.Jet.{parameterOf}
 use Rattle.jets.proofs.JetIn.{JetIn, param-in}
-use Rattle.bounds.proofs.Boxes.{boxed, unless-in}
+use Rattle.bounds.proofs.Boxes.{X, Y, Z, boxed, unless-in}
 use Rattle.jets.proofs.NetIn.{Given, levels-given, none, along, nowhere, net-in}
 use Rattle.bounds.proofs.WeightIn.{Cut, Cuts, Largest, Least, largest, least, range-in, scale-in, bound-in, ControlIn, control-in}
 use Rattle.jets.proofs.CartesianIn.{FinitePoint, Boxes, over, cartesian-in, boxes-eq, three-eq}
 use Rattle.ranges.proofs.SpanIn.{span-valid, in-parts, t-above, t-below, heavy-pos}
 use Rattle.bounds.specs.Answer.{boundedOf}
-use Rattle.bounds.specs.Holds.{Holding, HoldsOn, Holds}
-use Rattle.runs.specs.Fraction.{weightValue}
-use Rattle.bounds.specs.declared.answer.NurbsBounds.{NurbsBounds}
-use Rattle.bounds.specs.declared.answer.Bounded.{Bounded}
-use Rattle.bounds.specs.declared.answer.Bounded.the-variants as C
+use Rattle.bounds.specs.Holds.{at-t, HoldsOn, Holds}
+use Rattle.runs.specs.Fraction.{weightValue, coordinateValue}
 use Rattle.knots.specs.Curve.{countOf, curveRefusal, ValidCurve}
 use Rattle.knots.proofs.Curves.{valid-curve}
 use Rattle.doubles.specs.Run.{valAt}
@@ -164,7 +160,7 @@ module _ (p s : ℕ) (ks ps ws : List Float) (r : Bool) (lo hi : Float) (A : Act
   no-dv A B = q-ring (A ∷ inv B ∷ []) (search qring depth 20) tt
 
   abbrev EX : (ℕ → ℚ) → Three
-  EX P = at-t p ks n ws r s t P
+  EX P = at-t p ks n r ws s t P
 
   -- a homogeneous number with its derivatives
   abbrev HT : (ℕ → ℚ) → Three
@@ -235,52 +231,29 @@ module _ (p s : ℕ) (ks ps ws : List Float) (r : Bool) (lo hi : Float) (A : Act
 -- ---- the whole answer
 
 -- bounds hold the exact point and its derivatives at each t of the range
-pub bound-holds : (p : ℕ) (ks ps ws : List Float) (r : Bool) (lo hi : Float) (t : ℚ) → val lo ≤q t → t ≤q val hi →
-    let e = at-t p ks (countOf ps) ws r (spanOver p (countOf ps) ks lo hi) t in
-    Boxed (boundOf p ks ps r ws lo hi) (e (X ps)) (e (Y ps)) (e (Z ps))
+pub bound-holds : (p : ℕ) (ks ps ws : List Float) (r : Bool) (lo hi : Float) → Holds p ks ps r ws lo hi (boundOf p ks ps r ws lo hi)
 unfolding boundOf
 bound-holds p ks ps ws r lo hi t from upto =
     let s = spanOver p (countOf ps) ks lo hi in
-    let e = at-t p ks (countOf ps) ws r s t in
+    let e : ℕ → Three = λ k. at-t p ks (countOf ps) r ws s t (coordinateValue ps k) in
     let A = spanBound p s ks ps ws r lo hi in
-    unless-in (curveRefusal p ks ps r ws) (unless (rangeRefusal p (countOf ps) s lo hi) (boundedOf A)) (e (X ps)) (e (Y ps)) (e (Z ps))
+    unless-in (curveRefusal p ks ps r ws) (unless (rangeRefusal p (countOf ps) s lo hi) (boundedOf A)) e
     (λ h. let Va = valid-curve p ks ps r ws h in
-    unless-in (rangeRefusal p (countOf ps) s lo hi) (boundedOf A) (e (X ps)) (e (Y ps)) (e (Z ps))
+    unless-in (rangeRefusal p (countOf ps) s lo hi) (boundedOf A) e
     (λ k. let l = Va .knots .count in
     let v = span-valid p (countOf ps) ks lo hi (omega arith) k in
-    boxed A (e (X ps)) (e (Y ps)) (e (Z ps))
+    boxed A e
     (span-bound-in p s ks ps ws r lo hi (valid-active Va (v .span .first) (v .span .last))
     (record { lo-finite = v .lo-finite; hi-finite = v .hi-finite; forward = v .forward; taken = v .span .taken }) t from upto)))
 
--- the promise on a span, from the boxes of the answer
-pub holds-on : (p s : ℕ) (ks ps ws : List Float) (r : Bool) (lo hi : Float) (A B : Bounded) → A ≡ B
-    → ((t : ℚ) → val lo ≤q t → t ≤q val hi → let e = at-t p ks (countOf ps) ws r s t in Boxed B (e (X ps)) (e (Y ps)) (e (Z ps)))
-    → HoldsOn p s ks ps r ws lo hi A
-holds-on p s ks ps ws r lo hi A B e h t from upto b f =
-    let z = at-t p ks (countOf ps) ws r s t in
-    point b (z (X ps)) (z (Y ps)) (z (Z ps)) (subst (λ (a : Bounded). Boxed a (z (X ps)) (z (Y ps)) (z (Z ps))) (sym e ∙ f) (h t from upto))
-  where
-    point : (b : NurbsBounds) (x y z : Three) → Boxed (C.Are b) x y z → Holding (b .point) (x .value) (y .value) (z .value)
-    point b x y z h = h .0
-
--- both promises of bound_curve
-pub both-hold : (p : ℕ) (ks ps ws : List Float) (r : Bool) (lo hi : Float) (A : Bounded) → A ≡ boundOf p ks ps r ws lo hi → (A ≡ boundOf p ks ps r ws lo hi) × Holds p ks ps r ws lo hi A
-both-hold p ks ps ws r lo hi A e = (e, holds-on p (spanOver p (countOf ps) ks lo hi) ks ps ws r lo hi A _ e (bound-holds p ks ps ws r lo hi))
-
--- bounds on a span that was asked for hold the exact point and its derivatives at each t of the range, whatever the rest of the curve is
-pub step-holds : (p s : ℕ) (ks ps ws : List Float) (r : Bool) (lo hi : Float) (t : ℚ) → val lo ≤q t → t ≤q val hi →
-    let e = at-t p ks (countOf ps) ws r s t in
-    Boxed (boundAt p s ks ps r ws lo hi) (e (X ps)) (e (Y ps)) (e (Z ps))
+-- bounds on a span that was asked for hold them too, whatever the rest of the curve is
+pub step-holds : (p s : ℕ) (ks ps ws : List Float) (r : Bool) (lo hi : Float) → HoldsOn p s ks (countOf ps) r ws lo hi (coordinateValue ps) (boundAt p s ks ps r ws lo hi)
 unfolding boundAt
 step-holds p s ks ps ws r lo hi t from upto =
-    let e = at-t p ks (countOf ps) ws r s t in
-    unless-in (startRefusal p s ks ps r ws lo hi) (boundedOf (spanBound p s ks ps ws r lo hi)) (e (X ps)) (e (Y ps)) (e (Z ps))
+    let e : ℕ → Three = λ k. at-t p ks (countOf ps) r ws s t (coordinateValue ps k) in
+    unless-in (startRefusal p s ks ps r ws lo hi) (boundedOf (spanBound p s ks ps ws r lo hi)) e
     (λ k. let v = started p s ks ps r ws lo hi k in
-    boxed (spanBound p s ks ps ws r lo hi) (e (X ps)) (e (Y ps)) (e (Z ps)) (span-bound-in p s ks ps ws r lo hi (v .active) (v .ranged) t from upto))
-
--- both promises of bound_span
-pub step-both : (p s : ℕ) (ks ps ws : List Float) (r : Bool) (lo hi : Float) (A : Bounded) → A ≡ boundAt p s ks ps r ws lo hi → (A ≡ boundAt p s ks ps r ws lo hi) × HoldsOn p s ks ps r ws lo hi A
-step-both p s ks ps ws r lo hi A e = (e, holds-on p s ks ps ws r lo hi A _ e (step-holds p s ks ps ws r lo hi))
+    boxed (spanBound p s ks ps ws r lo hi) e (span-bound-in p s ks ps ws r lo hi (v .active) (v .ranged) t from upto))
 
 -- on a span of a valid curve that contains the range, the step's answer is the bounds on it
 pub step-is : (p s : ℕ) (ks ps ws : List Float) (r : Bool) (lo hi : Float) → ValidCurve p ks ps r ws

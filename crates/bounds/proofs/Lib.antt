@@ -7,3 +7,5 @@ pub mod CurveHolds
 pub mod SpansIn
 pub mod SurfaceHolds
 pub mod Idle
+pub mod Promised
+pub mod Numbered

@@ -39,17 +39,17 @@ use Rattle.runs.specs.Weight.{weightAt}
 use Rattle.bounds.specs.Curve.{unless}
 use Rattle.jets.specs.Jet.{parameterOf, secondOf}
 use Rattle.jets.specs.Three.{Three}
-use Rattle.bounds.specs.Enclosed.{Boxed, X, Y, Z, grid, at-uv}
+use Rattle.bounds.specs.Holds.{grid, at-uv, SurfaceHolds}
 use Rattle.bounds.specs.Surface.{rangesRefusal, maxRows, minRows, rowAt, rangesAre, weightsBy, spansBound, boundedBy, surfaceOf}
 use Rattle.jets.proofs.JetIn.{JetIn, param-in, second-in}
 use Rattle.jets.proofs.NetIn.{Given, levels-given, none, along, across, nowhere, net-in, last-0, last-given, up-0, up-given}
 use Rattle.bounds.proofs.WeightIn.{Cut, Cuts, range-in, scale-in, bound-in, ControlIn, point-finite, control-in}
 use Rattle.jets.proofs.CartesianIn.{FinitePoint, Boxes, refuse-in, over, cartesian-in, boxes-eq, three-eq}
-use Rattle.bounds.proofs.Boxes.{boxed, unless-in}
+use Rattle.bounds.proofs.Boxes.{X, Y, Z, boxed, unless-in}
 use Rattle.bounds.proofs.NetWeight.{Largest₂, Least₂, largest₂, least₂}
 use Rattle.bounds.proofs.SpansIn.{below-product, ranges-valid}
 use Rattle.ranges.proofs.SpanIn.{SpanValid, InSpan, in-span, heavy-valid, heavy-pos}
-use Rattle.runs.specs.Fraction.{weightValue}
+use Rattle.runs.specs.Fraction.{weightValue, coordinateValue}
 use Rattle.bounds.specs.Answer.{boundedOf}
 use Rattle.knots.specs.Surface.{surfaceRefusal, ValidSurface}
 use Rattle.knots.proofs.Surfaces.{valid-surface}
@@ -91,7 +91,7 @@ module _ (p q us vs : ℕ) (uk vk : List Float) (nu nv : ℕ) (ps ws : List Floa
   here′ m k h l = subst (λ (i : ℕ). i < nu * nv) (sym (same-place m k)) (here m k h l)
 
   abbrev w₂ : ℕ → ℕ → ℚ
-  w₂ = grid (weightValue r ws) nv
+  w₂ = grid nv (weightValue r ws)
 
   least-is : Least₂ w (suc q) (suc p) (minRows w (suc q) (suc p))
   least-is = least₂ w q p (λ i j l h. heavy _ (here′ i j (omega arith) (omega arith))) (λ i j l h. positive _ (here′ i j (omega arith) (omega arith)))
@@ -119,7 +119,7 @@ module _ (p q us vs : ℕ) (uk vk : List Float) (nu nv : ℕ) (ps ws : List Floa
 
   -- the exact homogeneous net
   abbrev H : (ℕ → ℚ) → ℕ → ℕ → ℚ
-  H P i j = (grid P nv i j -q P ((us - p) * nv + (vs - q))) *q (w₂ i j /q σ)
+  H P i j = (grid nv P i j -q P ((us - p) * nv + (vs - q))) *q (w₂ i j /q σ)
 
   abbrev HW : ℕ → ℕ → ℚ
   HW i j = w₂ i j /q σ
@@ -150,15 +150,15 @@ module _ (p q us vs : ℕ) (uk vk : List Float) (nu nv : ℕ) (ps ws : List Floa
       (Iv .below) w₂ a σ (least-is .positive) lows highs)
 
   abbrev EX : (ℕ → ℚ) → Three
-  EX P = at-uv p q us vs uk vk nu nv ws r u v P
+  EX P = at-uv p q us vs uk vk nu nv r ws u v P
 
   exact-eq : (P : ℕ → ℚ) → over (HT (H P)) (HT HW) (P ((us - p) * nv + (vs - q))) ≡ EX P
   exact-eq P = three-eq (over (HT (H P)) (HT HW) (P ((us - p) * nv + (vs - q)))) (EX P)
-      (sym (exact₂-net (Iu .knots) (Iv .knots) p (us - p) nu q (vs - q) nv (Iu .base) (Iu .fits) (Iu .room) (Iv .base) (Iv .fits) (Iv .room) w₂ (grid P nv) (P ((us - p) * nv + (vs - q))) σ
+      (sym (exact₂-net (Iu .knots) (Iv .knots) p (us - p) nu q (vs - q) nv (Iu .base) (Iu .fits) (Iu .room) (Iv .base) (Iv .fits) (Iv .room) w₂ (grid nv P) (P ((us - p) * nv + (vs - q))) σ
       (pos-ne σ-pos) u v sum-ne))
-      (sym (exact₂-du (Iu .knots) (Iv .knots) p (us - p) nu q (vs - q) nv (Iu .base) (Iu .fits) (Iu .room) (Iv .base) (Iv .fits) (Iv .room) w₂ (grid P nv) (P ((us - p) * nv + (vs - q))) σ
+      (sym (exact₂-du (Iu .knots) (Iv .knots) p (us - p) nu q (vs - q) nv (Iu .base) (Iu .fits) (Iu .room) (Iv .base) (Iv .fits) (Iv .room) w₂ (grid nv P) (P ((us - p) * nv + (vs - q))) σ
       (pos-ne σ-pos) u v sum-ne))
-      (sym (exact₂-dv (Iu .knots) (Iv .knots) p (us - p) nu q (vs - q) nv (Iu .base) (Iu .fits) (Iu .room) (Iv .base) (Iv .fits) (Iv .room) w₂ (grid P nv) (P ((us - p) * nv + (vs - q))) σ
+      (sym (exact₂-dv (Iu .knots) (Iv .knots) p (us - p) nu q (vs - q) nv (Iu .base) (Iu .fits) (Iu .room) (Iv .base) (Iv .fits) (Iv .room) w₂ (grid nv P) (P ((us - p) * nv + (vs - q))) σ
       (pos-ne σ-pos) u v sum-ne))
 
   abbrev Good : BoundAnswer → Type 0
@@ -278,20 +278,18 @@ module _ (p q us vs : ℕ) (uk vk : List Float) (nu nv : ℕ) (ps ws : List Floa
 -- ---- the whole answer
 
 -- bounds hold the exact point and its two derivatives at each pair of fractions of the ranges
-pub surface-holds : (p q : ℕ) (uk vk : List Float) (nu nv : ℕ) (ps ws : List Float) (r : Bool) (ulo uhi vlo vhi : Float) (u v : ℚ)
-    → val ulo ≤q u → u ≤q val uhi → val vlo ≤q v → v ≤q val vhi →
-    let e = at-uv p q (spanOver p nu uk ulo uhi) (spanOver q nv vk vlo vhi) uk vk nu nv ws r u v in
-    Boxed (surfaceOf p q uk vk nu nv ps r ws ulo uhi vlo vhi) (e (X ps)) (e (Y ps)) (e (Z ps))
+pub surface-holds : (p q : ℕ) (uk vk : List Float) (nu nv : ℕ) (ps ws : List Float) (r : Bool) (ulo uhi vlo vhi : Float)
+    → SurfaceHolds p q uk vk nu nv ps r ws ulo uhi vlo vhi (surfaceOf p q uk vk nu nv ps r ws ulo uhi vlo vhi)
 unfolding surfaceOf boundedBy
 surface-holds p q uk vk nu nv ps ws r ulo uhi vlo vhi u v uf ut vf vt =
     let us = spanOver p nu uk ulo uhi in
     let vs = spanOver q nv vk vlo vhi in
-    let e = at-uv p q us vs uk vk nu nv ws r u v in
+    let e : ℕ → Three = λ k. at-uv p q us vs uk vk nu nv r ws u v (coordinateValue ps k) in
     let inner = spansBound p q us vs uk vk nv ps ws r ulo uhi vlo vhi in
     let ranges = rangesRefusal p q nu nv us vs ulo uhi vlo vhi in
-    unless-in (surfaceRefusal p q uk vk nu nv ps r ws) (unless ranges (boundedOf inner)) (e (X ps)) (e (Y ps)) (e (Z ps))
+    unless-in (surfaceRefusal p q uk vk nu nv ps r ws) (unless ranges (boundedOf inner)) e
     (λ h. let Va = valid-surface p q uk vk nu nv ps r ws h in
-    unless-in ranges (boundedOf inner) (e (X ps)) (e (Y ps)) (e (Z ps))
+    unless-in ranges (boundedOf inner) e
     (λ k.
     let b = ranges-valid p q uk vk nu nv ulo uhi vlo vhi (Va .u) (Va .v) k in
-    boxed inner (e (X ps)) (e (Y ps)) (e (Z ps)) (spans-bound-in p q us vs uk vk nu nv ps ws r ulo uhi vlo vhi Va (b .0) (b .1) u v uf ut vf vt)))
+    boxed inner e (spans-bound-in p q us vs uk vk nu nv ps ws r ulo uhi vlo vhi Va (b .0) (b .1) u v uf ut vf vt)))

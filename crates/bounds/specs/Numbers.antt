@@ -1,10 +1,9 @@
 -- A bound's answer in the paper's numbers, case by case: its refusal, which is `accepted` where there is none, and its values. Definitions only.
 use Prim.Native.Nat.{ℕ}
-use mathlib.Core.Path.{_≡_}
 use mathlib.Core.List.{List, []}
 use lib.Seq.{sets}
 use lib.Ieee.{Float}
-use Rattle.knots.specs.Refusal.{refuse, accepted, quotient-none, weights-apart}
+use Rattle.knots.specs.Refusal.{accepted}
 use Rattle.knots.specs.declared.refusal.Refusal.{Refusal}
 use Rattle.interval.specs.Numbers.{endsOnto}
 use Rattle.interval.specs.declared.Interval.{Interval}
@@ -37,8 +36,3 @@ boundedRefusal (Refused r) = r
 abbrev pub boundedValues : Bounded → List Float
 boundedValues (Are b) = sixOnto (b .point) (sixOnto (b .du) (sixOnto (b .dv) []))
 boundedValues (Refused r) = []
-
--- an answer that is refused by neither 28 nor 29
-pub record Idle (A : Bounded) : Type 0 where
-  pub not-28 : boundedRefusal A .number ≡ refuse quotient-none .number → ⊥
-  pub not-29 : boundedRefusal A .number ≡ refuse weights-apart .number → ⊥

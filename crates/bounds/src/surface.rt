@@ -12,6 +12,8 @@ ghost use mathlib.Core.Path.{_≡_};
 ghost use Rattle.knots.specs.Surface.{surfaceRefusal};
 ghost use Rattle.ranges.specs.Range.{spanOver};
 ghost use Rattle.bounds.specs.Surface.{rangesRefusal, boundedBy, surfaceOf};
+ghost use Rattle.bounds.specs.Numbers.{boundedRefusal};
+ghost use Rattle.bounds.specs.Holds.{SurfaceHolds, Idle};
 
 // Refusals 31, then 24 and 25 for u and for v.
 fn ranges_refusal(u: Side, v: Side, us: usize, vs: usize) -> Refusal
@@ -49,7 +51,7 @@ fn bound_valid(
     answer_of(on_spans(u, v, us, vs, uk, vk, points, weights, rational))
 }
 
-// The bounds of a surface over a closed rectangle, which one rectangle of nonempty spans must contain.
+// The bounds of a surface over a closed rectangle, which one rectangle of nonempty spans must contain. They hold the exact point and both its first derivatives at every pair of fractions.
 pub fn bound_surface(
     u_degree: usize,
     v_degree: usize,
@@ -66,6 +68,8 @@ pub fn bound_surface(
     v_hi: f64,
 ) -> Bounded
     ensures { λ r. ⌜ r ≡ surfaceOf «u_degree» «v_degree» (now («u_knots» .entry)) (now («v_knots» .entry)) «u_count» «v_count» (now (points .entry)) rational (now (weights .entry)) «u_lo» «u_hi» «v_lo» «v_hi» ⌝ }
+    ensures { λ r. ⌜ SurfaceHolds «u_degree» «v_degree» (now («u_knots» .entry)) (now («v_knots» .entry)) «u_count» «v_count» (now (points .entry)) rational (now (weights .entry)) «u_lo» «u_hi» «v_lo» «v_hi» r ⌝ }
+    ensures { λ r. ⌜ Idle (boundedRefusal r .number) ⌝ }
 {
     let refusal = surface_refusal(
         u_degree,

@@ -18,6 +18,7 @@ pub mod Deriv
 pub mod Jets
 pub mod Window
 pub mod Surface
+pub mod Tangent
 pub mod Worked
 pub mod Scheme
 pub mod Second

@@ -6,7 +6,8 @@ use Prim.Native.Nat.{ℕ, zero, suc, _+_, _-_, min, max, _≤_, _<_}
 use native.Mathlib.Omega.{arith}
 use lib.Dec.{leb, ltb, ltb→lt, le→leb}
 use Rattle.exact.specs.Rational.{ℚ, _+q_, _-q_, _*q_, _/q_, negq, inv, q0, q1, _≤q_, ofℕ}
-use Rattle.exact.specs.Spline.{slope, basis, dbasis, ddbasis}
+use Rattle.exact.specs.Spline.{slope, basis, dbasis}
+use Rattle.exact.specs.Second.{ddbasis}
 use Rattle.exact.specs.Scheme.{numOf, termOf, sumOf, startOf, derOf, rowOf, factorOf, dersOf}
 use Rattle.exact.proofs.Field.{qring, q-ring}
 use Rattle.exact.proofs.DeBoor.{basis-low, basis-high}

@@ -6,7 +6,8 @@ use native.Mathlib.Omega.{arith}
 use lib.IntN.{pos, negsuc}
 use lib.ListN.{getD}
 use Rattle.exact.specs.Rational.{ℚ, frac, q1, _≤q_, ofℕ}
-use Rattle.exact.specs.Spline.{basis, Knots, exact, dbasis, ddbasis, dexact}
+use Rattle.exact.specs.Spline.{basis, Knots, exact, dbasis, dexact}
+use Rattle.exact.specs.Second.{ddbasis}
 use Rattle.exact.specs.Boehm.{refined, inserted, insertedPoint, cut}
 use Rattle.exact.specs.Bernstein.{ends, raised, raisedTo}
 use Rattle.exact.proofs.Field.{same, by-same, dec-le, dec-lt}

@@ -1,5 +1,6 @@
 pub mod Rational
 pub mod Spline
+pub mod Second
 pub mod Surface
 pub mod Boehm
 pub mod Bernstein

@@ -3,7 +3,7 @@
 use mathlib.Core.Bool.{cond}
 use Prim.Native.Nat.{ℕ, zero, suc, _+_, _≤_, _<_}
 use lib.Dec.{eqb}
-use Rattle.exact.specs.Rational.{ℚ, _+q_, _-q_, _*q_, _/q_, negq, inv, q0, q1, _≤q_, _<q_, ofℕ}
+use Rattle.exact.specs.Rational.{ℚ, _+q_, _-q_, _*q_, _/q_, negq, inv, q0, q1, _≤q_, _<q_}
 
 -- f 0 + .. + f (n - 1)
 unfoldable pub Σq : ℕ → (ℕ → ℚ) → ℚ
@@ -69,10 +69,3 @@ quotient X X′ W W′ = (X′ -q X /q W *q W′) /q W
 unfoldable pub dexact : (ℕ → ℚ) → ℚ → ℕ → ℕ → ℕ → (ℕ → ℚ) → (ℕ → ℚ) → ℚ
 unfolding whole dwhole quotient
 dexact U t s p count w P = quotient (whole U t s p count (λ i. w i *q P i)) (dwhole U t s p count (λ i. w i *q P i)) (whole U t s p count w) (dwhole U t s p count w)
-
--- ---- the second derivative of a basis function (The NURBS Book, 2.9): the degree times a difference, the first derivatives of the degree below over their widths
-
-unfoldable pub ddbasis : (ℕ → ℚ) → ℚ → ℕ → ℕ → ℕ → ℚ
-unfolding slope dbasis
-ddbasis U t s zero i = q0
-ddbasis U t s (suc k) i = ofℕ (suc k) *q (slope U k i *q dbasis U t s k i -q slope U k (suc i) *q dbasis U t s k (suc i))

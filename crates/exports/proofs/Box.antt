@@ -11,7 +11,9 @@ use Rattle.doubles.specs.Value.{zero+}
 use Rattle.bounds.specs.declared.answer.NurbsBounds.{NurbsBounds}
 use Rattle.bounds.specs.declared.answer.Bounded.{Bounded}
 use Rattle.bounds.specs.declared.answer.Bounded.the-variants.{Are}
-use Rattle.bounds.specs.Numbers.{boundedValues, storedSix}
+use Rattle.bounds.specs.Holds.{Idle}
+use Rattle.bounds.specs.Numbers.{boundedRefusal, boundedValues, storedSix}
+use Rattle.bounds.proofs.Promised.{Promised}
 use Rattle.exports.specs.Answer.{values, Leaves}
 use Rattle.exports.specs.Boxes.{boundedAnswer}
 use Rattle.exports.proofs.Put.{leaves-by, leaves-long, kept}
@@ -43,3 +45,7 @@ module _ {before after : List Float} {r : ℕ} where
   -- the answer that was put is the bound's
   pub bounded-by : {a b : Bounded} → a ≡ b → Leaves (boundedAnswer a) before after r → Leaves (boundedAnswer b) before after r
   bounded-by e = leaves-by (ap boundedAnswer e)
+
+  -- and what is promised of it
+  pub bounded-promised : {a b : Bounded} (F : Bounded → Type 0) → Promised a b F → Leaves (boundedAnswer a) before after r → Leaves (boundedAnswer b) before after r × (F b × Idle (boundedRefusal b .number))
+  bounded-promised F p l = (bounded-by (p .0) l, (subst F (p .0) (p .1 .0), subst (λ (x : Bounded). Idle (boundedRefusal x .number)) (p .0) (p .1 .1)))

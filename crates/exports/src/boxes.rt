@@ -7,7 +7,8 @@ use bounds::store::store_triple;
 use bounds::surface::bound_surface;
 use knots::clear::clear;
 ghost use Rattle.bounds.specs.Curve.{boundOf};
-ghost use Rattle.bounds.specs.Numbers.{boundedValues};
+ghost use Rattle.bounds.specs.Holds.{Holds, SurfaceHolds, Idle};
+ghost use Rattle.bounds.specs.Numbers.{boundedRefusal, boundedValues};
 ghost use Rattle.bounds.specs.Surface.{surfaceOf};
 ghost use Rattle.exports.specs.Answer.{Leaves, values};
 ghost use Rattle.exports.specs.Boxes.{boundedAnswer};
@@ -35,7 +36,7 @@ fn put_bounded(out: &mut [f64], a: Bounded) -> u64
     }
 }
 
-// The bounds of a curve on the closed range [lo, hi].
+// The bounds of a curve on the closed range [lo, hi]: they hold the exact point and derivative, and 28 and 29 are not given.
 #[no_mangle]
 pub extern "C" fn tasulogi_bound_curve(
     degree: usize,
@@ -48,6 +49,8 @@ pub extern "C" fn tasulogi_bound_curve(
     out: &mut [f64],
 ) -> u64
     ensures { λ r. ⌜ Leaves (boundedAnswer (boundOf degree (now (knots .entry)) (now (points .entry)) rational (now (weights .entry)) lo hi)) (now (out .entry)) (now (out .exit)) r ⌝ }
+    ensures { λ r. ⌜ Holds degree (now (knots .entry)) (now (points .entry)) rational (now (weights .entry)) lo hi (boundOf degree (now (knots .entry)) (now (points .entry)) rational (now (weights .entry)) lo hi) ⌝ }
+    ensures { λ r. ⌜ Idle (boundedRefusal (boundOf degree (now (knots .entry)) (now (points .entry)) rational (now (weights .entry)) lo hi) .number) ⌝ }
 {
     put_bounded(
         out,
@@ -55,7 +58,7 @@ pub extern "C" fn tasulogi_bound_curve(
     )
 }
 
-// The bounds of a surface on a closed rectangle.
+// The bounds of a surface on a closed rectangle: the same at every pair of fractions.
 #[no_mangle]
 pub extern "C" fn tasulogi_bound_surface(
     p: usize,
@@ -74,6 +77,8 @@ pub extern "C" fn tasulogi_bound_surface(
     out: &mut [f64],
 ) -> u64
     ensures { λ r. ⌜ Leaves (boundedAnswer (surfaceOf p q (now (uk .entry)) (now (vk .entry)) un vn (now (points .entry)) rational (now (weights .entry)) «u_lo» «u_hi» «v_lo» «v_hi»)) (now (out .entry)) (now (out .exit)) r ⌝ }
+    ensures { λ r. ⌜ SurfaceHolds p q (now (uk .entry)) (now (vk .entry)) un vn (now (points .entry)) rational (now (weights .entry)) «u_lo» «u_hi» «v_lo» «v_hi» (surfaceOf p q (now (uk .entry)) (now (vk .entry)) un vn (now (points .entry)) rational (now (weights .entry)) «u_lo» «u_hi» «v_lo» «v_hi») ⌝ }
+    ensures { λ r. ⌜ Idle (boundedRefusal (surfaceOf p q (now (uk .entry)) (now (vk .entry)) un vn (now (points .entry)) rational (now (weights .entry)) «u_lo» «u_hi» «v_lo» «v_hi») .number) ⌝ }
 {
     put_bounded(
         out,

@@ -13,6 +13,7 @@ ghost use Rattle.knots.specs.Span.{refusing, clamping};
 ghost use Rattle.many.specs.Rows.{answer};
 ghost use Rattle.many.specs.Points.{pointsStart, PointsMeet, Points2Meet};
 ghost use Rattle.many.specs.Spans.{spansOf, spansStart, SpansMeet};
+ghost use Rattle.many.specs.RowsHold.{RowsHold};
 ghost use Rattle.exports.specs.Rows.{rowsNumber, rowsCount};
 
 // 0, or the refusal, packed.
@@ -120,6 +121,7 @@ pub extern "C" fn tasulogi_bound_spans(
 ) -> u64
     ensures { λ n. ⌜ n ≡ rowsCount (answer (spansStart degree (now (knots .entry)) (now (points .entry)) rational (now (weights .entry)) (length (now (marks .entry))) (length (now (boxes .entry)))) (length (spansOf degree (now (knots .entry)) (now (points .entry))))) ⌝ }
     ensures { λ n. ⌜ SpansMeet degree (now (knots .entry)) (now (points .entry)) rational (now (weights .entry)) (length (now (marks .entry))) (length (now (boxes .entry))) (now (marks .exit)) (now (boxes .exit)) (answer (spansStart degree (now (knots .entry)) (now (points .entry)) rational (now (weights .entry)) (length (now (marks .entry))) (length (now (boxes .entry)))) (length (spansOf degree (now (knots .entry)) (now (points .entry))))) ⌝ }
+    ensures { λ n. ⌜ RowsHold degree (now (knots .entry)) (now (points .entry)) rational (now (weights .entry)) (now (marks .exit)) (now (boxes .exit)) (answer (spansStart degree (now (knots .entry)) (now (points .entry)) rational (now (weights .entry)) (length (now (marks .entry))) (length (now (boxes .entry)))) (length (spansOf degree (now (knots .entry)) (now (points .entry))))) ⌝ }
 {
     rows_count(bound_spans(degree, knots, points, rational, weights, marks, boxes))
 }

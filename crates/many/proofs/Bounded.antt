@@ -35,7 +35,8 @@ use Rattle.bounds.specs.declared.answer.Triple.{Triple}
 use Rattle.bounds.specs.declared.answer.NurbsBounds.{NurbsBounds}
 use Rattle.bounds.specs.declared.answer.Bounded.{Bounded}
 use Rattle.bounds.specs.Holds.{HoldsOn}
-use Rattle.bounds.proofs.CurveHolds.{both-hold, step-is-bound}
+use Rattle.bounds.proofs.CurveHolds.{bound-holds, step-is-bound}
+use Rattle.runs.specs.Fraction.{coordinateValue}
 use Rattle.many.proofs.Said.{box-says}
 use Rattle.many.specs.Rows.{tableRefusal, roomsRefusal}
 use Rattle.many.specs.Spans.{spansFrom, spansOf, boundIn, boxRow, marksOf, boxOf, markAt, boxAt, spansStart}
@@ -262,12 +263,12 @@ module _ (p : ℕ) (ks ps : List Float) (g : Bool) (ws : List Float) (v : ValidC
           subst (λ (k : ℕ). InRows (boxAt p ks ps g ws) 18 b₀ (spansOf p ks ps) (k * 18) b₁) c (subst (λ (k : ℕ). InRows (boxAt p ks ps g ws) 18 b₀ (spansFrom (k - p) ks p) (i * 18) b₁) e (I .boxes)),
         )
 
--- ---- the box of each row holds the point
+-- ---- the bounds of each row hold the point and its derivative
 pub row-holds : (p : ℕ) (ks ps : List Float) (g : Bool) (ws : List Float) → ValidCurve p ks ps g ws → (s : ℕ) → p ≤ s → s < countOf ps → nonempty ks s ≡ true
-    → HoldsOn p s ks ps g ws (at ks s) (at ks (s + 1)) (boundOf p ks ps g ws (at ks s) (at ks (s + 1)))
+    → HoldsOn p s ks (countOf ps) g ws (at ks s) (at ks (s + 1)) (coordinateValue ps) (boundIn p ks ps g ws s)
 row-holds p ks ps g ws v s f b h =
-    subst (λ (k : ℕ). HoldsOn p k ks ps g ws (at ks s) (at ks (s + 1)) (boundOf p ks ps g ws (at ks s) (at ks (s + 1)))) (own-first p (countOf ps) ks (v .knots) s f b h)
-    (both-hold p ks ps ws g (at ks s) (at ks (s + 1)) (boundOf p ks ps g ws (at ks s) (at ks (s + 1))) refl .1)
+    subst (λ (k : ℕ). HoldsOn p k ks (countOf ps) g ws (at ks s) (at ks (s + 1)) (coordinateValue ps) (boundIn p ks ps g ws s)) (own-first p (countOf ps) ks (v .knots) s f b h)
+    (bound-holds p ks ps ws g (at ks s) (at ks (s + 1)))
 
 -- ---- before and after the loop
 module _ (p : ℕ) (ks ps : List Float) (g : Bool) (ws : List Float) where

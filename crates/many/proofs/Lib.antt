@@ -2,3 +2,4 @@ pub mod Said
 pub mod Rows
 pub mod Evaluated
 pub mod Bounded
+pub mod RowsHold

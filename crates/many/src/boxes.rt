@@ -18,6 +18,7 @@ ghost use lib.Seq.{sets};
 ghost use Rattle.knots.specs.Curve.{ValidCurve};
 ghost use Rattle.many.specs.Rows.{rowsBy};
 ghost use Rattle.many.specs.Spans.{spansFrom, spansOf, noBounds, boxRow, marksOf, boxOf, markAt, boxAt, SpansMeet};
+ghost use Rattle.many.specs.RowsHold.{RowsHold};
 
 // What is stored of one answer: the number of its refusal or 0, then the box.
 struct BoxRow {
@@ -119,7 +120,7 @@ fn bound_each(
     }
 }
 
-// The bounds on each nonempty span over its own closed range, one validation for all: the span and the number of its own refusal or 0, and eighteen numbers.
+// The bounds on each nonempty span over its own closed range, one validation for all: the span and the number of its own refusal or 0, and eighteen numbers, which hold the exact point and derivative at every fraction of that range.
 pub fn bound_spans(
     degree: usize,
     knots: &[f64],
@@ -130,6 +131,7 @@ pub fn bound_spans(
     boxes: &mut [f64],
 ) -> ManyAnswer
     ensures { λ r. ⌜ SpansMeet degree (now (knots .entry)) (now (points .entry)) rational (now (weights .entry)) (length (now (marks .entry))) (length (now (boxes .entry))) (now (marks .exit)) (now (boxes .exit)) r ⌝ }
+    ensures { λ r. ⌜ RowsHold degree (now (knots .entry)) (now (points .entry)) rational (now (weights .entry)) (now (marks .exit)) (now (boxes .exit)) r ⌝ }
 {
     clear_numbers(marks);
     clear(boxes);

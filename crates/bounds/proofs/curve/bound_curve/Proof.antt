@@ -11,7 +11,7 @@ use Rattle.bounds.specs.declared.answer.Bounded.the-variants.{Refused}
 use Rattle.bounds.specs.Answer.{boundedOf}
 use Rattle.ranges.specs.Range.{rangeRefusal}
 use Rattle.bounds.specs.Curve.{boundOf}
-use Rattle.bounds.proofs.CurveHolds.{both-hold}
+use Rattle.bounds.proofs.Promised.{bound-promised}
 use borrow.Author.Needs.{needs}
 use Rattle.bounds.proofs.curve.bound_curve.Statement.{statement}
 use Rattle.bounds.proofs.curve.bound_curve.Tie as tie
@@ -33,7 +33,7 @@ returns : tie.Need-returns
 unfolding boundOf
 returns c =
     let a = c .before .before .before .before .before .before .args in
-    both-hold (a .degree) (now (a .knots)) (now (a .points)) (now (a .weights)) (a .rational) (a .lo) (a .hi) _
+    bound-promised (a .degree) (now (a .knots)) (now (a .points)) (now (a .weights)) (a .rational) (a .lo) (a .hi) _
     (rw (stop (c .before .before .curve-refusal .ensures) (c .if1 .taken)) (ap Refused (c .before .before .curve-refusal .ensures)))
 
 span-over-requires : tie.Need-span-over-requires
@@ -49,7 +49,7 @@ returns-2 c =
     let va = valid-curve (a .degree) (now (a .knots)) (now (a .points)) (a .rational) (now (a .weights))
     (ap number (sym (c .before .before .before .before .before .before .curve-refusal .ensures)) ∙ c .before .before .before .before .if1 .left) in
     let e = c .before .before .before .span-over .ensures ∙ span-is (a .degree) (countOf (now (a .points))) (now (a .knots)) (a .lo) (a .hi) (va .knots) in
-    both-hold (a .degree) (now (a .knots)) (now (a .points)) (now (a .weights)) (a .rational) (a .lo) (a .hi) _
+    bound-promised (a .degree) (now (a .knots)) (now (a .points)) (now (a .weights)) (a .rational) (a .lo) (a .hi) _
     (rw (
       skip (c .before .before .before .before .before .before .curve-refusal .ensures) (c .before .before .before .before .if1 .left),
       ← e,
@@ -77,7 +77,7 @@ returns-3 c =
     let va = valid-curve (a .degree) (now (a .knots)) (now (a .points)) (a .rational) (now (a .weights))
     (ap number (sym (c .before .before .before .before .before .before .before .before .curve-refusal .ensures)) ∙ c .before .before .before .before .before .before .if1 .left) in
     let e = c .before .before .before .before .before .span-over .ensures ∙ span-is (a .degree) (countOf (now (a .points))) (now (a .knots)) (a .lo) (a .hi) (va .knots) in
-    both-hold (a .degree) (now (a .knots)) (now (a .points)) (now (a .weights)) (a .rational) (a .lo) (a .hi) _
+    bound-promised (a .degree) (now (a .knots)) (now (a .points)) (now (a .weights)) (a .rational) (a .lo) (a .hi) _
     (rw (
       skip (c .before .before .before .before .before .before .before .before .curve-refusal .ensures) (c .before .before .before .before .before .before .if1 .left),
       ← e,

@@ -7,7 +7,7 @@ use Rattle.bounds.specs.declared.answer.Bounded.the-variants.{Refused}
 use Rattle.bounds.specs.Answer.{boundedOf}
 use Rattle.bounds.specs.Curve.{boundAt}
 use Rattle.bounds.proofs.Active.{started}
-use Rattle.bounds.proofs.CurveHolds.{step-both}
+use Rattle.bounds.proofs.Promised.{step-promised}
 use borrow.Author.Needs.{needs}
 use Rattle.bounds.proofs.curve.bound_span.Statement.{statement}
 use Rattle.bounds.proofs.curve.bound_span.Tie as tie
@@ -19,7 +19,7 @@ returns : tie.Need-returns
 unfolding boundAt
 returns c =
     let a = c .before .before .before .before .before .before .args in
-    step-both (a .degree) (a .span) (now (a .knots)) (now (a .points)) (now (a .weights)) (a .rational) (a .lo) (a .hi) _
+    step-promised (a .degree) (a .span) (now (a .knots)) (now (a .points)) (now (a .weights)) (a .rational) (a .lo) (a .hi) _
     (rw (stop (c .before .before .start-refusal .ensures) (c .if1 .taken)) (ap Refused (c .before .before .start-refusal .ensures)))
 
 on-span-requires : tie.Need-on-span-requires
@@ -38,7 +38,7 @@ returns-2 : tie.Need-returns-2
 unfolding boundAt
 returns-2 c =
     let a = c .before .before .before .before .before .before .before .before .args in
-    step-both (a .degree) (a .span) (now (a .knots)) (now (a .points)) (now (a .weights)) (a .rational) (a .lo) (a .hi) _
+    step-promised (a .degree) (a .span) (now (a .knots)) (now (a .points)) (now (a .weights)) (a .rational) (a .lo) (a .hi) _
     (rw (skip (c .before .before .before .before .start-refusal .ensures) (c .before .before .if1 .left)) (c .answer-of .ensures ∙ ap boundedOf (c .before .on-span .ensures)))
 
 pub bound-span-spec : {M : Type 1} → statement M

@@ -8,6 +8,7 @@ use Rattle.knots.specs.declared.refusal.Refusal.{Refusal}
 use native.Mathlib.Omega.{arith}
 use Rattle.many.specs.Spans.{spansOf, boundIn, markAt, boxAt}
 use Rattle.many.proofs.Rows.{meets-refused, meets-answered, table-open}
+use Rattle.many.proofs.RowsHold.{spans-promised}
 use Rattle.many.proofs.Bounded.{rows-few, table-stops, rooms-stop, spans-fits}
 use borrow.Author.Needs.{needs}
 use Rattle.many.proofs.boxes.bound_spans.Statement.{statement}
@@ -31,7 +32,8 @@ same-length-2 c = search needs
 returns : tie.Need-returns
 returns c =
     let a = c .before .before .before .before .before .before .before .before .before .before .before .before .before .before .before .before .args in
-    meets-refused
+    spans-promised (a .degree) (now (a .knots)) (now (a .points)) (a .rational) (now (a .weights)) _ _ _ _ _
+    (meets-refused
     (markAt (a .degree) (now (a .knots)) (now (a .points)) (a .rational) (now (a .weights))) 2 (λ s. refl) (boxAt (a .degree) (now (a .knots)) (now (a .points)) (a .rational) (now (a .weights))) 18
     (λ s. box-says (boundIn (a .degree) (now (a .knots)) (now (a .points)) (a .rational) (now (a .weights)) s) .count) (spansOf (a .degree) (now (a .knots)) (now (a .points)))
     (length (now (a .marks))) (length (now (a .boxes))) (c .before .before .before .before .before .before .before .before .before .clear-numbers .last .0)
@@ -39,7 +41,7 @@ returns c =
     (c .before .before .before .before .before .clear .ensures) _ _
     (table-stops
     (a .degree) (now (a .knots)) (now (a .points)) (a .rational) (now (a .weights)) (length (now (a .marks))) (length (now (a .boxes))) _ (c .before .before .table-refusal .ensures) (c .if1 .taken))
-    (c .if1 .taken)
+    (c .if1 .taken))
 
 span-count-requires : tie.Need-span-count-requires
 span-count-requires c κs =
@@ -86,7 +88,8 @@ same-length-4 c = search needs
 returns-2 : tie.Need-returns-2
 returns-2 c =
     let a = c .before .before .before .before .before .before .before .before .before .before .before .before .before .before .before .before .before .before .before .before .args in
-    meets-refused
+    spans-promised (a .degree) (now (a .knots)) (now (a .points)) (a .rational) (now (a .weights)) _ _ _ _ _
+    (meets-refused
     (markAt (a .degree) (now (a .knots)) (now (a .points)) (a .rational) (now (a .weights))) 2 (λ s. refl) (boxAt (a .degree) (now (a .knots)) (now (a .points)) (a .rational) (now (a .weights))) 18
     (λ s. box-says (boundIn (a .degree) (now (a .knots)) (now (a .points)) (a .rational) (now (a .weights)) s) .count) (spansOf (a .degree) (now (a .knots)) (now (a .points)))
     (length (now (a .marks))) (length (now (a .boxes))) (c .before .before .before .before .before .before .before .before .before .before .before .before .before .clear-numbers .last .0)
@@ -100,7 +103,7 @@ returns-2 c =
     (c .before .before .before .before .before .before .before .before .before .before .before .before .before .clear-numbers .ensures)
     (c .before .before .before .before .before .before .before .before .before .clear .ensures) _ (c .before .before .before .before .before .before .table-refusal .ensures)
     (c .before .before .before .before .if1 .left) _ (c .before .before .before .span-count .ensures) _ (c .before .before .rooms-refusal .ensures))
-    (c .if2 .taken)
+    (c .if2 .taken))
 
 bound-each-requires : tie.Need-bound-each-requires
 bound-each-requires c κs =
@@ -128,7 +131,8 @@ returns-3 c =
     let d = c .before .before .before .before .before .before .before .before .before .before .before .before .before .before .before .before .clear in
     let a = c .before .before .before .before .before .before .before .before .before .before .before .before .before .before .before .before .before .before .before .before .before
     .before .before .before .before .before .before .args in
-    meets-answered
+    spans-promised (a .degree) (now (a .knots)) (now (a .points)) (a .rational) (now (a .weights)) _ _ _ _ _
+    (meets-answered
     (markAt (a .degree) (now (a .knots)) (now (a .points)) (a .rational) (now (a .weights))) 2 (λ s. refl) (boxAt (a .degree) (now (a .knots)) (now (a .points)) (a .rational) (now (a .weights))) 18
     (λ s. box-says (boundIn (a .degree) (now (a .knots)) (now (a .points)) (a .rational) (now (a .weights)) s) .count) (spansOf (a .degree) (now (a .knots)) (now (a .points)))
     (length (now (a .marks))) (length (now (a .boxes)))
@@ -147,7 +151,7 @@ returns-3 c =
     (c .before .before .before .before .before .before .before .before .before .before .span-count .ensures) _
     (c .before .before .before .before .before .before .before .before .before .rooms-refusal .ensures))
     (c .before .before .before .before .before .before .before .if2 .left) _ _ _ _ _ (c .before .before .before .before .before .before .before .before .before .before .span-count .ensures) refl refl
-    (c .before .before .before .before .bound-each .ensures .0) (c .before .before .before .before .bound-each .ensures .1)
+    (c .before .before .before .before .bound-each .ensures .0) (c .before .before .before .before .bound-each .ensures .1))
 
 pub bound-spans-spec : {M : Type 1} → statement M
 bound-spans-spec =
