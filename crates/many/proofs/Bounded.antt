@@ -38,7 +38,7 @@ use Rattle.bounds.specs.Holds.{HoldsOn}
 use Rattle.bounds.proofs.CurveHolds.{bound-holds, step-is-bound}
 use Rattle.runs.specs.Fraction.{coordinateValue}
 use Rattle.many.proofs.Said.{box-says}
-use Rattle.many.specs.Rows.{tableRefusal, roomsRefusal}
+use Rattle.many.specs.Start.{tableRefusal, roomsRefusal}
 use Rattle.many.specs.Spans.{spansFrom, spansOf, boundIn, boxRow, marksOf, boxOf, markAt, boxAt, spansStart}
 use Rattle.many.specs.declared.boxes.BoxRow.{BoxRow}
 use Rattle.many.proofs.Rows.{InRows, in-start, in-more, rooms-open}

@@ -31,7 +31,7 @@ use Rattle.evaluate.proofs.Steps.{parameter-open}
 use Rattle.evaluate.proofs.Curves.{eval-inside-same, eval2-inside-same, eval-outside, eval2-outside}
 use Rattle.knots.proofs.Searches.{searched-is}
 use Rattle.evaluate.specs.declared.curve2.CurveAnswer2.the-variants as two
-use Rattle.many.specs.Rows.{tableRefusal}
+use Rattle.many.specs.Start.{tableRefusal}
 use Rattle.many.specs.Points.{width, numberAt, numbersAt, numbersOf, pointsStart}
 use Rattle.many.specs.declared.row.PointRow.{PointRow}
 use Rattle.many.proofs.Rows.{InRows, in-start, in-more, table-open, rooms-open}

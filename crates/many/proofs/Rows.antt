@@ -18,7 +18,8 @@ use Rattle.knots.specs.Curve.{curveRefusal, ValidCurve}
 use Rattle.knots.proofs.Curves.{valid-curve}
 use Rattle.knots.specs.Shape.{degreeRefusal, roomRefusal}
 use Rattle.knots.proofs.Shapes.{room-open}
-use Rattle.many.specs.Rows.{rowsBy, left, RowsMeet, tableRefusal, roomsRefusal}
+use Rattle.many.specs.Rows.{rowsBy, left, RowsMeet}
+use Rattle.many.specs.Start.{tableRefusal, roomsRefusal}
 use Rattle.many.specs.declared.answer.ManyAnswer.the-variants.{Rows, Refused}
 
 module _ {X Y : Type 0} (f : X → List Y) where

@@ -9,7 +9,7 @@ use lib.Dec.{eqb, ltb}
 use lib.ListN.{length, getD, replicate, List·getD-append}
 use lib.Seq.{getD-append-add}
 use lib.Ieee.{Float, nan}
-use borrow.Author.Tests.{eqb-true, eqb-false}
+use borrow.Author.Tests.{eqb-true}
 use Rattle.doubles.specs.Run.{at}
 use Rattle.doubles.specs.Value.{zero+}
 use Rattle.knots.specs.Refusal.{refuse, accepted, numbered, length-bad, degree-high}
@@ -29,7 +29,8 @@ use Rattle.bounds.specs.declared.answer.Bounded.the-variants as B
 use Rattle.bounds.proofs.Idle.{Other, idle, orElse-other, curve-other, bound-idle}
 use Rattle.bounds.proofs.Numbered.{Numbered, bound-numbered}
 use Rattle.many.specs.Numbers.{manyAnswerRefusal}
-use Rattle.many.specs.Rows.{rowsBy, rowOf, left, answer, RowsMeet, tableRefusal, roomsRefusal}
+use Rattle.many.specs.Rows.{rowsBy, rowOf, left}
+use Rattle.many.specs.Start.{tableRefusal, roomsRefusal}
 use Rattle.many.specs.Spans.{spansFrom, spansOf, boundIn, markAt, boxAt, spansStart, SpansMeet}
 use Rattle.many.specs.RowsHold.{answerAt, RowsHold}
 use Rattle.many.specs.declared.answer.ManyAnswer.{ManyAnswer}

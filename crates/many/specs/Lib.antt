@@ -1,4 +1,5 @@
 pub mod Rows
+pub mod Start
 pub mod Points
 pub mod Spans
 pub mod Numbers

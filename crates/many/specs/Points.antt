@@ -18,7 +18,8 @@ use Rattle.evaluate.specs.declared.curve.CurveAnswer.{CurveAnswer}
 use Rattle.evaluate.specs.declared.curve.CurveAnswer.the-variants.{At, Refused}
 use Rattle.evaluate.specs.declared.curve2.CurveAnswer2.{CurveAnswer2}
 use Rattle.evaluate.specs.declared.curve2.CurveAnswer2.the-variants as two
-use Rattle.many.specs.Rows.{RowsMeet, rowOf, tableRefusal, roomsRefusal}
+use Rattle.many.specs.Rows.{RowsMeet, rowOf}
+use Rattle.many.specs.Start.{tableRefusal, roomsRefusal}
 use Rattle.many.specs.declared.answer.ManyAnswer.{ManyAnswer}
 use Rattle.many.specs.declared.row.PointRow.{PointRow}
 

@@ -1,18 +1,15 @@
 -- Rows of many answers, one after the other: what a call answers, and what it leaves in a lent run.
 -- Assumes nothing.
 use Prim.Native.Nat.{ℕ, _-_}
-use mathlib.Core.Bool.{Bool, cond}
+use mathlib.Core.Bool.{cond}
 use mathlib.Core.Path.{_≡_}
 use mathlib.Core.List.{List, [], _∷_, _++_}
 use lib.ListN.{length, replicate}
 use lib.Dec.{eqb}
 use lib.Ieee.{Float}
 use Rattle.doubles.specs.Value.{zero+}
-use Rattle.knots.specs.Refusal.{orElse}
-use Rattle.knots.specs.Curve.{curveRefusal}
 use Rattle.knots.specs.Clear.{zeros}
 use Rattle.knots.specs.declared.refusal.Refusal.{Refusal}
-use Rattle.knots.specs.Shape.{degreeRefusal, roomRefusal}
 use Rattle.many.specs.declared.answer.ManyAnswer.{ManyAnswer}
 use Rattle.many.specs.declared.answer.ManyAnswer.the-variants.{Rows, Refused}
 
@@ -39,12 +36,3 @@ pub record RowsMeet {X : Type 0} (r : Refusal) (xs : List X) (f : X → List ℕ
   pub answered : A ≡ answer r (length xs)
   pub numbers : ns ≡ left 0 r a (rowsBy f xs)
   pub rows : rs ≡ left zero+ r b (rowsBy h xs)
-
--- ---- refusals before any row
--- the curve's, then 31
-unfoldable pub tableRefusal : ℕ → List Float → List Float → Bool → List Float → Refusal
-tableRefusal p ks ps g ws = orElse (curveRefusal p ks ps g ws) (degreeRefusal p)
-
--- 30 of two lent runs of a and b numbers that are to hold m and n
-unfoldable pub roomsRefusal : ℕ → ℕ → ℕ → ℕ → Refusal
-roomsRefusal a m b n = orElse (roomRefusal a m) (roomRefusal b n)

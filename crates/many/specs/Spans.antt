@@ -18,7 +18,8 @@ use Rattle.bounds.specs.declared.answer.Triple.{Triple}
 use Rattle.bounds.specs.declared.answer.NurbsBounds.{NurbsBounds}
 use Rattle.bounds.specs.declared.answer.Bounded.{Bounded}
 use Rattle.bounds.specs.declared.answer.Bounded.the-variants.{Are, Refused}
-use Rattle.many.specs.Rows.{RowsMeet, rowOf, tableRefusal, roomsRefusal}
+use Rattle.many.specs.Rows.{RowsMeet, rowOf}
+use Rattle.many.specs.Start.{tableRefusal, roomsRefusal}
 use Rattle.many.specs.declared.answer.ManyAnswer.{ManyAnswer}
 use Rattle.many.specs.declared.boxes.BoxRow.{BoxRow}
 

@@ -8,7 +8,7 @@ use knots::shape::room_refusal;
 ghost use mathlib.Core.Path.{_≡_};
 ghost use Prim.Native.Nat.{_≤_};
 ghost use Rattle.many.specs.Points.{pointsStart};
-ghost use Rattle.many.specs.Rows.{tableRefusal, roomsRefusal};
+ghost use Rattle.many.specs.Start.{tableRefusal, roomsRefusal};
 
 // The curve's own, then 31.
 pub fn table_refusal(

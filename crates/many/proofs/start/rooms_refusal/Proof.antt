@@ -1,7 +1,7 @@
 -- `many::start::rooms_refusal` meets its contract.
 -- Assumes nothing.
 use Rattle.knots.proofs.Refusals.{stop, skip}
-use Rattle.many.specs.Rows.{roomsRefusal}
+use Rattle.many.specs.Start.{roomsRefusal}
 use borrow.Author.Needs.{needs}
 use Rattle.many.proofs.start.rooms_refusal.Statement.{statement}
 use Rattle.many.proofs.start.rooms_refusal.Tie as tie

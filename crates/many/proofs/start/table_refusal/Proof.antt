@@ -1,7 +1,7 @@
 -- `many::start::table_refusal` meets its contract.
 -- Assumes nothing.
 use Rattle.knots.proofs.Refusals.{stop, skip}
-use Rattle.many.specs.Rows.{tableRefusal}
+use Rattle.many.specs.Start.{tableRefusal}
 use borrow.Author.Needs.{needs}
 use Rattle.many.proofs.start.table_refusal.Statement.{statement}
 use Rattle.many.proofs.start.table_refusal.Tie as tie
