@@ -1,4 +1,4 @@
--- The lines of the box lister: a span, its knots, and an interval for each coordinate of the point. A text is its bytes in ASCII.
+-- The lines of the box lister and of the speed lister: a span, its knots, and an interval for each coordinate of the point or of du. A text is its bytes in ASCII.
 -- Assumes nothing.
 use Prim.Native.Nat.{ℕ, _+_}
 use mathlib.Core.Bool.{Bool, true, false, cond}
@@ -28,18 +28,18 @@ spacedDecimals i = 32 ∷ (fixed false (i .lo) ++ (32 ∷ fixed true (i .hi)))
 abbrev pub each : (Interval → List ℕ) → Triple → List ℕ
 each text t = text (t .x) ++ (text (t .y) ++ text (t .z))
 
--- x, y and z, by the first six of a bound's values
-abbrev pub pointBy : List Float → Triple
-pointBy vs = record { x = record { lo = at vs 0; hi = at vs 1 }; y = record { lo = at vs 2; hi = at vs 3 }; z = record { lo = at vs 4; hi = at vs 5 } }
+-- x, y and z, by the six of a bound's values from place k on: the point's stand from 0 on, du's from 6 on
+abbrev pub tripleBy : List Float → ℕ → Triple
+tripleBy vs k = record { x = record { lo = at vs k; hi = at vs (k + 1) }; y = record { lo = at vs (k + 2); hi = at vs (k + 3) }; z = record { lo = at vs (k + 4); hi = at vs (k + 5) } }
 
--- the point's coordinates by their bits, then as decimals; or, where it is refused and has no values, ` refused ` and the number
-unfoldable pub outcome : Bounded → List ℕ
-outcome a = let vs = boundedValues a in let t = pointBy vs in cond (eqb (length vs) 0) (32 ∷ (refusedWord ++ decimal (boundedRefusal a .number))) (each spacedEnds t ++ each spacedDecimals t)
+-- the coordinates of the point, or of du where speeds are asked for, by their bits, then as decimals; or, where the bound is refused and has no values, ` refused ` and the number
+unfoldable pub outcome : Bool → Bounded → List ℕ
+outcome speeds a = let vs = boundedValues a in let t = tripleBy vs (cond speeds 6 0) in cond (eqb (length vs) 0) (32 ∷ (refusedWord ++ decimal (boundedRefusal a .number))) (each spacedEnds t ++ each spacedDecimals t)
 
 -- the line of the span s between two knots
-unfoldable pub boxLine : ℕ → Float → Float → Bounded → List ℕ
-boxLine s lower upper a = decimal s ++ (spacedBits lower ++ (spacedBits upper ++ (outcome a ++ (10 ∷ []))))
+unfoldable pub boxLine : Bool → ℕ → Float → Float → Bounded → List ℕ
+boxLine speeds s lower upper a = decimal s ++ (spacedBits lower ++ (spacedBits upper ++ (outcome speeds a ++ (10 ∷ []))))
 
 -- that of a curve's span s, bounded over its own closed range
-unfoldable pub boxOf : ℕ → List Float → List Float → Bool → List Float → ℕ → List ℕ
-boxOf p ks ps r ws s = boxLine s (at ks s) (at ks (s + 1)) (boundAt p s ks ps r ws (at ks s) (at ks (s + 1)))
+unfoldable pub boxOf : Bool → ℕ → List Float → List Float → Bool → List Float → ℕ → List ℕ
+boxOf speeds p ks ps r ws s = boxLine speeds s (at ks s) (at ks (s + 1)) (boundAt p s ks ps r ws (at ks s) (at ks (s + 1)))

@@ -10,10 +10,11 @@ use pieces::print_points;
 use record::table::TableAnswer;
 use record::table::read_table;
 
-// The nonempty spans, those with intervals that hold the point, or the drawing.
+// The nonempty spans, those with intervals that hold the point or its derivative, or the drawing.
 pub enum Kind {
     Spans,
     Boxes,
+    Speeds,
     Drawing,
 }
 

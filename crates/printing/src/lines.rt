@@ -40,7 +40,8 @@ fn next_of(
 {
     match kind {
         Kind::Spans => next_line(degree, points.len() / 3, knots, from, out),
-        Kind::Boxes => next_box(degree, knots, points, rational, weights, from, out),
+        Kind::Boxes => next_box(false, degree, knots, points, rational, weights, from, out),
+        Kind::Speeds => next_box(true, degree, knots, points, rational, weights, from, out),
         Kind::Drawing => next_path(degree, knots, points, rational, weights, from, part, out),
     }
 }

@@ -38,9 +38,9 @@ unfolding boxOf
 returns c =
     let a = c .before .before .before .before .before .before .before .before .before .before .args in
     let s = c .before .before .before .before .span .given .0 .0 in
-    let text : Float → Float → List ℕ = λ lower upper. boxLine s lower upper (boundAt (a .degree) s (now (a .knots)) (now (a .points)) (a .rational) (now (a .weights)) lower upper) in
+    let text : Float → Float → List ℕ = λ lower upper. boxLine (a .speeds) s lower upper (boundAt (a .degree) s (now (a .knots)) (now (a .points)) (a .rational) (now (a .weights)) lower upper) in
     let shown = rw (c .before .before .bound-span .ensures .0) at (c .box-line .ensures) in
-    next-shown (boxOf (a .degree) (now (a .knots)) (now (a .points)) (a .rational) (now (a .weights))) (now (a .knots))
+    next-shown (boxOf (a .speeds) (a .degree) (now (a .knots)) (now (a .points)) (a .rational) (now (a .weights))) (now (a .knots))
     (nextSpan (a .degree) (countOf (now (a .points))) (now (a .knots)) (a .«from»)) 2304 text
     (sym (c .before .before .before .before .span .given .1) ∙ c .before .before .before .before .before .before .next-range .ensures) refl shown
 
@@ -48,7 +48,7 @@ returns-2 : tie.Need-returns-2
 returns-2 c =
     let a = c .before .before .before .before .before .before .before .before .args in
     let long : length (now (a .out)) ≡ 2304 = search needs in
-    end-shown (boxOf (a .degree) (now (a .knots)) (now (a .points)) (a .rational) (now (a .weights))) (now (a .knots))
+    end-shown (boxOf (a .speeds) (a .degree) (now (a .knots)) (now (a .points)) (a .rational) (now (a .weights))) (now (a .knots))
     (nextSpan (a .degree) (countOf (now (a .points))) (now (a .knots)) (a .«from»)) 2304
     (sym (c .before .before .enum-told .given .1) ∙ c .before .before .before .before .next-range .ensures) (c .clear-bytes .ensures) long
 
