@@ -15,6 +15,13 @@ fn line() -> (CurveCase, Ends) {
     (CurveCase { table, range: (0.0, 1.0) }, [0., 3., -1., 1., 5., 5., 3., 3., -2., -2., 0., 0., 0., 0., 0., 0., 0., 0.])
 }
 
+/// x = t², y = -t², z = 5 - t².
+fn parabola() -> (CurveCase, Ends) {
+    let points = vec![0., 0., 5., 0., 0., 5., 1., -1., 4.];
+    let table = Curve { degree: 2, knots: vec![0., 0., 0., 1., 1., 1.], points, ..Curve::default() };
+    (CurveCase { table, range: (0.0, 1.0) }, [0., 1., -1., 0., 4., 5., 0., 2., -2., 0., -2., 0., 0., 0., 0., 0., 0., 0.])
+}
+
 /// With the weights 1 and 3: x = 9t / (1 + 2t), whose derivative is 9 / (1 + 2t)², y = -x, z = 5.
 fn weighted_line() -> (CurveCase, Ends) {
     let points = vec![0., 0., 5., 3., -3., 5.];
@@ -62,5 +69,6 @@ pub fn self_test() -> bool {
     let tally = || Tally::new(2, 0, KINDS.len());
     let curve = |(case, least)| is_judged(least, |b| exact::curve(&mut Rng::new(1, 0), &case, b, &mut tally()).is_none());
     let surface = |(case, least)| is_judged(least, |b| exact::surface(&mut Rng::new(1, 0), &case, b, &mut tally()).is_none());
-    curve(line()) && curve(weighted_line()) && surface(plain_patch()) && surface(weighted_patch())
+    let curves = curve(line()) && curve(parabola()) && curve(weighted_line());
+    curves && surface(plain_patch()) && surface(weighted_patch())
 }
