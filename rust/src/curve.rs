@@ -1,7 +1,6 @@
 use crate::boxes::NUMBERS;
 use crate::refusal::{answered, done};
-use crate::{BoundBox, Interval, Refusal, face, room, vectors};
-use std::iter::FusedIterator;
+use crate::{BoundBox, Interval, Refusal, Span, Spans, face, room, vectors};
 
 /// A curve over borrowed runs: `points` has x, y, z of each point, `weights` one number for each.
 ///
@@ -21,23 +20,6 @@ pub const TABLE_A: Curve<'static> = Curve {
     points: &[0.0, 0.0, 0.0, 2.0, 0.0, 0.0, 4.0, 0.0, 0.0, 6.0, 0.0, 0.0],
     weights: None,
 };
-
-/// A nonempty span: its index, and the knots on both sides of it.
-#[derive(Clone, Copy, Debug, PartialEq)]
-pub struct Span {
-    pub index: usize,
-    pub lo: f64,
-    pub hi: f64,
-}
-
-/// The nonempty spans of a curve, by [`Curve::spans`].
-#[derive(Clone, Debug)]
-pub struct Spans<'a> {
-    degree: usize,
-    count: usize,
-    knots: &'a [f64],
-    from: usize,
-}
 
 /// A point and its first derivative, x, y, z of each.
 pub type Point = [[f64; 3]; 2];
@@ -291,19 +273,3 @@ impl<'a> Curve<'a> {
         self.points.len() / 3
     }
 }
-
-impl Iterator for Spans<'_> {
-    type Item = Span;
-
-    fn next(&mut self) -> Option<Span> {
-        let index = face::next_span(self.degree, self.count, self.knots, self.from);
-        if index >= self.count {
-            self.from = self.count;
-            return None;
-        }
-        self.from = index + 1;
-        Some(Span { index, lo: *self.knots.get(index)?, hi: *self.knots.get(index + 1)? })
-    }
-}
-
-impl FusedIterator for Spans<'_> {}

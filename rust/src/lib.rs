@@ -40,13 +40,15 @@ mod edits;
 mod face;
 mod interval;
 mod refusal;
+mod spans;
 mod surface;
 
 pub use boxes::BoundBox;
-pub use curve::{Curve, Point, Point2, Span, SpanBound, Spans, TABLE_A};
+pub use curve::{Curve, Point, Point2, SpanBound, TABLE_A};
 pub use edits::CurveBuf;
 pub use interval::{Interval, Sign};
 pub use refusal::{Class, Direction, Refusal};
+pub use spans::{Span, Spans};
 pub use surface::Surface;
 
 /// The N vectors that a call writes.
