@@ -28,7 +28,7 @@ pub struct Row {
     pub differ: u64,
     /// Cases that differ in the sign of a zero that the Rust leaves open, and in nothing else.
     pub zero_signs: u64,
-    /// Exact results looked for in the answered interval, and how many lay outside.
+    /// Exact results, of a box vectors, looked for in what was answered, and how many lay outside.
     pub exact: u64,
     pub outside: u64,
     /// Refusals of a surface reach 207.
