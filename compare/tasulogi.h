@@ -69,7 +69,13 @@ enum {
 #define TASULOGI_EDIT_REFUSAL(r) ((uint32_t)(r))
 #define TASULOGI_EDIT_COUNT(r) ((size_t)((r) >> 32))
 
-/* How many numbers a box has: point, du, dv, each x, y, z, each low before high. */
+/* How many numbers a box has: point, du, dv, each x, y, z, each low before high.
+ *   [0] to [5]    x, y, z of the point
+ *   [6] to [11]   x, y, z of du, the first derivative along u; of a curve along its one parameter
+ *   [12] to [17]  x, y, z of dv, the first derivative along v; of a curve 0
+ * They hold at every fraction of the range, ends and doubles among them; of a surface at every pair of a fraction of the
+ * u range and one of the v range. There the point and its derivatives, worked out exactly on the span that was taken, lie
+ * between their ends; an infinite end sets no limit. */
 #define TASULOGI_BOX 18
 
 /* What tasulogi_class_of returns. */
@@ -174,14 +180,17 @@ size_t tasulogi_next_span(size_t degree, size_t count, const double *knots, size
 /* u, or the nearer end of the domain where u lies outside; a NaN stays one, a zero keeps its sign. */
 double tasulogi_clamp(size_t degree, size_t count, double u, const double *knots, size_t knots_n);
 
-/* The box of a curve over the closed range [lo, hi], on the first nonempty span that contains it. Refusals in this
- * order: those of the curve, 31, 24, 25, 27, 26, then 30 for the lent run. 28 and 29 are given for no input. */
+/* The box of a curve over the closed range [lo, hi], on the first nonempty span that contains it: at every fraction from lo
+ * to hi the exact point lies in the first three intervals and the exact first derivative in du; dv encloses 0. Refusals in
+ * this order: those of the curve, 31, 24, 25, 27, 26, then 30 for the lent run. 28 and 29 are never given. */
 uint64_t tasulogi_bound_curve(size_t degree, const double *knots, size_t knots_n, const double *points,
                               size_t points_n, bool rational, const double *weights, size_t weights_n, double lo,
                               double hi, double *out, size_t n);
 
-/* The box of a surface over a closed rectangle. Refusals in this order: those of the surface, 31, 24 and 25 for u,
- * 24 and 25 for v, 27, 26, then 30 for the lent run. */
+/* The box of a surface over a closed rectangle, on the first nonempty span of each direction that contains its range: at
+ * every pair of fractions of the two ranges the exact point lies in the first three intervals, the exact first derivative
+ * along u in du and that along v in dv. Refusals in this order: those of the surface, 31, 24 and 25 for u, 24 and 25 for v,
+ * 27, 26, then 30 for the lent run. 28 and 29 are never given. */
 uint64_t tasulogi_bound_surface(size_t u_degree, size_t v_degree, const double *u_knots, size_t u_knots_n,
                                 const double *v_knots, size_t v_knots_n, size_t u_count, size_t v_count,
                                 const double *points, size_t points_n, bool rational, const double *weights,
@@ -235,9 +244,10 @@ uint64_t tasulogi_eval2_many_clamped(size_t degree, const double *knots, size_t 
                                      const double *ts, size_t ts_n, uint32_t *numbers, size_t numbers_n, double *rows,
                                      size_t rows_n);
 
-/* The box of each nonempty span over its own closed range, in order: `marks` gets the span and its refusal, or 0, and
- * `boxes` 18 numbers of each. Returns how many rows there are, which is never more than count - degree; else a refusal:
- * those of the curve, 31, 30 for a lent run. */
+/* The box of each nonempty span over its own closed range, in order: `marks` gets the span and its refusal, 27 or 26, or 0,
+ * and `boxes` 18 numbers of each, which hold what those of tasulogi_bound_curve hold: at every fraction of the span the
+ * exact point and its first derivative, and 0 in dv. Returns how many rows there are, which is never more than
+ * count - degree; else a refusal: those of the curve, 31, 30 for a lent run. 28 and 29 are never given, nor in `marks`. */
 uint64_t tasulogi_bound_spans(size_t degree, const double *knots, size_t knots_n, const double *points, size_t points_n,
                               bool rational, const double *weights, size_t weights_n, uint32_t *marks, size_t marks_n,
                               double *boxes, size_t boxes_n);

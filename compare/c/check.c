@@ -123,6 +123,8 @@ static void texts(void)
     }
     expect(strcmp(tasulogi_refusal_text(12), "evaluation parameter not finite") == 0, "a text");
     expect(strcmp(tasulogi_refusal_text(43), "evaluation parameter outside the domain") == 0, "a text behind a gap");
+    expect(strcmp(tasulogi_refusal_text(28), "quotient interval cannot be formed; never given") == 0, "the mark of 28");
+    expect(strcmp(tasulogi_refusal_text(29), "weight enclosures do not meet; never given") == 0, "the mark of 29");
     expect(texts == 34 && rows == 55, "how many texts");
 }
 
@@ -146,11 +148,15 @@ static void boxes(void)
     box[TASULOGI_BOX] = 7.0;
     expect(tasulogi_bound_curve(2, knots, 7, points, 12, false, none, 0, 0.5, 0.5, box, TASULOGI_BOX + 1) == TASULOGI_DONE, "a bound of A");
     expect(box[0] < 1.75 && box[1] > 1.75 && box[1] - box[0] < 1e-12 && same(box[TASULOGI_BOX], 0.0), "the point of A at 0.5, and the tail");
+    expect(box[6] < 3.0 && box[7] > 3.0 && box[7] - box[6] < 1e-12, "its derivative, of x = 4t - t^2");
+    expect(box[12] <= 0.0 && box[13] >= 0.0 && box[13] - box[12] < 1e-300, "a curve's dv is 0");
     expect(tasulogi_bound_curve(2, knots, 7, points, 12, false, none, 0, 0.5, 1.5, box, TASULOGI_BOX) == 25 && same(box[0], 0.0), "A on [0.5, 1.5]");
     expect(tasulogi_bound_curve(2, knots, 7, points, 12, false, none, 0, 0.5, 0.5, box, TASULOGI_BOX - 1) == TASULOGI_TOO_LITTLE_ROOM, "a box one short");
     static const double ends[] = { 0, 0, 1, 1 };
     expect(tasulogi_bound_surface(1, 1, ends, 4, ends, 4, 2, 2, points, 12, false, none, 0, 0.5, 0.5, 0.5, 0.5, box, TASULOGI_BOX) == TASULOGI_DONE, "a bound of a surface");
     expect(box[0] < 3.0 && box[1] > 3.0 && box[1] - box[0] < 1e-12, "its point");
+    expect(box[6] < 4.0 && box[7] > 4.0 && box[7] - box[6] < 1e-12, "its derivative along u, of x = 4u + 2v");
+    expect(box[12] < 2.0 && box[13] > 2.0 && box[13] - box[12] < 1e-12, "along v");
     expect(tasulogi_bound_surface(0, 1, ends, 4, ends, 4, 2, 2, points, 12, false, none, 0, 0.5, 0.5, 0.5, 0.5, box, TASULOGI_BOX) == 101, "degree 0 along u");
 }
 

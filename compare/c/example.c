@@ -52,12 +52,15 @@ static void walk(double step)
     }
 }
 
-/* The exact lift at every angle from lo to hi lies between the two ends; a shorter range has a narrower box. */
+/* The exact lift at every angle from lo to hi lies between the two ends, and so does the exact rise per degree, its first
+ * derivative; a shorter range has a narrower box. */
 static void bound(double lo, double hi)
 {
     double box[TASULOGI_BOX];
     if (done("bound", tasulogi_bound_curve(CAM, lo, hi, box, TASULOGI_BOX))) {
-        printf("from %.17g to %.17g degrees the lift is from %.17g to %.17g\n", lo, hi, box[2], box[3]);
+        const double *y = box + 2, *du_y = box + 6 + 2;
+        printf("from %.17g to %.17g degrees the lift is from %.17g to %.17g\n", lo, hi, y[0], y[1]);
+        printf("  and it rises by %.17g to %.17g mm per degree\n", du_y[0], du_y[1]);
     }
 }
 

@@ -1,6 +1,6 @@
+use crate::boxes::NUMBERS;
 use crate::refusal::{answered, done};
-use crate::{Interval, Refusal, face, point_of, room, vectors};
-use std::iter::FusedIterator;
+use crate::{BoundBox, Interval, Refusal, Span, Spans, face, room, vectors};
 
 /// A curve over borrowed runs: `points` has x, y, z of each point, `weights` one number for each.
 ///
@@ -20,23 +20,6 @@ pub const TABLE_A: Curve<'static> = Curve {
     points: &[0.0, 0.0, 0.0, 2.0, 0.0, 0.0, 4.0, 0.0, 0.0, 6.0, 0.0, 0.0],
     weights: None,
 };
-
-/// A nonempty span: its index, and the knots on both sides of it.
-#[derive(Clone, Copy, Debug, PartialEq)]
-pub struct Span {
-    pub index: usize,
-    pub lo: f64,
-    pub hi: f64,
-}
-
-/// The nonempty spans of a curve, by [`Curve::spans`].
-#[derive(Clone, Debug)]
-pub struct Spans<'a> {
-    degree: usize,
-    count: usize,
-    knots: &'a [f64],
-    from: usize,
-}
 
 /// A point and its first derivative, x, y, z of each.
 pub type Point = [[f64; 3]; 2];
@@ -178,7 +161,8 @@ impl<'a> Curve<'a> {
         vectors(|out| face::eval2_clamped(self, t, out))
     }
 
-    /// Intervals of x, y, z that hold the exact point at every parameter from `lo` to `hi`, which lie in one span.
+    /// Intervals of x, y, z that hold the exact point at every fraction from `lo` to `hi`, which lie in one span. Refusals
+    /// after those of the curve: 31, 24, 25, 27, 26; 28 and 29 are never given.
     ///
     /// ```
     /// use tasulogi::{Class, TABLE_A};
@@ -190,9 +174,24 @@ impl<'a> Curve<'a> {
     /// # Ok::<(), tasulogi::Refusal>(())
     /// ```
     pub fn bound(&self, lo: f64, hi: f64) -> Result<[Interval; 3], Refusal> {
-        let mut out = [0.0; 18];
-        done(face::bound_curve(self, lo, hi, &mut out))?;
-        Ok(point_of(&out))
+        Ok(self.bound_box(lo, hi)?.point)
+    }
+
+    /// The point of [`Curve::bound`], and with it intervals of the first derivative: at every fraction from `lo` to `hi` the
+    /// exact one lies in `du`, and `dv` encloses 0. Refused as [`Curve::bound`].
+    ///
+    /// ```
+    /// use tasulogi::TABLE_A;
+    /// // From 0 to 1 it is x = 4t - t², whose derivative is 4 - 2t.
+    /// let at_half = TABLE_A.bound_box(0.5, 0.5)?;
+    /// assert!(at_half.du[0].contains(3.0) && at_half.du[0].width() < 1e-12);
+    /// let whole = TABLE_A.bound_box(0.0, 1.0)?;
+    /// assert!(whole.du[0].contains(4.0) && whole.du[0].contains(2.0) && whole.dv[0].contains(0.0));
+    /// assert_eq!(whole.point, TABLE_A.bound(0.0, 1.0)?);
+    /// # Ok::<(), tasulogi::Refusal>(())
+    /// ```
+    pub fn bound_box(&self, lo: f64, hi: f64) -> Result<BoundBox, Refusal> {
+        BoundBox::by(|out| face::bound_curve(self, lo, hi, out))
     }
 
     /// The point and the first derivative at each parameter, with the curve checked once: what [`Curve::eval`] answers.
@@ -246,7 +245,8 @@ impl<'a> Curve<'a> {
         rows(ts.len(), |numbers, rows| face::eval2_many_clamped(self, ts, numbers, rows))
     }
 
-    /// What [`Curve::bound`] answers on each nonempty span, in order, with the curve checked once.
+    /// What [`Curve::bound`] answers on each nonempty span, in order, with the curve checked once: the exact point at every
+    /// fraction of the span lies in it. What holds the derivative there is [`Curve::bound_box`] from `lo` to `hi` of the span.
     ///
     /// ```
     /// use tasulogi::{Curve, TABLE_A};
@@ -259,33 +259,17 @@ impl<'a> Curve<'a> {
     /// ```
     pub fn bound_spans(&self) -> Result<Vec<SpanBound>, Refusal> {
         let most = self.count().saturating_sub(self.degree);
-        let (mut marks, mut boxes) = (room(2 * most)?, room(18 * most)?);
+        let (mut marks, mut boxes) = (room(2 * most)?, room(NUMBERS * most)?);
         let count = answered(face::bound_spans(self, &mut marks, &mut boxes))?;
         let row = |(mark, numbers): (&[u32], &[f64])| {
             let index = mark[0] as usize;
             let span = Span { index, lo: self.knots[index], hi: self.knots[index + 1] };
-            SpanBound { span, point: done(u64::from(mark[1])).map(|()| point_of(numbers)) }
+            SpanBound { span, point: done(u64::from(mark[1])).map(|()| BoundBox::of(numbers).point) }
         };
-        Ok(marks.chunks(2).zip(boxes.chunks(18)).take(count).map(row).collect())
+        Ok(marks.chunks(2).zip(boxes.chunks(NUMBERS)).take(count).map(row).collect())
     }
 
     pub(crate) fn count(&self) -> usize {
         self.points.len() / 3
     }
 }
-
-impl Iterator for Spans<'_> {
-    type Item = Span;
-
-    fn next(&mut self) -> Option<Span> {
-        let index = face::next_span(self.degree, self.count, self.knots, self.from);
-        if index >= self.count {
-            self.from = self.count;
-            return None;
-        }
-        self.from = index + 1;
-        Some(Span { index, lo: *self.knots.get(index)?, hi: *self.knots.get(index + 1)? })
-    }
-}
-
-impl FusedIterator for Spans<'_> {}

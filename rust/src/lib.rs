@@ -34,23 +34,22 @@
 //! // Clamped, the same loop would not end: it would get the last point again and again.
 //! assert_eq!([2.5, 3.0, 1e9].map(|t| TABLE_A.eval_clamped(t)), [TABLE_A.eval(2.0); 3]);
 //! ```
+mod boxes;
 mod curve;
 mod edits;
 mod face;
 mod interval;
 mod refusal;
+mod spans;
 mod surface;
 
-pub use curve::{Curve, Point, Point2, Span, SpanBound, Spans, TABLE_A};
+pub use boxes::BoundBox;
+pub use curve::{Curve, Point, Point2, SpanBound, TABLE_A};
 pub use edits::CurveBuf;
 pub use interval::{Interval, Sign};
 pub use refusal::{Class, Direction, Refusal};
+pub use spans::{Span, Spans};
 pub use surface::Surface;
-
-/// The first three intervals of an answered box: x, y, z of the point.
-fn point_of(numbers: &[f64]) -> [Interval; 3] {
-    [0, 2, 4].map(|i| Interval::of([numbers[i], numbers[i + 1]]))
-}
 
 /// The N vectors that a call writes.
 fn vectors<const N: usize>(call: impl FnOnce(&mut [f64]) -> u64) -> Result<[[f64; 3]; N], Refusal> {

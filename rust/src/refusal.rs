@@ -64,7 +64,7 @@ impl Refusal {
         }
     }
 
-    /// When this number is given, in document 01's words.
+    /// When this number is given, in document 01's words; 28 and 29 are never given, and say so.
     ///
     /// ```
     /// let refusal = tasulogi::TABLE_A.eval(f64::NAN).unwrap_err();
@@ -184,6 +184,13 @@ mod tests {
         assert_eq!(answered(3), Ok(3));
         assert_eq!(answered(4 << 32 | 3).unwrap_err(), Refusal { number: 4, direction: None, place: Some(3) });
         assert_eq!(done(5 << 32), Ok(()), "an edit's count");
+    }
+
+    #[test]
+    fn two_are_marked_as_never_given() {
+        assert_eq!(of(28).text(), "quotient interval cannot be formed; never given");
+        assert_eq!(of(29).text(), "weight enclosures do not meet; never given");
+        assert_eq!(TABLE.lines().filter(|line| line.contains("never given")).count(), 2);
     }
 
     #[test]

@@ -1,5 +1,5 @@
 use crate::refusal::done;
-use crate::{CurveBuf, Direction, Interval, Refusal, face, point_of, room, vectors};
+use crate::{BoundBox, CurveBuf, Direction, Interval, Refusal, face, room, vectors};
 
 /// A surface over borrowed runs, u before v: point i, j has place `i * counts[1] + j`.
 #[derive(Clone, Copy, Debug, PartialEq)]
@@ -64,7 +64,9 @@ impl Surface<'_> {
         vectors(|out| face::eval_surface_clamped(self, u, v, out))
     }
 
-    /// Intervals of x, y, z over a closed rectangle that lies in one span of each direction.
+    /// Intervals of x, y, z that hold the exact point at every pair of fractions of the ranges `u` and `v`, each of which
+    /// lies in one span of its direction. Refusals after those of the surface: 31, 24 and 25 for u, both for v, 27, 26; 28 and
+    /// 29 are never given.
     ///
     /// ```
     /// # use tasulogi::Surface;
@@ -77,9 +79,25 @@ impl Surface<'_> {
     /// # Ok::<(), tasulogi::Refusal>(())
     /// ```
     pub fn bound(&self, u: [f64; 2], v: [f64; 2]) -> Result<[Interval; 3], Refusal> {
-        let mut out = [0.0; 18];
-        done(face::bound_surface(self, u[0], u[1], v[0], v[1], &mut out))?;
-        Ok(point_of(&out))
+        Ok(self.bound_box(u, v)?.point)
+    }
+
+    /// The point of [`Surface::bound`], and with it intervals of the first derivatives: at every pair of fractions of the
+    /// ranges the exact one along u lies in `du`, the one along v in `dv`. Refused as [`Surface::bound`].
+    ///
+    /// ```
+    /// # use tasulogi::Surface;
+    /// # let ends: &[f64] = &[0.0, 0.0, 1.0, 1.0];
+    /// // x = 4u + 2v
+    /// let x = [[0.0, 0.0, 0.0], [2.0, 0.0, 0.0], [4.0, 0.0, 0.0], [6.0, 0.0, 0.0]];
+    /// let s = Surface { degrees: [1, 1], knots: [ends; 2], counts: [2, 2], points: x.as_flattened(), weights: None };
+    /// let whole = s.bound_box([0.0, 1.0], [0.0, 1.0])?;
+    /// assert!(whole.du[0].contains(4.0) && whole.dv[0].contains(2.0));
+    /// assert_eq!(whole.point, s.bound([0.0, 1.0], [0.0, 1.0])?);
+    /// # Ok::<(), tasulogi::Refusal>(())
+    /// ```
+    pub fn bound_box(&self, u: [f64; 2], v: [f64; 2]) -> Result<BoundBox, Refusal> {
+        BoundBox::by(|out| face::bound_surface(self, u[0], u[1], v[0], v[1], out))
     }
 
     /// The curve where the parameter of one direction stays `t`; it always has weights. Where the surface has

@@ -109,6 +109,7 @@ fn surface(r: &mut Rng, c: &Curve, [t, lo, hi]: [f64; 3], seen: &mut [usize]) {
     told(s.eval(t, lo), table, seen);
     told(s.eval_clamped(t, lo), table, seen);
     told(s.bound([lo, hi], [0.25, 0.5]), table, seen);
+    same(told(s.bound_box([lo, hi], [0.25, 0.5]), table, seen).map(|b| b.point), s.bound([lo, hi], [0.25, 0.5]).ok());
     told(s.iso_curve([Direction::U, Direction::V][r.below(2)], t), table, seen);
 }
 
@@ -131,6 +132,7 @@ fn every_call_answers_or_refuses() {
         told(c.eval2(t), table, &mut seen);
         told(c.eval2_clamped(t), table, &mut seen);
         told(c.bound(lo, hi), table, &mut seen);
+        same(told(c.bound_box(lo, hi), table, &mut seen).map(|b| b.point), c.bound(lo, hi).ok());
         many(&c, [t, lo, hi], table, &mut seen);
         let more = r.below(4);
         let more = r.run(more);
@@ -147,6 +149,7 @@ fn every_call_answers_or_refuses() {
     for number in [0, 1, 2, 3, 4, 7, 8, 9, 10, 11, 12, 13, 15, 16, 17, 18, 22, 24, 25, 32, 43] {
         assert!(seen[number] > 0, "{number} was never given: {seen:?}");
     }
+    assert_eq!((seen[28], seen[29]), (0, 0));
 }
 
 /// From the least to the greatest, each end a double outward; the whole line where a NaN is met.

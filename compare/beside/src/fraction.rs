@@ -87,19 +87,32 @@ impl PartialOrd for Nat {
     }
 }
 
-/// The number (-1)^negative · top / bottom · 2^power, with bottom above 0. It is not reduced.
+/// The number (-1)^negative · top / bottom · 2^power, with bottom above 0; no bottom is 1, as a double has it. It is not
+/// reduced.
 #[derive(Clone, Debug)]
 pub struct Fraction {
     negative: bool,
     top: Nat,
-    bottom: Nat,
+    bottom: Option<Nat>,
     power: i32,
+}
+
+/// A product of bottoms.
+fn times(a: &Option<Nat>, b: &Option<Nat>) -> Option<Nat> {
+    match (a, b) {
+        (Some(a), Some(b)) => Some(a.mul(b)),
+        (other, None) | (None, other) => other.clone(),
+    }
 }
 
 impl Fraction {
     pub fn ratio(top: u128, bottom: u128) -> Self {
         assert!(bottom > 0);
-        Self { negative: false, top: Nat::of(top), bottom: Nat::of(bottom), power: 0 }
+        Self { negative: false, top: Nat::of(top), bottom: Some(Nat::of(bottom)), power: 0 }
+    }
+
+    pub fn whole(top: Nat) -> Self {
+        Self { negative: false, top, bottom: None, power: 0 }
     }
 
     /// The exact value of a finite double.
@@ -112,7 +125,7 @@ impl Fraction {
         // Short digits keep products short.
         let zeros = if top == 0 { 0 } else { top.trailing_zeros() };
         let power = exponent.max(1) - 1075 + zeros as i32;
-        Self { negative: bits >> 63 == 1, top: Nat::of((top >> zeros) as u128), bottom: Nat::of(1), power }
+        Self { negative: bits >> 63 == 1, top: Nat::of((top >> zeros) as u128), bottom: None, power }
     }
 
     pub fn is_zero(&self) -> bool {
@@ -124,23 +137,36 @@ impl Fraction {
     }
 
     pub fn add(&self, o: &Self) -> Self {
-        let power = self.power.min(o.power);
+        if self.is_zero() || o.is_zero() {
+            return if self.is_zero() { o.clone() } else { self.clone() };
+        }
         // A common denominator is kept, so that long sums do not grow.
-        let (a, b, bottom) = if self.bottom == o.bottom {
-            (self.top.clone(), o.top.clone(), self.bottom.clone())
+        if self.bottom != o.bottom {
+            return self.over(&o.bottom).add(&o.over(&self.bottom));
+        }
+        let power = self.power.min(o.power);
+        let longer;
+        let (a, b) = if self.power > power {
+            longer = self.top.doubled((self.power - power) as u32);
+            (&longer, &o.top)
         } else {
-            (self.top.mul(&o.bottom), o.top.mul(&self.bottom), self.bottom.mul(&o.bottom))
+            longer = o.top.doubled((o.power - power) as u32);
+            (&self.top, &longer)
         };
-        let a = a.doubled((self.power - power) as u32);
-        let b = b.doubled((o.power - power) as u32);
         let (negative, top) = if self.negative == o.negative {
-            (self.negative, a.add(&b))
+            (self.negative, a.add(b))
         } else if a >= b {
-            (self.negative, a.less(&b))
+            (self.negative, a.less(b))
         } else {
-            (o.negative, b.less(&a))
+            (o.negative, b.less(a))
         };
-        Self { negative, top, bottom, power }
+        Self { negative, top, bottom: self.bottom.clone(), power }
+    }
+
+    /// The same number with another factor in its top and its bottom.
+    fn over(&self, factor: &Option<Nat>) -> Self {
+        let top = factor.as_ref().map_or_else(|| self.top.clone(), |f| self.top.mul(f));
+        Self { top, bottom: times(&self.bottom, factor), ..*self }
     }
 
     pub fn sub(&self, o: &Self) -> Self {
@@ -151,7 +177,7 @@ impl Fraction {
         Self {
             negative: self.negative != o.negative,
             top: self.top.mul(&o.top),
-            bottom: self.bottom.mul(&o.bottom),
+            bottom: times(&self.bottom, &o.bottom),
             power: self.power + o.power,
         }
     }
@@ -160,8 +186,8 @@ impl Fraction {
         assert!(!o.is_zero(), "a quotient by 0");
         Self {
             negative: self.negative != o.negative,
-            top: self.top.mul(&o.bottom),
-            bottom: self.bottom.mul(&o.top),
+            top: o.bottom.as_ref().map_or_else(|| self.top.clone(), |b| self.top.mul(b)),
+            bottom: Some(self.bottom.as_ref().map_or_else(|| o.top.clone(), |b| b.mul(&o.top))),
             power: self.power - o.power,
         }
     }
@@ -202,6 +228,18 @@ pub fn share(r: &mut Rng) -> Fraction {
         _ => ((r.next() as u128) << 64 | r.next() as u128) % bottom,
     };
     Fraction::ratio(top, bottom)
+}
+
+/// A fraction above 0 and below 1 by its top and its bottom, which has 128 to 512 bits and is odd.
+pub fn long_share(r: &mut Rng) -> (Nat, Nat) {
+    let n = 2 + r.below(7) as usize;
+    let odd = |r: &mut Rng, high: u64| {
+        let mut words: Vec<u64> = (0..n).map(|_| r.next()).collect();
+        words[0] |= 1;
+        words[n - 1] = words[n - 1] >> 1 | high;
+        Nat(words).trimmed()
+    };
+    (odd(r, 0), odd(r, 1 << 63))
 }
 
 /// A fraction between two ends, or none where the only number between them is an infinity.

@@ -2,6 +2,7 @@
 mod doubles;
 mod face;
 mod fraction;
+mod held;
 mod lent;
 mod modules;
 mod rng;
@@ -113,19 +114,21 @@ fn compare(picked: &[Module], o: &Options) -> ExitCode {
         passed += holds as u64;
         failed += if holds { 0 } else { fails(&format!("the Rust does not give document 01's number: {name}")) };
     }
-    for (what, holds) in [("fractions", fraction::self_test()), ("places", tables::fixed::self_test())] {
+    let own = [("fractions", fraction::self_test()), ("places", tables::fixed::self_test()), ("boxes", modules::boxes_judged())];
+    for (what, holds) in own {
         passed += holds as u64;
         failed += if holds { 0 } else { fails(&format!("the comparison's own {what} are wrong")) };
     }
     for m in picked {
         let start = Instant::now();
         let calls = (m.calls)();
-        let tally = run(m, o.cases.unwrap_or(m.default_cases), o.seed);
-        println!("{}", tally.table(m.name, &calls, m.features));
+        let cases = o.cases.unwrap_or(m.default_cases);
+        let tally = run(m, cases, o.seed);
+        println!("{}", tally.table(m.name, &calls, m.features, m.exact));
         println!("{}: seed {}, {:.1} s", m.name, o.seed, start.elapsed().as_secs_f64());
         passed += tally.passed();
         failed += tally.failed();
-        failed += tally.unmet(&calls, m.features).iter().map(|line| fails(line)).sum::<u64>();
+        failed += tally.unmet(&calls, m.features, m.exact, cases >= m.default_cases).iter().map(|line| fails(line)).sum::<u64>();
         if let Some(d) = &tally.first {
             let Place { block, case } = d.place;
             println!("FAILED: the first case that differs: seed {}, block {block}, case {case}: {}", o.seed, d.text);
@@ -137,14 +140,14 @@ fn compare(picked: &[Module], o: &Options) -> ExitCode {
 
 /// All blocks of a module, on every processor.
 fn run(m: &Module, cases: u64, seed: u64) -> Tally {
-    let (calls, features) = ((m.calls)().len(), m.features.len());
+    let empty = || Tally::new((m.calls)().len(), m.features.len(), m.exact.len());
     let blocks = cases.div_ceil(BLOCK);
     let (next, done) = (AtomicU64::new(0), AtomicU64::new(0));
-    let whole = Mutex::new(Tally::new(calls, features));
+    let whole = Mutex::new(empty());
     let threads = std::thread::available_parallelism().map_or(1, |n| n.get());
     std::thread::scope(|s| {
         let work = || {
-            let mut desk = Desk { r: Rng::new(seed, 0), lent: Default::default(), tally: Tally::new(calls, features) };
+            let mut desk = Desk { r: Rng::new(seed, 0), lent: Default::default(), tally: empty() };
             loop {
                 let block = next.fetch_add(1, Ordering::Relaxed);
                 if block >= blocks {

@@ -1,5 +1,6 @@
 //! What a run has seen: a row per call, the kinds of doubles, and the first case that differs.
 use crate::doubles::{KINDS, kind};
+use crate::held::{self, Held, Kind};
 use std::fmt::Write;
 
 /// How many cases a block has; all have the block's random numbers.
@@ -17,7 +18,7 @@ pub struct Call {
     pub name: &'static str,
     /// The answered cases and refusal numbers that a run has to see.
     pub numbers: &'static [u32],
-    /// Numbers in the source that no input gives.
+    /// Numbers in the source that no input gives: a run that sees one fails.
     pub idle: &'static [u32],
 }
 
@@ -27,7 +28,7 @@ pub struct Row {
     pub differ: u64,
     /// Cases that differ in the sign of a zero that the Rust leaves open, and in nothing else.
     pub zero_signs: u64,
-    /// Exact results looked for in the answered interval, and how many lay outside.
+    /// Exact results, of a box vectors, looked for in what was answered, and how many lay outside.
     pub exact: u64,
     pub outside: u64,
     /// Refusals of a surface reach 207.
@@ -49,12 +50,20 @@ pub struct Tally {
     pub kinds: [u64; KINDS.len()],
     /// How often each of the module's features was met.
     pub features: Vec<u64>,
+    /// The exact vectors of each of the module's kinds.
+    pub held: Vec<Held>,
     pub first: Option<Difference>,
 }
 
 impl Tally {
-    pub fn new(calls: usize, features: usize) -> Self {
-        Self { rows: vec![Row::EMPTY; calls], kinds: [0; KINDS.len()], features: vec![0; features], first: None }
+    pub fn new(calls: usize, features: usize, exact: usize) -> Self {
+        Self {
+            rows: vec![Row::EMPTY; calls],
+            kinds: [0; KINDS.len()],
+            features: vec![0; features],
+            held: vec![Held::default(); exact],
+            first: None,
+        }
     }
 
     /// Counts the kinds of the doubles that are passed to a call.
@@ -98,13 +107,17 @@ impl Tally {
         for (x, y) in self.features.iter_mut().zip(o.features) {
             *x += y;
         }
+        for (x, y) in self.held.iter_mut().zip(&o.held) {
+            x.merge(y);
+        }
         if let Some(d) = o.first {
             self.keep(d);
         }
     }
 
-    /// What was to be seen and was not, and what no input was to give and one gave.
-    pub fn unmet(&self, calls: &[Call], features: &[&str]) -> Vec<String> {
+    /// What was to be seen and was not, and what no input was to give and one gave; of a whole run, of which exact vectors
+    /// there were too few.
+    pub fn unmet(&self, calls: &[Call], features: &[&str], exact: &[Kind], whole: bool) -> Vec<String> {
         let mut lines = Vec::new();
         for (call, row) in calls.iter().zip(&self.rows) {
             for &n in call.numbers.iter().filter(|&&n| row.numbers[n as usize] == 0) {
@@ -120,6 +133,7 @@ impl Tally {
         for (name, _) in features.iter().zip(&self.features).filter(|f| *f.1 == 0) {
             lines.push(format!("this was never met: {name}"));
         }
+        lines.extend(exact.iter().zip(&self.held).flat_map(|(kind, held)| held.unmet(kind, whole)));
         lines
     }
 
@@ -131,7 +145,7 @@ impl Tally {
         self.rows.iter().map(|r| r.differ + r.outside).sum()
     }
 
-    pub fn table(&self, module: &str, calls: &[Call], features: &[&str]) -> String {
+    pub fn table(&self, module: &str, calls: &[Call], features: &[&str], exact: &[Kind]) -> String {
         let mut s = format!(
             "{:<20} {:>12} {:>8} {:>10} {:>9} {:>8}  answers and refusals seen\n",
             module, "cases", "differ", "zero signs", "exact", "outside"
@@ -147,12 +161,18 @@ impl Tally {
                 grouped(row.exact),
                 row.outside
             );
-            for (n, &count) in row.numbers.iter().enumerate().filter(|x| *x.1 > 0) {
+            let seen = row.numbers.iter().enumerate().filter(|x| *x.1 > 0 && !call.idle.contains(&(x.0 as u32)));
+            for (n, &count) in seen {
                 let _ = write!(s, " {n}:{}", grouped(count));
             }
-            for n in call.idle {
-                let _ = write!(s, " {n}:idle");
+            for (i, &n) in call.idle.iter().enumerate() {
+                let told = if i == 0 { ", never given:" } else { "" };
+                let _ = write!(s, "{told} {n}:{}", grouped(row.numbers[n as usize]));
             }
+            s.push('\n');
+        }
+        if !exact.is_empty() {
+            s.push_str(&held::table(exact, &self.held));
             s.push('\n');
         }
         s.push_str("doubles passed:");

@@ -1,7 +1,9 @@
 //! Module 6: outward bounds of curves and surfaces.
+mod basis;
 mod bench;
 pub mod calls;
 mod exact;
+mod known;
 mod list;
 
 use super::answered::{Asked, Wanted, compared};
@@ -11,14 +13,16 @@ use crate::tables::FEATURES;
 use crate::tables::make::Care;
 use crate::tally::{BLOCK, Call, Place};
 use calls::{BOX, CurveCase, SurfaceCase};
+pub use known::self_test;
 
 const CARE: Care = Care { steep: [400, 300, 100, 15, 4, 2], broken: 6, long: 20_000 };
 const SURFACE_CARE: Care = Care { steep: [400, 200, 30, 6, 2, 3], broken: 8, long: 8000 };
 
 /// One case in so many is a surface.
 const SURFACE_EVERY: u64 = 11;
-/// One box in so many is held against exact points: of a curve, of a surface.
-const EXACT_EVERY: [u64; 2] = [40, 20];
+/// In one box in so many exact vectors are looked for: of a curve, of a surface. Over one point, which is rare of a
+/// surface, they are looked for in each box.
+const EXACT_EVERY: [u64; 2] = [20, 5];
 
 const CALLS: [(&str, &[u32]); 2] = [
     ("bound_curve", &[0, 1, 2, 3, 4, 5, 6, 7, 8, 9, 10, 24, 25, 26, 27, 30, 31, 32]),
@@ -32,6 +36,7 @@ pub const MODULE: Module = Module {
     name: "bounds",
     calls: || CALLS.map(|c| Call { name: c.0, numbers: c.1, idle: &[28, 29] }).into(),
     features: &FEATURES,
+    exact: &exact::KINDS,
     default_cases: 2_200_000,
     case,
     list: Some(list::write),
@@ -52,36 +57,40 @@ fn room(r: &mut Rng, need: usize) -> usize {
     }
 }
 
-/// The call of a row beside the Rust, and now and then the Rust's box beside exact points; the text where they differ.
+/// The call of a row beside the Rust, and now and then our box beside exact vectors; the text where they differ.
 fn asked(
     desk: &mut Desk,
     row: usize,
     want: &Wanted,
-    ours: impl FnOnce(&mut [f64]) -> u64,
+    is_point: bool,
+    ours: impl Fn(&mut [f64]) -> u64,
     literal: impl FnOnce() -> String,
-    exact: impl FnOnce(&mut Desk, &[u64]) -> Option<String>,
+    exact: impl FnOnce(&mut Desk, &[f64]) -> Option<String>,
 ) -> Option<String> {
-    if let Some(text) = compared(desk, Asked { row, needs: &[BOX], high: 0, room }, want, |l| ours(l[0])) {
-        return Some(format!("{}\n  Rust literal:  {}\n{text}", CALLS[row].0, literal()));
+    let text = compared(desk, Asked { row, needs: &[BOX], high: 0, room }, want, |l| ours(l[0]));
+    let text = text.map(|text| format!("{}\n  Rust literal:  {}\n{text}", CALLS[row].0, literal()));
+    let mut ends = [0.0; BOX];
+    let is_looked_at = matches!(want, Wanted::Runs(_)) && (is_point || desk.r.below(EXACT_EVERY[row]) == 0);
+    if !is_looked_at || ours(&mut ends) != 0 {
+        return text;
     }
-    match want {
-        Wanted::Runs(runs) if desk.r.below(EXACT_EVERY[row]) == 0 => exact(desk, &runs[0]),
-        _ => None,
-    }
+    let outside = exact(desk, &ends);
+    text.or(outside)
 }
 
 fn curve(desk: &mut Desk) -> Option<String> {
     let case = CurveCase::made(&mut desk.r, &CARE);
     case.table.features(&mut desk.tally.features);
     desk.tally.count(case.table.doubles().take(400).chain([&case.range.0, &case.range.1]));
-    let exact = |desk: &mut Desk, b: &[u64]| exact::curve(&mut desk.r, &case, b, &mut desk.tally.rows[0]);
-    asked(desk, 0, &case.rust(), |out| case.ours(out), || case.literal(), exact)
+    let exact = |desk: &mut Desk, b: &[f64]| exact::curve(&mut desk.r, &case, b, &mut desk.tally);
+    asked(desk, 0, &case.rust(), false, |out| case.ours(out), || case.literal(), exact)
 }
 
 fn surface(desk: &mut Desk) -> Option<String> {
     let case = SurfaceCase::made(&mut desk.r, &SURFACE_CARE);
     case.table.features(&mut desk.tally.features);
     desk.tally.count(case.table.doubles().take(400));
-    let exact = |desk: &mut Desk, b: &[u64]| exact::surface(&mut desk.r, &case, b, &mut desk.tally.rows[1]);
-    asked(desk, 1, &case.rust(), |out| case.ours(out), || case.literal(), exact)
+    let is_point = case.u.0 == case.u.1 && case.v.0 == case.v.1;
+    let exact = |desk: &mut Desk, b: &[f64]| exact::surface(&mut desk.r, &case, b, &mut desk.tally);
+    asked(desk, 1, &case.rust(), is_point, |out| case.ours(out), || case.literal(), exact)
 }

@@ -49,6 +49,7 @@ pub const MODULE: Module = Module {
     name: "edits",
     calls: || CALLS.map(|c| Call { name: c.0, numbers: c.1, idle: &[] }).into(),
     features: &SEEN,
+    exact: &[],
     // A million of each.
     default_cases: 3_000_000,
     case,

@@ -57,6 +57,7 @@ pub const MODULE: Module = Module {
     name: "evaluate",
     calls: || CALLS.map(|c| Call { name: c.0, numbers: c.1, idle: &[] }).into(),
     features: &SEEN,
+    exact: &[],
     default_cases: 2_000_000,
     case,
     list: Some(list::write),

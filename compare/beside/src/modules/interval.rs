@@ -19,6 +19,7 @@ pub const MODULE: Module = Module {
     name: "interval",
     calls: || CALLS.map(|c| Call { name: c.name, numbers: c.numbers, idle: c.idle }).into(),
     features: &[],
+    exact: &[],
     default_cases: 10_000_000,
     case,
     list: Some(list::write),

@@ -19,17 +19,17 @@ const CARE: Care = Care { steep: [300, 300, 200, 100, 10, 10], broken: 8, long: 
 const WHOLE: &[u32] = &[0, 1, 2, 3, 4, 5, 6, 7, 8, 9, 10, 30, 31, 32];
 
 /// Each call, and below it the items of its rows.
-const CALLS: [(&str, &[u32]); 10] = [
-    ("eval_many", WHOLE),
-    ("  each", &[0, 12, 43]),
-    ("eval_many_clamped", WHOLE),
-    ("  each", &[0, 12]),
-    ("eval2_many", WHOLE),
-    ("  each", &[0, 12, 21, 43]),
-    ("eval2_many_clamped", WHOLE),
-    ("  each", &[0, 12, 21]),
-    ("bound_spans", WHOLE),
-    ("  each", &[0, 26, 27]),
+const CALLS: [(&str, &[u32], &[u32]); 10] = [
+    ("eval_many", WHOLE, &[]),
+    ("  each", &[0, 12, 43], &[]),
+    ("eval_many_clamped", WHOLE, &[]),
+    ("  each", &[0, 12], &[]),
+    ("eval2_many", WHOLE, &[]),
+    ("  each", &[0, 12, 21, 43], &[]),
+    ("eval2_many_clamped", WHOLE, &[]),
+    ("  each", &[0, 12, 21], &[]),
+    ("bound_spans", WHOLE, &[28, 29]),
+    ("  each", &[0, 26, 27], &[28, 29]),
 ];
 
 // The last is of surfaces alone.
@@ -40,8 +40,9 @@ const SEEN: [&str; COMMON + PARAMETERS.len()] = joined(FEATURES.split_at(COMMON)
 
 pub const MODULE: Module = Module {
     name: "many",
-    calls: || CALLS.map(|c| Call { name: c.0, numbers: c.1, idle: &[] }).into(),
+    calls: || CALLS.map(|c| Call { name: c.0, numbers: c.1, idle: c.2 }).into(),
     features: &SEEN,
+    exact: &[],
     default_cases: 200_000,
     case,
     list: None,

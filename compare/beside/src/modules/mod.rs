@@ -1,4 +1,5 @@
 //! The modules that are compared. A later one is one file here and one word in `ALL`.
+use crate::held::Kind;
 use crate::lent::Lent;
 use crate::rng::Rng;
 use crate::tally::{Call, Place, Tally};
@@ -14,6 +15,7 @@ mod listed;
 mod many;
 mod timed;
 
+pub use bounds::self_test as boxes_judged;
 pub use timed::Times;
 
 /// What a thread makes and compares its cases with.
@@ -32,6 +34,8 @@ pub struct Module {
     pub calls: fn() -> Vec<Call>,
     /// What a run has to meet in its tables and parameters.
     pub features: &'static [&'static str],
+    /// The kinds of exact vectors that are looked for in its boxes.
+    pub exact: &'static [Kind],
     /// How many cases a run has where the command does not say.
     pub default_cases: u64,
     /// Makes a case and compares it; its text where it differs.

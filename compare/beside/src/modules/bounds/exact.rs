@@ -1,82 +1,99 @@
-//! Exact containment: the point and its derivatives by Cox-de Boor over fractions, inside the box that was answered.
+//! Exact containment: points and first derivatives over fractions, in the box that we answered. Derivatives are those of the
+//! basis, then the quotient rule.
+use super::basis::{Basis, Parameter, Recursion, sum};
 use super::calls::{CurveCase, SurfaceCase};
-use crate::fraction::{Fraction, between};
+use crate::fraction::Fraction;
+use crate::held::{Kind, Spot};
 use crate::rng::Rng;
-use crate::tables::at::inside;
-use crate::tally::Row;
+use crate::tally::Tally;
 
 /// A table whose exact numbers would be longer than about so many bits is left out.
 const MOST_BITS: i64 = 4000;
 
-/// Basis functions s - p ..= s of degree p at t on span s, and their derivatives, all times the same positive number:
-/// the product of the denominators of the recursion. So nothing is divided.
-struct Basis {
-    values: Vec<Fraction>,
-    slopes: Vec<Fraction>,
+const SPOTS: &[Spot] = &[Spot::Alone, Spot::End, Spot::Double, Spot::Long];
+
+/// Point, du and dv of a curve, then of a surface. A curve's dv is 0 at every parameter, so of each box it counts once.
+pub const KINDS: [Kind; 6] = [
+    Kind { name: "curve point", spots: SPOTS, least: 120_000 },
+    Kind { name: "curve du", spots: SPOTS, least: 120_000 },
+    Kind { name: "curve dv = 0", spots: &[Spot::Alone, Spot::Whole], least: 40_000 },
+    Kind { name: "surface point", spots: SPOTS, least: 60_000 },
+    Kind { name: "surface du", spots: SPOTS, least: 60_000 },
+    Kind { name: "surface dv", spots: SPOTS, least: 60_000 },
+];
+
+/// x, y, z and the weight, times a common number.
+type Weighted = [Fraction; 4];
+
+/// A vector as top / bottom, with bottom above 0.
+struct Vector {
+    top: [Fraction; 3],
+    bottom: Fraction,
 }
 
-fn product<'a>(of: impl Iterator<Item = &'a Fraction>) -> Fraction {
-    of.fold(Fraction::of(1.0), |a, b| a.mul(b))
-}
-
-fn sum<'a>(of: impl Iterator<Item = &'a Fraction>) -> Fraction {
-    of.cloned().reduce(|a, b| a.add(&b)).expect("a sum of something")
-}
-
-/// Degree 0: function s is 1 and the others 0; then degree k from degree k - 1. None where the values do not add up to
-/// the factor, which would say that this judge is wrong.
-fn basis(knots: &[Fraction], p: usize, s: usize, t: &Fraction) -> Option<Basis> {
-    let mut values = vec![Fraction::of(1.0)];
-    let mut slopes = vec![Fraction::of(0.0)];
-    let mut factor = Fraction::of(1.0);
-    for k in 1..=p {
-        // Place j of `values` is function s - k + 1 + j of degree k - 1, whose denominator is `widths[j]`.
-        let first = s - k + 1;
-        let widths: Vec<Fraction> = (first..=s).map(|i| knots[i + k].sub(&knots[i])).collect();
-        let shares: Vec<Fraction> =
-            (0..k).map(|j| values[j].mul(&product(widths.iter().enumerate().filter(|w| w.0 != j).map(|w| w.1)))).collect();
-        values = (0..=k)
-            .map(|j| {
-                let i = s - k + j;
-                let rise = (j > 0).then(|| t.sub(&knots[i]).mul(&shares[j - 1]));
-                let fall = (j < k).then(|| knots[i + k + 1].sub(t).mul(&shares[j]));
-                sum(rise.iter().chain(&fall))
-            })
-            .collect();
-        if k == p {
-            let degree = Fraction::of(p as f64);
-            slopes = (0..=k)
-                .map(|j| {
-                    let rise = (j > 0).then(|| shares[j - 1].mul(&degree));
-                    let fall = (j < k).then(|| shares[j].mul(&degree).neg());
-                    sum(rise.iter().chain(&fall))
-                })
-                .collect();
-        }
-        factor = factor.mul(&product(widths.iter()));
+impl Vector {
+    fn point(h: &Weighted) -> Self {
+        let [x, y, z, w] = h.clone();
+        Self { top: [x, y, z], bottom: w }
     }
-    sum(values.iter()).cmp(&factor).is_eq().then_some(Basis { values, slopes })
+
+    /// The derivative of the quotient, from the weighted sums and their derivatives.
+    fn slope(h: &Weighted, d: &Weighted) -> Self {
+        Self { top: std::array::from_fn(|k| d[k].mul(&h[3]).sub(&h[k].mul(&d[3]))), bottom: h[3].mul(&h[3]) }
+    }
+
+    fn is_in(&self, ends: &[f64]) -> bool {
+        self.top.iter().zip(ends.chunks_exact(2)).all(|(x, e)| is_between(x, &self.bottom, e[0], e[1]))
+    }
 }
 
-/// The first nonempty span that contains the closed range, by the definition.
-fn span(knots: &[f64], degree: usize, count: usize, range: (f64, f64)) -> Option<usize> {
-    (degree..count).find(|&i| knots[i] < knots[i + 1] && knots[i] <= range.0 && range.1 <= knots[i + 1])
-}
-
-/// Both ends, a double between them, and a fraction between them, often with a long denominator.
-fn parameters(r: &mut Rng, range: (f64, f64)) -> Vec<Fraction> {
-    let (lo, hi) = range;
-    let mut ts = vec![Fraction::of(lo), Fraction::of(hi), Fraction::of(inside(r, lo, hi))];
-    ts.extend(between(r, lo, hi));
-    ts
-}
-
-/// Whether top / bottom, with bottom above 0, lies between two ends; an infinite end sets no limit.
-fn is_between(top: &Fraction, bottom: &Fraction, lo: u64, hi: u64) -> bool {
-    let (lo, hi) = (f64::from_bits(lo), f64::from_bits(hi));
+/// Whether top / bottom lies between two ends; an infinite end sets no limit, a NaN holds nothing.
+fn is_between(top: &Fraction, bottom: &Fraction, lo: f64, hi: f64) -> bool {
     let over = lo == f64::NEG_INFINITY || lo.is_finite() && !top.sub(&bottom.mul(&Fraction::of(lo))).is_negative();
     let under = hi == f64::INFINITY || hi.is_finite() && !bottom.mul(&Fraction::of(hi)).sub(top).is_negative();
     over && under
+}
+
+/// A box, what it is of, and where vectors that are looked for in it are counted.
+struct Looked<'a> {
+    tally: &'a mut Tally,
+    row: usize,
+    rational: bool,
+    ends: &'a [f64],
+    literal: &'a dyn Fn() -> String,
+}
+
+impl Looked<'_> {
+    fn count(&mut self, vector: usize, spot: Spot, inside: bool) -> Option<String> {
+        let (kind, ends) = (3 * self.row + vector, &self.ends[6 * vector..][..6]);
+        self.tally.held[kind].count(spot, self.rational, ends, inside);
+        self.tally.rows[self.row].exact += 1;
+        self.tally.rows[self.row].outside += !inside as u64;
+        let told = || format!("{}: an exact one lies outside {ends:?}\n  Rust literal:  {}", KINDS[kind].name, (self.literal)());
+        (!inside).then(told)
+    }
+
+    /// Point, du and dv, those that are given.
+    fn all(&mut self, spot: Spot, vectors: &[Vector]) -> Option<String> {
+        let mut first = None;
+        for (i, v) in vectors.iter().enumerate() {
+            let text = self.count(i, spot, v.is_in(&self.ends[6 * i..]));
+            first = first.or(text);
+        }
+        first
+    }
+
+    /// A basis that does not add up.
+    fn wrong(&mut self) -> Option<String> {
+        self.tally.rows[self.row].outside += 1;
+        Some(format!("the basis does not add up to 1: {}", (self.literal)()))
+    }
+}
+
+/// The first nonempty span that contains the closed range, by the definition.
+fn span(knots: &[f64], degree: usize, count: usize, range: (f64, f64)) -> usize {
+    let holds = |i: &usize| knots[*i] < knots[i + 1] && knots[*i] <= range.0 && range.1 <= knots[i + 1];
+    (degree..count).find(holds).expect("a box has a span")
 }
 
 /// How far apart the exponents of the numbers are: what a sum of them takes in bits.
@@ -89,88 +106,87 @@ fn spread<'a>(run: impl Iterator<Item = &'a f64>) -> i64 {
     if least > most { 53 } else { most - least + 53 }
 }
 
-/// Weighted sums of the active points: for each coordinate and for the weight alone.
-fn sums(points: &[f64], weight: impl Fn(usize) -> f64, active: &[(usize, Fraction)]) -> [Fraction; 4] {
-    let weighted: Vec<Fraction> = active.iter().map(|(i, n)| n.mul(&Fraction::of(weight(*i)))).collect();
-    std::array::from_fn(|k| {
-        let terms: Vec<Fraction> = match k {
-            3 => weighted.clone(),
-            _ => active.iter().zip(&weighted).map(|((i, _), w)| w.mul(&Fraction::of(points[3 * i + k]))).collect(),
+/// About how many bits the basis on these knots has.
+fn bits(knots: &[f64], range: (f64, f64)) -> i64 {
+    let p = knots.len() as i64 / 2;
+    spread(knots.iter().chain([&range.0, &range.1])) * p * (p + 1) / 2
+}
+
+/// A control point times its weight, and the weight.
+fn weighted(points: &[f64], weights: Option<&[f64]>, i: usize) -> Weighted {
+    let w = Fraction::of(weights.map_or(1.0, |w| w[i]));
+    let [x, y, z] = std::array::from_fn(|k| w.mul(&Fraction::of(points[3 * i + k])));
+    [x, y, z, w]
+}
+
+fn combined<'a>(by: &[Fraction], of: impl Iterator<Item = &'a Weighted> + Clone) -> Weighted {
+    std::array::from_fn(|k| sum(by.iter().zip(of.clone()).map(|(b, h)| b.mul(&h[k]))))
+}
+
+/// Looks for exact vectors of a curve in its box; the text of the first that lies outside.
+pub fn curve(r: &mut Rng, case: &CurveCase, ends: &[f64], tally: &mut Tally) -> Option<String> {
+    let (c, p) = (&case.table, case.table.degree);
+    let mut looked = Looked { tally, row: 0, rational: c.rational, ends, literal: &|| case.literal() };
+    let is_point = case.range.0 == case.range.1;
+    let zero = ends[12..].chunks_exact(2).all(|e| e[0] <= 0.0 && 0.0 <= e[1]);
+    let mut first = looked.count(2, if is_point { Spot::Alone } else { Spot::Whole }, zero);
+    let s = span(&c.knots, p, c.count(), case.range);
+    let knots = &c.knots[s + 1 - p..=s + p];
+    if bits(knots, case.range) + spread(c.points.iter()) > MOST_BITS {
+        return first;
+    }
+    let recursion = Recursion::new(knots);
+    let weights = c.rational.then_some(&c.weights[..]);
+    let net: Vec<Weighted> = (s - p..=s).map(|i| weighted(&c.points, weights, i)).collect();
+    for t in Parameter::some(r, case.range) {
+        let text = match recursion.at(&t) {
+            Some(n) => {
+                let (h, d) = (combined(&n.values, net.iter()), combined(&n.slopes, net.iter()));
+                looked.all(t.spot, &[Vector::point(&h), Vector::slope(&h, &d)])
+            }
+            None => looked.wrong(),
         };
-        sum(terms.iter())
-    })
+        first = first.or(text);
+    }
+    first
 }
 
-/// Whether coordinate k and its derivative along each given direction lie in the box: places 6 and 12 have du and dv.
-fn holds(b: &[u64], h: &[Fraction; 4], along: &[[Fraction; 4]]) -> bool {
-    let square = h[3].mul(&h[3]);
-    (0..3).all(|k| {
-        is_between(&h[k], &h[3], b[2 * k], b[2 * k + 1])
-            && along.iter().enumerate().all(|(axis, d)| {
-                let top = d[k].mul(&h[3]).sub(&h[k].mul(&d[3]));
-                let at = 6 * (axis + 1) + 2 * k;
-                is_between(&top, &square, b[at], b[at + 1])
-            })
-    })
-}
+/// One in so many pairs of parameters of different spots is taken, and each of the same spot.
+const UNLIKE_EVERY: u64 = 4;
 
-pub fn curve(r: &mut Rng, case: &CurveCase, b: &[u64], row: &mut Row) -> Option<String> {
-    let c = &case.table;
-    let p = c.degree as i64;
-    if spread(c.knots.iter().chain([&case.range.0, &case.range.1])) * p * (p + 1) / 2 + spread(c.points.iter()) > MOST_BITS {
+/// The same of a surface.
+pub fn surface(r: &mut Rng, case: &SurfaceCase, ends: &[f64], tally: &mut Tally) -> Option<String> {
+    let (c, [p, q]) = (&case.table, case.table.degrees);
+    let mut looked = Looked { tally, row: 1, rational: c.rational, ends, literal: &|| case.literal() };
+    let (us, vs) = (span(&c.knots[0], p, c.counts[0], case.u), span(&c.knots[1], q, c.counts[1], case.v));
+    let (uk, vk) = (&c.knots[0][us + 1 - p..=us + p], &c.knots[1][vs + 1 - q..=vs + q]);
+    if 2 * (bits(uk, case.u) + bits(vk, case.v)) + spread(c.points.iter()) > MOST_BITS {
         return None;
     }
-    let s = span(&c.knots, c.degree, c.count(), case.range).expect("a box has a span");
-    let knots: Vec<Fraction> = c.knots.iter().map(|x| Fraction::of(*x)).collect();
-    let weight = |i: usize| if c.rational { c.weights[i] } else { 1.0 };
-    for t in parameters(r, case.range) {
-        let Some(n) = basis(&knots, c.degree, s, &t) else {
-            row.outside += 1;
-            return Some(format!("the basis does not add up to 1: {}", case.literal()));
-        };
-        let active = |of: Vec<Fraction>| -> Vec<(usize, Fraction)> { (s - c.degree..=s).zip(of).collect() };
-        let h = sums(&c.points, weight, &active(n.values));
-        let d = sums(&c.points, weight, &active(n.slopes));
-        row.exact += 1;
-        if !holds(b, &h, &[d]) {
-            row.outside += 1;
-            return Some(format!("bound_curve: an exact point lies outside at {t:?}\n  Rust literal:  {}", case.literal()));
+    let weights = c.rational.then_some(&c.weights[..]);
+    let place = |i: usize, j: usize| (us - p + i) * c.counts[1] + vs - q + j;
+    let net: Vec<Weighted> =
+        (0..=p).flat_map(|i| (0..=q).map(move |j| (i, j))).map(|(i, j)| weighted(&c.points, weights, place(i, j))).collect();
+    let mut bases = |knots: &[f64], range| -> Option<Vec<Basis>> {
+        let recursion = Recursion::new(knots);
+        Parameter::some(r, range).iter().map(|t| recursion.at(t)).collect()
+    };
+    let (Some(ms), Some(ns)) = (bases(uk, case.u), bases(vk, case.v)) else { return looked.wrong() };
+    let mut first = None;
+    for n in &ns {
+        // The curves along u at this v: a control point of each row, and its derivative along v.
+        let across = |by: &[Fraction]| net.chunks_exact(q + 1).map(|row| combined(by, row.iter())).collect::<Vec<Weighted>>();
+        let (values, slopes) = (across(&n.values), across(&n.slopes));
+        for m in &ms {
+            let alike = m.spot == n.spot || m.spot.min(n.spot) == Spot::Alone;
+            if !alike && r.below(UNLIKE_EVERY) > 0 {
+                continue;
+            }
+            let h = combined(&m.values, values.iter());
+            let (du, dv) = (combined(&m.slopes, values.iter()), combined(&m.values, slopes.iter()));
+            let text = looked.all(m.spot.max(n.spot), &[Vector::point(&h), Vector::slope(&h, &du), Vector::slope(&h, &dv)]);
+            first = first.or(text);
         }
     }
-    None
-}
-
-pub fn surface(r: &mut Rng, case: &SurfaceCase, b: &[u64], row: &mut Row) -> Option<String> {
-    let c = &case.table;
-    let bits = |k: usize| spread(c.knots[k].iter()) * (c.degrees[k] * (c.degrees[k] + 1) / 2) as i64;
-    if 2 * (bits(0) + bits(1)) + spread(c.points.iter()) > MOST_BITS {
-        return None;
-    }
-    let [p, q] = c.degrees;
-    let us = span(&c.knots[0], p, c.counts[0], case.u).expect("a box has a span");
-    let vs = span(&c.knots[1], q, c.counts[1], case.v).expect("a box has a span");
-    let exact = |k: usize| -> Vec<Fraction> { c.knots[k].iter().map(|x| Fraction::of(*x)).collect() };
-    let (uk, vk) = (exact(0), exact(1));
-    let weight = |i: usize| if c.rational { c.weights[i] } else { 1.0 };
-    let (ts, ws) = (parameters(r, case.u), parameters(r, case.v));
-    for _ in 0..2 {
-        let (t, w) = (&ts[r.below(ts.len() as u64) as usize], &ws[r.below(ws.len() as u64) as usize]);
-        let (Some(m), Some(n)) = (basis(&uk, p, us, t), basis(&vk, q, vs, w)) else {
-            row.outside += 1;
-            return Some(format!("the basis does not add up to 1: {}", case.literal()));
-        };
-        let active = |a: &[Fraction], b: &[Fraction]| -> Vec<(usize, Fraction)> {
-            let places = (0..=p).flat_map(|i| (0..=q).map(move |j| (i, j)));
-            places.map(|(i, j)| ((us - p + i) * c.counts[1] + vs - q + j, a[i].mul(&b[j]))).collect()
-        };
-        let h = sums(&c.points, weight, &active(&m.values, &n.values));
-        let du = sums(&c.points, weight, &active(&m.slopes, &n.values));
-        let dv = sums(&c.points, weight, &active(&m.values, &n.slopes));
-        row.exact += 1;
-        if !holds(b, &h, &[du, dv]) {
-            row.outside += 1;
-            return Some(format!("bound_surface: an exact point lies outside\n  Rust literal:  {}", case.literal()));
-        }
-    }
-    None
+    first
 }
