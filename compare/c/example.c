@@ -1,4 +1,4 @@
-/* A first program: a cam's table is checked, evaluated, walked past its end, bounded and given another knot.
+/* A first program: a cam's table is checked, evaluated, walked past its end, bounded with its speed and given another knot.
  * cc -std=c11 compare/c/example.c target/staticlib/libexports.a -o example && ./example; it prints example.out. */
 #include "../tasulogi.h"
 #include "../tasulogi_refusals.h"

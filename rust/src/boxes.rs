@@ -1,4 +1,4 @@
-use crate::{Interval, Refusal, refusal};
+use crate::{Interval, Refusal, Span, refusal};
 
 /// What is known of a curve over a range, or of a surface over two: intervals of x, y and z.
 ///
@@ -10,6 +10,13 @@ pub struct BoundBox {
     pub point: [Interval; 3],
     pub du: [Interval; 3],
     pub dv: [Interval; 3],
+}
+
+/// A nonempty span and what is known of the curve on it, or why nothing is.
+#[derive(Clone, Copy, Debug, PartialEq)]
+pub struct SpanBox {
+    pub span: Span,
+    pub bounds: Result<BoundBox, Refusal>,
 }
 
 /// How many numbers a box has.

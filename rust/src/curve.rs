@@ -1,6 +1,6 @@
 use crate::boxes::NUMBERS;
 use crate::refusal::{answered, done};
-use crate::{BoundBox, Interval, Refusal, Span, Spans, face, room, vectors};
+use crate::{BoundBox, Interval, Refusal, Span, SpanBox, Spans, face, room, vectors};
 
 /// A curve over borrowed runs: `points` has x, y, z of each point, `weights` one number for each.
 ///
@@ -246,7 +246,7 @@ impl<'a> Curve<'a> {
     }
 
     /// What [`Curve::bound`] answers on each nonempty span, in order, with the curve checked once: the exact point at every
-    /// fraction of the span lies in it. What holds the derivative there is [`Curve::bound_box`] from `lo` to `hi` of the span.
+    /// fraction of the span lies in it. [`Curve::bound_boxes`] answers the derivatives too.
     ///
     /// ```
     /// use tasulogi::{Curve, TABLE_A};
@@ -258,13 +258,28 @@ impl<'a> Curve<'a> {
     /// # Ok::<(), tasulogi::Refusal>(())
     /// ```
     pub fn bound_spans(&self) -> Result<Vec<SpanBound>, Refusal> {
+        let row = |b: SpanBox| SpanBound { span: b.span, point: b.bounds.map(|b| b.point) };
+        Ok(self.bound_boxes()?.into_iter().map(row).collect())
+    }
+
+    /// What [`Curve::bound_box`] answers on each nonempty span, in order, with the curve checked once: the limits of the speed
+    /// are read from `du`.
+    ///
+    /// ```
+    /// use tasulogi::TABLE_A;
+    /// for row in TABLE_A.bound_boxes()? {
+    ///     assert_eq!(row.bounds, TABLE_A.bound_box(row.span.lo, row.span.hi));
+    /// }
+    /// # Ok::<(), tasulogi::Refusal>(())
+    /// ```
+    pub fn bound_boxes(&self) -> Result<Vec<SpanBox>, Refusal> {
         let most = self.count().saturating_sub(self.degree);
         let (mut marks, mut boxes) = (room(2 * most)?, room(NUMBERS * most)?);
         let count = answered(face::bound_spans(self, &mut marks, &mut boxes))?;
         let row = |(mark, numbers): (&[u32], &[f64])| {
             let index = mark[0] as usize;
             let span = Span { index, lo: self.knots[index], hi: self.knots[index + 1] };
-            SpanBound { span, point: done(u64::from(mark[1])).map(|()| BoundBox::of(numbers).point) }
+            SpanBox { span, bounds: done(u64::from(mark[1])).map(|()| BoundBox::of(numbers)) }
         };
         Ok(marks.chunks(2).zip(boxes.chunks(NUMBERS)).take(count).map(row).collect())
     }

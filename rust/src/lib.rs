@@ -43,7 +43,7 @@ mod refusal;
 mod spans;
 mod surface;
 
-pub use boxes::BoundBox;
+pub use boxes::{BoundBox, SpanBox};
 pub use curve::{Curve, Point, Point2, SpanBound, TABLE_A};
 pub use edits::CurveBuf;
 pub use interval::{Interval, Sign};

@@ -1,6 +1,6 @@
 //! Any numbers and lengths: each method answers or refuses by a number of document 01.
 use std::fmt::Debug;
-use tasulogi::{Class, Curve, CurveBuf, Direction, Interval, Refusal, Sign, Span, SpanBound, Surface, TABLE_A};
+use tasulogi::{Class, Curve, CurveBuf, Direction, Interval, Refusal, Sign, Span, SpanBound, SpanBox, Surface, TABLE_A};
 
 /// A step of Knuth's generator; the high bits are used.
 struct Rng(u64);
@@ -94,6 +94,10 @@ fn many(c: &Curve, ts: [f64; 3], table: Option<Refusal>, seen: &mut [usize]) {
     if let Some(bounds) = told(c.bound_spans(), table, seen) {
         let alone = nonempty(c).into_iter().map(|span| SpanBound { span, point: c.bound(span.lo, span.hi) });
         same(bounds, alone.collect::<Vec<_>>());
+    }
+    if let Some(boxes) = told(c.bound_boxes(), table, seen) {
+        let alone = nonempty(c).into_iter().map(|span| SpanBox { span, bounds: c.bound_box(span.lo, span.hi) });
+        same(boxes, alone.collect::<Vec<_>>());
     }
 }
 

@@ -23,7 +23,7 @@ use Rattle.decimals.specs.Ascii.{ascii}
 use Rattle.decimals.specs.Text.{decimal}
 use Rattle.decimals.specs.Fixed.{fixed}
 use Rattle.listing.specs.Listing.{listing}
-use Rattle.listing.specs.Boxes.{tripleBy}
+use Rattle.bounds.specs.Eighteen.{tripleBy}
 use Rattle.drawing.specs.declared.View.{View}
 
 -- ---- what is in view
@@ -105,7 +105,7 @@ unboundedText s j = partText "<!-- span " s j ++ ascii " unbounded -->\n"
 abbrev pub boxText : ℕ → ℕ → Bounded → List ℕ
 boxText s j a =
     let vs = boundedValues a in
-    let t = tripleBy vs 0 in cond (eqb (length vs) 0) (refusedText s j (boundedRefusal a .number)) (cond (bothFinite (t .x) (t .y)) (pathText s j (t .x) (t .y)) (unboundedText s j))
+    let t = tripleBy (at vs) 0 in cond (eqb (length vs) 0) (refusedText s j (boundedRefusal a .number)) (cond (bothFinite (t .x) (t .y)) (pathText s j (t .x) (t .y)) (unboundedText s j))
 
 -- ---- the parts of a span: bounds over a whole span are wide
 

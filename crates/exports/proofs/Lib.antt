@@ -4,3 +4,4 @@ pub mod Box
 pub mod Vectors
 pub mod FewPoints
 pub mod Settled
+pub mod Divided

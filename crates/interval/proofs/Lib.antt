@@ -4,3 +4,4 @@ pub mod Symmetric
 pub mod Around
 pub mod Nans
 pub mod Contain
+pub mod Quotients

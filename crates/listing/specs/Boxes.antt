@@ -10,6 +10,7 @@ use Rattle.doubles.specs.Run.{at}
 use Rattle.interval.specs.declared.Interval.{Interval}
 use Rattle.bounds.specs.Curve.{boundAt}
 use Rattle.bounds.specs.Numbers.{boundedRefusal, boundedValues}
+use Rattle.bounds.specs.Eighteen.{tripleBy}
 use Rattle.bounds.specs.declared.answer.Triple.{Triple}
 use Rattle.bounds.specs.declared.answer.Bounded.{Bounded}
 use Rattle.decimals.specs.Text.{decimal, spacedBits}
@@ -28,13 +29,9 @@ spacedDecimals i = 32 ∷ (fixed false (i .lo) ++ (32 ∷ fixed true (i .hi)))
 abbrev pub each : (Interval → List ℕ) → Triple → List ℕ
 each text t = text (t .x) ++ (text (t .y) ++ text (t .z))
 
--- x, y and z, by the six of a bound's values from place k on: the point's stand from 0 on, du's from 6 on
-abbrev pub tripleBy : List Float → ℕ → Triple
-tripleBy vs k = record { x = record { lo = at vs k; hi = at vs (k + 1) }; y = record { lo = at vs (k + 2); hi = at vs (k + 3) }; z = record { lo = at vs (k + 4); hi = at vs (k + 5) } }
-
--- the coordinates of the point, or of du where speeds are asked for, by their bits, then as decimals; or, where the bound is refused and has no values, ` refused ` and the number
+-- the coordinates of the point, or of du, six numbers behind it, where speeds are asked for, by their bits, then as decimals; or, where the bound is refused and has no values, ` refused ` and the number
 unfoldable pub outcome : Bool → Bounded → List ℕ
-outcome speeds a = let vs = boundedValues a in let t = tripleBy vs (cond speeds 6 0) in cond (eqb (length vs) 0) (32 ∷ (refusedWord ++ decimal (boundedRefusal a .number))) (each spacedEnds t ++ each spacedDecimals t)
+outcome speeds a = let vs = boundedValues a in let t = tripleBy (at vs) (cond speeds 6 0) in cond (eqb (length vs) 0) (32 ∷ (refusedWord ++ decimal (boundedRefusal a .number))) (each spacedEnds t ++ each spacedDecimals t)
 
 -- the line of the span s between two knots
 unfoldable pub boxLine : Bool → ℕ → Float → Float → Bounded → List ℕ

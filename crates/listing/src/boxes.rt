@@ -18,11 +18,13 @@ ghost use Prim.Native.Nat.{_+_, _≤_};
 ghost use lib.ListN.{length};
 ghost use Rattle.knots.specs.Curve.{countOf};
 ghost use Rattle.knots.specs.Walk.{nextSpan};
+ghost use Rattle.doubles.specs.Run.{at};
 ghost use Rattle.bounds.specs.Numbers.{boundedValues};
+ghost use Rattle.bounds.specs.Eighteen.{tripleBy};
 ghost use Rattle.decimals.specs.Stored.{Stored};
 ghost use Rattle.listing.specs.Text.{Shown};
 ghost use Rattle.listing.specs.Listing.{shownOf, answerOf};
-ghost use Rattle.listing.specs.Boxes.{each, tripleBy, outcome, boxLine, boxOf};
+ghost use Rattle.listing.specs.Boxes.{each, outcome, boxLine, boxOf};
 ghost use Rattle.listing.specs.Ends.{endsText, endsRoom};
 
 // Both ends, by their bits or as decimals. These are rounded outward, so that they hold what the interval holds.
@@ -51,7 +53,7 @@ fn put_all_ends(out: &mut [u8], at: usize, rounded: bool, t: Triple) -> usize
 
 // The point, or its derivative along u.
 fn triple_by(speeds: bool, b: NurbsBounds) -> Triple
-    ensures { λ r. ⌜ r ≡ tripleBy (boundedValues (Bounded.Are b)) (cond speeds 6 0) ⌝ }
+    ensures { λ r. ⌜ r ≡ tripleBy (at (boundedValues (Bounded.Are b))) (cond speeds 6 0) ⌝ }
 {
     if speeds {
         return b.du;

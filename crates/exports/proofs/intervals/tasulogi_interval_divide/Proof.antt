@@ -1,5 +1,6 @@
 use mathlib.Core.Path.{sym, _∙_}
 use Rattle.interval.specs.declared.Interval.{Interval}
+use Rattle.exports.proofs.Divided.{divided}
 use Rattle.exports.proofs.Branches.{on-both, no-both, quotient-of}
 use Rattle.interval.specs.Ops.{divideOf}
 use Rattle.exports.specs.Intervals.{quotientAnswer}
@@ -47,11 +48,13 @@ same-length c = search needs
 returns : tie.Need-returns
 unfolding packedOf
 returns c =
-    on-both
+    let a = c .before .before .before .before .before .before .before .before .before .before .before .before .before .args in
+    divided (a .al) (a .ah) (a .bl) (a .bh)
+    (on-both
     (λ (a b : Interval). quotientAnswer (divideOf a b))
     (sym (c .before .before .before .before .before .before .before .before .before .before .before .pair .ensures)
     ∙ c .before .before .before .before .before .before .before .before .before .p .given .1)
-    (quotient-of (sym (c .before .before .before .before .before .before .before .divide .ensures) ∙ c .before .before .before .before .before .q .given .1) (c .before .before .put .ensures))
+    (quotient-of (sym (c .before .before .before .before .before .before .before .divide .ensures) ∙ c .before .before .before .before .before .q .given .1) (c .before .before .put .ensures)))
 
 same-length-2 : tie.Need-same-length-2
 same-length-2 c = search needs
@@ -59,10 +62,12 @@ same-length-2 c = search needs
 returns-2 : tie.Need-returns-2
 unfolding packedOf
 returns-2 c =
-    on-both
+    let a = c .before .before .before .before .before .before .before .before .before .before .before .before .args in
+    divided (a .al) (a .ah) (a .bl) (a .bh)
+    (on-both
     (λ (a b : Interval). quotientAnswer (divideOf a b))
     (sym (c .before .before .before .before .before .before .before .before .before .before .pair .ensures) ∙ c .before .before .before .before .before .before .before .before .p .given .1)
-    (quotient-of (sym (c .before .before .before .before .before .before .divide .ensures) ∙ c .before .before .before .before .enum-told .given .1) (c .before .before .refuse .ensures))
+    (quotient-of (sym (c .before .before .before .before .before .before .divide .ensures) ∙ c .before .before .before .before .enum-told .given .1) (c .before .before .refuse .ensures)))
 
 same-length-3 : tie.Need-same-length-3
 same-length-3 c = search needs
@@ -70,19 +75,23 @@ same-length-3 c = search needs
 returns-3 : tie.Need-returns-3
 unfolding packedOf
 returns-3 c =
-    on-both
+    let a = c .before .before .before .before .before .before .before .before .before .before .before .before .args in
+    divided (a .al) (a .ah) (a .bl) (a .bh)
+    (on-both
     (λ (a b : Interval). quotientAnswer (divideOf a b))
     (sym (c .before .before .before .before .before .before .before .before .before .before .pair .ensures) ∙ c .before .before .before .before .before .before .before .before .p .given .1)
-    (quotient-of (sym (c .before .before .before .before .before .before .divide .ensures) ∙ c .before .before .before .before .enum-told2 .given .1) (c .before .before .refuse2 .ensures))
+    (quotient-of (sym (c .before .before .before .before .before .before .divide .ensures) ∙ c .before .before .before .before .enum-told2 .given .1) (c .before .before .refuse2 .ensures)))
 
 same-length-4 : tie.Need-same-length-4
 same-length-4 c = search needs
 
 returns-4 : tie.Need-returns-4
 returns-4 c =
-    no-both
+    let a = c .before .before .before .before .before .before .before .before .args in
+    divided (a .al) (a .ah) (a .bl) (a .bh)
+    (no-both
     (λ (a b : Interval). quotientAnswer (divideOf a b)) (sym (c .before .before .before .before .before .before .pair .ensures) ∙ c .before .before .before .before .enum-told3 .given .1)
-    (c .before .before .refuse3 .ensures)
+    (c .before .before .refuse3 .ensures))
 
 pub tasulogi-interval-divide-spec : {M : Type 1} → statement M
 tasulogi-interval-divide-spec =
