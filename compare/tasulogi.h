@@ -48,7 +48,7 @@ extern "C" {
 enum {
     TASULOGI_DONE = 0,
     TASULOGI_DIVISOR_CONTAINS_ZERO = 26,
-    TASULOGI_NO_QUOTIENT = 28,
+    TASULOGI_NO_QUOTIENT = 28, /* never given */
     TASULOGI_TOO_LITTLE_ROOM = 30,
     TASULOGI_OUTSIDE_DOMAIN = 43,
     TASULOGI_NO_INTERVAL = 99
@@ -73,9 +73,10 @@ enum {
  *   [0] to [5]    x, y, z of the point
  *   [6] to [11]   x, y, z of du, the first derivative along u; of a curve along its one parameter
  *   [12] to [17]  x, y, z of dv, the first derivative along v; of a curve 0
- * They hold at every fraction of the range, ends and doubles among them; of a surface at every pair of a fraction of the
- * u range and one of the v range. There the point and its derivatives, worked out exactly on the span that was taken, lie
- * between their ends; an infinite end sets no limit. */
+ * What a box holds: at every fraction of its closed range, ends and doubles among them, and of a surface at every pair of a
+ * fraction of the u range and one of the v range, the point and its derivatives lie between their ends. They are those worked
+ * out exactly on the first nonempty span, of each direction, that contains the range; an infinite end sets no limit. The
+ * calls that make boxes never give 28 or 29. */
 #define TASULOGI_BOX 18
 
 /* What tasulogi_class_of returns. */
@@ -89,12 +90,7 @@ enum {
 };
 
 /* What tasulogi_interval_sign returns, beside 99. */
-enum {
-    TASULOGI_SIGN_UNKNOWN = 0,
-    TASULOGI_SIGN_POSITIVE = 1,
-    TASULOGI_SIGN_NEGATIVE = 2,
-    TASULOGI_SIGN_ZERO = 3
-};
+enum { TASULOGI_SIGN_UNKNOWN = 0, TASULOGI_SIGN_POSITIVE = 1, TASULOGI_SIGN_NEGATIVE = 2, TASULOGI_SIGN_ZERO = 3 };
 
 /* Doubles. */
 
@@ -151,8 +147,8 @@ uint32_t tasulogi_interval_add(double al, double ah, double bl, double bh, doubl
 uint32_t tasulogi_interval_sub(double al, double ah, double bl, double bh, double *out, size_t n);
 uint32_t tasulogi_interval_mul(double al, double ah, double bl, double bh, double *out, size_t n);
 
-/* The first times the outward interval of both reciprocals of the second. 26 where the second contains 0; 28 where
- * no quotient can be formed, which no operands give. */
+/* The first times the outward interval of both reciprocals of the second. 26 where the second contains 0. 28 is never
+ * given. */
 uint32_t tasulogi_interval_divide(double al, double ah, double bl, double bh, double *out, size_t n);
 
 /* Curves and surfaces. */
@@ -180,17 +176,14 @@ size_t tasulogi_next_span(size_t degree, size_t count, const double *knots, size
 /* u, or the nearer end of the domain where u lies outside; a NaN stays one, a zero keeps its sign. */
 double tasulogi_clamp(size_t degree, size_t count, double u, const double *knots, size_t knots_n);
 
-/* The box of a curve over the closed range [lo, hi], on the first nonempty span that contains it: at every fraction from lo
- * to hi the exact point lies in the first three intervals and the exact first derivative in du; dv encloses 0. Refusals in
- * this order: those of the curve, 31, 24, 25, 27, 26, then 30 for the lent run. 28 and 29 are never given. */
+/* The box of a curve over the range from lo to hi: see TASULOGI_BOX. Refusals in this order: those of the curve, 31, 24, 25,
+ * 27, 26, then 30 for the lent run. */
 uint64_t tasulogi_bound_curve(size_t degree, const double *knots, size_t knots_n, const double *points,
                               size_t points_n, bool rational, const double *weights, size_t weights_n, double lo,
                               double hi, double *out, size_t n);
 
-/* The box of a surface over a closed rectangle, on the first nonempty span of each direction that contains its range: at
- * every pair of fractions of the two ranges the exact point lies in the first three intervals, the exact first derivative
- * along u in du and that along v in dv. Refusals in this order: those of the surface, 31, 24 and 25 for u, 24 and 25 for v,
- * 27, 26, then 30 for the lent run. 28 and 29 are never given. */
+/* The box of a surface over a range of u and one of v: see TASULOGI_BOX. Refusals in this order: those of the surface, 31, 24
+ * and 25 for u, 24 and 25 for v, 27, 26, then 30 for the lent run. */
 uint64_t tasulogi_bound_surface(size_t u_degree, size_t v_degree, const double *u_knots, size_t u_knots_n,
                                 const double *v_knots, size_t v_knots_n, size_t u_count, size_t v_count,
                                 const double *points, size_t points_n, bool rational, const double *weights,
@@ -244,10 +237,9 @@ uint64_t tasulogi_eval2_many_clamped(size_t degree, const double *knots, size_t 
                                      const double *ts, size_t ts_n, uint32_t *numbers, size_t numbers_n, double *rows,
                                      size_t rows_n);
 
-/* The box of each nonempty span over its own closed range, in order: `marks` gets the span and its refusal, 27 or 26, or 0,
- * and `boxes` 18 numbers of each, which hold what those of tasulogi_bound_curve hold: at every fraction of the span the
- * exact point and its first derivative, and 0 in dv. Returns how many rows there are, which is never more than
- * count - degree; else a refusal: those of the curve, 31, 30 for a lent run. 28 and 29 are never given, nor in `marks`. */
+/* The box of each nonempty span over its own range, in order: `marks` gets the span and its refusal, or 0, and
+ * `boxes` 18 numbers of each: see TASULOGI_BOX. Where the refusal is not 0 they are +0.0 and hold nothing. Returns how many
+ * rows there are, which is never more than count - degree; else a refusal: those of the curve, 31, 30 for a lent run. */
 uint64_t tasulogi_bound_spans(size_t degree, const double *knots, size_t knots_n, const double *points, size_t points_n,
                               bool rational, const double *weights, size_t weights_n, uint32_t *marks, size_t marks_n,
                               double *boxes, size_t boxes_n);
@@ -276,31 +268,29 @@ uint64_t tasulogi_iso_curve(size_t u_degree, size_t v_degree, const double *u_kn
 /* Knots inserted one after the other, into runs for count + inserted_n points, with scratch of
  * 10 (count + inserted_n) + 2 (degree + 1) numbers. Refusals: 30 for a run that is too long, those of the curve, 17,
  * 30 for a lent run, then per knot 13, 14, 19, 20, and 1 to 10 of the curve that is formed. */
-uint64_t tasulogi_insert_knots(
-    size_t degree, const double *knots, size_t knots_n, const double *points, size_t points_n, bool rational,
-    const double *weights, size_t weights_n, const double *inserted, size_t inserted_n,
-    double *out_knots, size_t out_knots_n, double *out_points, size_t out_points_n, double *out_weights,
-    size_t out_weights_n, double *scratch, size_t scratch_n);
+uint64_t tasulogi_insert_knots(size_t degree, const double *knots, size_t knots_n, const double *points,
+                               size_t points_n, bool rational, const double *weights, size_t weights_n,
+                               const double *inserted, size_t inserted_n, double *out_knots, size_t out_knots_n,
+                               double *out_points, size_t out_points_n, double *out_weights, size_t out_weights_n,
+                               double *scratch, size_t scratch_n);
 
 /* The part from lo to hi, a full break being taken from inside. With a and b for how often lo and hi are missing from
  * degree + 1 of them among the knots, and c(x) for the knots below x: into runs for c(hi) + a - c(lo) points, with
  * scratch of 10 (count + a + b) + 2 (degree + 1) numbers. Refusals: 30 for a run that is too long, those of the curve,
  * 17, 15, 30 for a lent run, then 19, 20, and 1 to 10 of a curve that is formed. */
-uint64_t tasulogi_trim(
-    size_t degree, const double *knots, size_t knots_n, const double *points, size_t points_n, bool rational,
-    const double *weights, size_t weights_n, double lo, double hi,
-    double *out_knots, size_t out_knots_n, double *out_points, size_t out_points_n, double *out_weights,
-    size_t out_weights_n, double *scratch, size_t scratch_n);
+uint64_t tasulogi_trim(size_t degree, const double *knots, size_t knots_n, const double *points, size_t points_n,
+                       bool rational, const double *weights, size_t weights_n, double lo, double hi, double *out_knots,
+                       size_t out_knots_n, double *out_points, size_t out_points_n, double *out_weights,
+                       size_t out_weights_n, double *scratch, size_t scratch_n);
 
 /* The curve with a higher degree e = raised, or a copy where it is the same. With b distinct knots inside the domain, f
  * of them degree + 1 times: into runs for (e + 1) (b + 1) - b + f points, count for a copy, with scratch of
  * 10 (degree + 1) (b + 1) + 2 (degree + 1) numbers. Refusals: 30 for a run that is too long, those of the curve, 17, 16,
  * 18, 30 for a lent run, then 19, 20, and 1 to 10 of a curve that is formed. */
-uint64_t tasulogi_elevate_degree(
-    size_t degree, const double *knots, size_t knots_n, const double *points, size_t points_n, bool rational,
-    const double *weights, size_t weights_n, size_t raised,
-    double *out_knots, size_t out_knots_n, double *out_points, size_t out_points_n, double *out_weights,
-    size_t out_weights_n, double *scratch, size_t scratch_n);
+uint64_t tasulogi_elevate_degree(size_t degree, const double *knots, size_t knots_n, const double *points,
+                                 size_t points_n, bool rational, const double *weights, size_t weights_n, size_t raised,
+                                 double *out_knots, size_t out_knots_n, double *out_points, size_t out_points_n,
+                                 double *out_weights, size_t out_weights_n, double *scratch, size_t scratch_n);
 
 #ifdef __cplusplus
 }

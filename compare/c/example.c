@@ -52,8 +52,8 @@ static void walk(double step)
     }
 }
 
-/* The exact lift at every angle from lo to hi lies between the two ends, and so does the exact rise per degree, its first
- * derivative; a shorter range has a narrower box. */
+/* At every angle from lo to hi the exact lift lies between y[0] and y[1], and the exact rise per degree, its first
+ * derivative, between du_y[0] and du_y[1]; a shorter range has a narrower box. */
 static void bound(double lo, double hi)
 {
     double box[TASULOGI_BOX];

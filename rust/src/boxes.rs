@@ -4,7 +4,8 @@ use crate::{Interval, Refusal, Span, refusal};
 ///
 /// At every fraction of the range, the ends and all doubles among them, the exact point lies in `point` and its exact first
 /// derivative along u in `du`; of a surface, at every pair of fractions of its two ranges, that along v in `dv`. A curve's
-/// one parameter is u, and its `dv` encloses 0. An infinite end sets no limit.
+/// one parameter is u, and its `dv` encloses 0. All are worked out on the first nonempty span, of each direction, that
+/// contains the range. An infinite end sets no limit. Refusals 28 and 29 are never given.
 #[derive(Clone, Copy, Debug, PartialEq)]
 pub struct BoundBox {
     pub point: [Interval; 3],
@@ -17,6 +18,13 @@ pub struct BoundBox {
 pub struct SpanBox {
     pub span: Span,
     pub bounds: Result<BoundBox, Refusal>,
+}
+
+/// A nonempty span and the intervals of the curve's point on it, or why there are none.
+#[derive(Clone, Copy, Debug, PartialEq)]
+pub struct SpanBound {
+    pub span: Span,
+    pub point: Result<[Interval; 3], Refusal>,
 }
 
 /// How many numbers a box has.

@@ -1,6 +1,6 @@
 use crate::boxes::NUMBERS;
 use crate::refusal::{answered, done};
-use crate::{BoundBox, Interval, Refusal, Span, SpanBox, Spans, face, room, vectors};
+use crate::{BoundBox, Interval, Refusal, Span, SpanBound, SpanBox, Spans, face, room, vectors};
 
 /// A curve over borrowed runs: `points` has x, y, z of each point, `weights` one number for each.
 ///
@@ -26,13 +26,6 @@ pub type Point = [[f64; 3]; 2];
 
 /// A point and two derivatives, x, y, z of each.
 pub type Point2 = [[f64; 3]; 3];
-
-/// A nonempty span with what bounds the curve on it.
-#[derive(Clone, Copy, Debug, PartialEq)]
-pub struct SpanBound {
-    pub span: Span,
-    pub point: Result<[Interval; 3], Refusal>,
-}
 
 /// A row of N vectors for each of n parameters, or its own refusal.
 fn rows<const N: usize>(
@@ -161,8 +154,7 @@ impl<'a> Curve<'a> {
         vectors(|out| face::eval2_clamped(self, t, out))
     }
 
-    /// Intervals of x, y, z that hold the exact point at every fraction from `lo` to `hi`, which lie in one span. Refusals
-    /// after those of the curve: 31, 24, 25, 27, 26; 28 and 29 are never given.
+    /// Intervals of x, y, z of the point from `lo` to `hi`: `point` of [`Curve::bound_box`], and refused as that.
     ///
     /// ```
     /// use tasulogi::{Class, TABLE_A};
@@ -177,8 +169,8 @@ impl<'a> Curve<'a> {
         Ok(self.bound_box(lo, hi)?.point)
     }
 
-    /// The point of [`Curve::bound`], and with it intervals of the first derivative: at every fraction from `lo` to `hi` the
-    /// exact one lies in `du`, and `dv` encloses 0. Refused as [`Curve::bound`].
+    /// The box of the curve from `lo` to `hi`, which lie in one span; [`BoundBox`] says what it holds. Refusals after those of
+    /// the curve: 31, 24, 25, 27, 26.
     ///
     /// ```
     /// use tasulogi::TABLE_A;
@@ -245,8 +237,8 @@ impl<'a> Curve<'a> {
         rows(ts.len(), |numbers, rows| face::eval2_many_clamped(self, ts, numbers, rows))
     }
 
-    /// What [`Curve::bound`] answers on each nonempty span, in order, with the curve checked once: the exact point at every
-    /// fraction of the span lies in it. [`Curve::bound_boxes`] answers the derivatives too.
+    /// What [`Curve::bound`] answers on each nonempty span, in order, with the curve checked once. [`Curve::bound_boxes`]
+    /// answers the derivatives too.
     ///
     /// ```
     /// use tasulogi::{Curve, TABLE_A};

@@ -43,8 +43,8 @@ mod refusal;
 mod spans;
 mod surface;
 
-pub use boxes::{BoundBox, SpanBox};
-pub use curve::{Curve, Point, Point2, SpanBound, TABLE_A};
+pub use boxes::{BoundBox, SpanBound, SpanBox};
+pub use curve::{Curve, Point, Point2, TABLE_A};
 pub use edits::CurveBuf;
 pub use interval::{Interval, Sign};
 pub use refusal::{Class, Direction, Refusal};

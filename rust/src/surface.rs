@@ -64,9 +64,7 @@ impl Surface<'_> {
         vectors(|out| face::eval_surface_clamped(self, u, v, out))
     }
 
-    /// Intervals of x, y, z that hold the exact point at every pair of fractions of the ranges `u` and `v`, each of which
-    /// lies in one span of its direction. Refusals after those of the surface: 31, 24 and 25 for u, both for v, 27, 26; 28 and
-    /// 29 are never given.
+    /// Intervals of x, y, z of the point over the ranges `u` and `v`: `point` of [`Surface::bound_box`], and refused as that.
     ///
     /// ```
     /// # use tasulogi::Surface;
@@ -82,8 +80,8 @@ impl Surface<'_> {
         Ok(self.bound_box(u, v)?.point)
     }
 
-    /// The point of [`Surface::bound`], and with it intervals of the first derivatives: at every pair of fractions of the
-    /// ranges the exact one along u lies in `du`, the one along v in `dv`. Refused as [`Surface::bound`].
+    /// The box of the surface over the ranges `u` and `v`, each of which lies in one span of its direction; [`BoundBox`] says
+    /// what it holds. Refusals after those of the surface: 31, 24 and 25 for u, both for v, 27, 26.
     ///
     /// ```
     /// # use tasulogi::Surface;

@@ -192,7 +192,7 @@ impl Fraction {
         }
     }
 
-    pub fn is_negative(&self) -> bool {
+    fn is_negative(&self) -> bool {
         self.negative && !self.is_zero()
     }
 
@@ -205,12 +205,16 @@ impl Fraction {
         }
     }
 
-    /// Whether the number lies between two doubles; an infinite end sets no limit, a NaN holds nothing.
+    /// Whether the number lies between two doubles.
     pub fn is_inside(&self, lo: f64, hi: f64) -> bool {
-        !lo.is_nan()
-            && !hi.is_nan()
-            && (lo == f64::NEG_INFINITY || lo.is_finite() && self.cmp(&Self::of(lo)).is_ge())
-            && (hi == f64::INFINITY || hi.is_finite() && self.cmp(&Self::of(hi)).is_le())
+        self.is_inside_over(&Self::of(1.0), lo, hi)
+    }
+
+    /// Whether the number over a bottom above 0 lies between two doubles; an infinite end sets no limit, a NaN holds nothing.
+    pub fn is_inside_over(&self, bottom: &Self, lo: f64, hi: f64) -> bool {
+        let over = lo == f64::NEG_INFINITY || lo.is_finite() && !self.sub(&bottom.mul(&Self::of(lo))).is_negative();
+        let under = hi == f64::INFINITY || hi.is_finite() && !bottom.mul(&Self::of(hi)).sub(self).is_negative();
+        over && under
     }
 }
 
@@ -230,7 +234,7 @@ pub fn share(r: &mut Rng) -> Fraction {
     Fraction::ratio(top, bottom)
 }
 
-/// A fraction above 0 and below 1 by its top and its bottom, which has 128 to 512 bits and is odd.
+/// A fraction above 0 and below 1 by its top and its bottom, which is odd and has 128, 192, .. or 512 bits. It is not reduced.
 pub fn long_share(r: &mut Rng) -> (Nat, Nat) {
     let n = 2 + r.below(7) as usize;
     let odd = |r: &mut Rng, high: u64| {

@@ -20,7 +20,7 @@ pub struct Kind {
     pub name: &'static str,
     /// Where vectors of the kind are looked for.
     pub spots: &'static [Spot],
-    /// How many a whole run has to look for.
+    /// How many with six finite ends a full run has to look for. A shorter one has no floors: it may be as short as one case.
     pub least: u64,
 }
 
@@ -62,13 +62,13 @@ impl Held {
         self.at.iter().sum()
     }
 
-    /// What lies outside and, of a whole run, of what there was too little.
-    pub fn unmet(&self, kind: &Kind, whole: bool) -> Vec<String> {
+    /// What lies outside and, of a full run, of what there was too little.
+    pub fn unmet(&self, kind: &Kind, is_full_run: bool) -> Vec<String> {
         let part = kind.least / PART;
         let all = [("in all", self.all(), kind.least)];
         let spots = kind.spots.iter().map(|s| (SPOTS[*s as usize], self.at[*s as usize], part));
         let weights = [("rational", self.rational, part), ("polynomial", self.all() - self.rational, part)];
-        let few = all.into_iter().chain(spots).chain(weights).filter(|(_, seen, least)| whole && seen < least);
+        let few = all.into_iter().chain(spots).chain(weights).filter(|(_, seen, least)| is_full_run && seen < least);
         let few = few.map(|(of, seen, least)| format!("{}, {of}: {seen} exact ones, fewer than {least}", kind.name));
         let outside = (self.outside > 0).then(|| format!("{}: {} exact ones lie outside", kind.name, self.outside));
         outside.into_iter().chain(few).collect()

@@ -31,12 +31,16 @@ pub struct Row {
     /// Exact results, of a box vectors, looked for in what was answered, and how many lay outside.
     pub exact: u64,
     pub outside: u64,
+    /// Boxes in which exact vectors are looked for, and how many of them are left out, since their fractions are too long.
+    pub boxes: u64,
+    pub left_out: u64,
     /// Refusals of a surface reach 207.
     pub numbers: [u64; 208],
 }
 
 impl Row {
-    const EMPTY: Self = Self { cases: 0, differ: 0, zero_signs: 0, exact: 0, outside: 0, numbers: [0; 208] };
+    const EMPTY: Self =
+        Self { cases: 0, differ: 0, zero_signs: 0, exact: 0, outside: 0, boxes: 0, left_out: 0, numbers: [0; 208] };
 }
 
 /// A case that differs, and where it stands in the run.
@@ -97,6 +101,8 @@ impl Tally {
             a.zero_signs += b.zero_signs;
             a.exact += b.exact;
             a.outside += b.outside;
+            a.boxes += b.boxes;
+            a.left_out += b.left_out;
             for (x, y) in a.numbers.iter_mut().zip(b.numbers) {
                 *x += y;
             }
@@ -115,9 +121,9 @@ impl Tally {
         }
     }
 
-    /// What was to be seen and was not, and what no input was to give and one gave; of a whole run, of which exact vectors
+    /// What was to be seen and was not, and what no input was to give and one gave; of a full run, of which exact vectors
     /// there were too few.
-    pub fn unmet(&self, calls: &[Call], features: &[&str], exact: &[Kind], whole: bool) -> Vec<String> {
+    pub fn unmet(&self, calls: &[Call], features: &[&str], exact: &[Kind], is_full_run: bool) -> Vec<String> {
         let mut lines = Vec::new();
         for (call, row) in calls.iter().zip(&self.rows) {
             for &n in call.numbers.iter().filter(|&&n| row.numbers[n as usize] == 0) {
@@ -133,7 +139,7 @@ impl Tally {
         for (name, _) in features.iter().zip(&self.features).filter(|f| *f.1 == 0) {
             lines.push(format!("this was never met: {name}"));
         }
-        lines.extend(exact.iter().zip(&self.held).flat_map(|(kind, held)| held.unmet(kind, whole)));
+        lines.extend(exact.iter().zip(&self.held).flat_map(|(kind, held)| held.unmet(kind, is_full_run)));
         lines
     }
 
@@ -173,7 +179,11 @@ impl Tally {
         }
         if !exact.is_empty() {
             s.push_str(&held::table(exact, &self.held));
-            s.push('\n');
+            let left_out = |(call, row): (&Call, &Row)| {
+                format!("{} of {} boxes of {}", grouped(row.left_out), grouped(row.boxes), call.name)
+            };
+            let left_out: Vec<String> = calls.iter().zip(&self.rows).map(left_out).collect();
+            let _ = writeln!(s, "\nleft out, too long: {}", left_out.join(", "));
         }
         s.push_str("doubles passed:");
         for (name, count) in KINDS.iter().zip(self.kinds) {

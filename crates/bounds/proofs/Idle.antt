@@ -24,7 +24,7 @@ use Rattle.knots.proofs.Curves.{valid-curve}
 use Rattle.knots.proofs.Surfaces.{valid-surface}
 use Rattle.bounds.specs.Answer.{boundedOf}
 use Rattle.bounds.specs.Numbers.{boundedRefusal}
-use Rattle.bounds.specs.Holds.{Idle}
+use Rattle.bounds.specs.Holds.{NotIdle}
 use Rattle.ranges.specs.Range.{spanOver, takenSpan, rangeRefusal}
 use Rattle.ranges.specs.Read.{readRefusal, placeRefusal, startRefusal}
 use Rattle.jets.specs.Three.{Three}
@@ -133,7 +133,7 @@ ranges-other p q nu nv us vs ulo uhi vlo vhi =
 
 -- ---- the whole answer
 
-pub idle : (n : ℕ) → Given n → Idle n
+pub idle : (n : ℕ) → Given n → NotIdle n
 idle n h = record { not-28 = λ e. subst Given e h; not-29 = λ e. subst Given e h }
 
 steps-other : (A : BoundAnswer) (X Y Z : Three) → Boxes A X Y Z → Other (boundedRefusal (boundedOf A))
@@ -148,14 +148,14 @@ unless-other f A h k = go (eqb (f .number) 0) (eqb-true (f .number) 0)
     go false e = h
 
 -- bound_span: the boxes at the low end of the range say it
-pub step-idle : (p s : ℕ) (ks ps ws : List Float) (r : Bool) (lo hi : Float) → Idle (boundedRefusal (boundAt p s ks ps r ws lo hi) .number)
+pub step-idle : (p s : ℕ) (ks ps ws : List Float) (r : Bool) (lo hi : Float) → NotIdle (boundedRefusal (boundAt p s ks ps r ws lo hi) .number)
 unfolding boundAt
 step-idle p s ks ps ws r lo hi = idle _
     (unless-other (startRefusal p s ks ps r ws lo hi) (boundedOf (spanBound p s ks ps ws r lo hi)) (start-other p s ks ps r ws lo hi)
     (λ k. let v = started p s ks ps r ws lo hi k in
     steps-other (spanBound p s ks ps ws r lo hi) _ _ _ (span-bound-in p s ks ps ws r lo hi (v .active) (v .ranged) (val lo) (≤-refl (val lo)) (v .ranged .forward))))
 
-pub bound-idle : (p : ℕ) (ks ps ws : List Float) (r : Bool) (lo hi : Float) → Idle (boundedRefusal (boundOf p ks ps r ws lo hi) .number)
+pub bound-idle : (p : ℕ) (ks ps ws : List Float) (r : Bool) (lo hi : Float) → NotIdle (boundedRefusal (boundOf p ks ps r ws lo hi) .number)
 unfolding boundOf
 bound-idle p ks ps ws r lo hi =
     let s = spanOver p (countOf ps) ks lo hi in
@@ -170,7 +170,7 @@ bound-idle p ks ps ws r lo hi =
     steps-other A _ _ _ (span-bound-in p s ks ps ws r lo hi (valid-active Va (v .span .first) (v .span .last))
     (record { lo-finite = v .lo-finite; hi-finite = v .hi-finite; forward = v .forward; taken = v .span .taken }) (val lo) (≤-refl (val lo)) (v .forward)))))
 
-pub surface-idle : (p q : ℕ) (uk vk : List Float) (nu nv : ℕ) (ps ws : List Float) (r : Bool) (ulo uhi vlo vhi : Float) → Idle (boundedRefusal (surfaceOf p q uk vk nu nv ps r ws ulo uhi vlo vhi) .number)
+pub surface-idle : (p q : ℕ) (uk vk : List Float) (nu nv : ℕ) (ps ws : List Float) (r : Bool) (ulo uhi vlo vhi : Float) → NotIdle (boundedRefusal (surfaceOf p q uk vk nu nv ps r ws ulo uhi vlo vhi) .number)
 unfolding surfaceOf boundedBy
 surface-idle p q uk vk nu nv ps ws r ulo uhi vlo vhi =
     let us = spanOver p nu uk ulo uhi in

@@ -9,18 +9,18 @@ use Rattle.runs.specs.Fraction.{coordinateValue}
 use Rattle.bounds.specs.Curve.{boundOf, boundAt}
 use Rattle.bounds.specs.Surface.{surfaceOf}
 use Rattle.bounds.specs.Numbers.{boundedRefusal}
-use Rattle.bounds.specs.Holds.{Holds, HoldsOn, SurfaceHolds, Idle}
+use Rattle.bounds.specs.Holds.{Holds, HoldsOn, SurfaceHolds, NotIdle}
 use Rattle.bounds.specs.declared.answer.Bounded.{Bounded}
 use Rattle.bounds.proofs.CurveHolds.{bound-holds, step-holds}
 use Rattle.bounds.proofs.SurfaceHolds.{surface-holds}
 use Rattle.bounds.proofs.Idle.{bound-idle, step-idle, surface-idle}
 
--- A is B, of which F holds
+-- A is B, F holds of it, and its refusal is neither 28 nor 29
 abbrev pub Promised : Bounded → Bounded → (Bounded → Type 0) → Type 0
-Promised A B F = (A ≡ B) × (F A × Idle (boundedRefusal A .number))
+Promised A B F = (A ≡ B) × (F A × NotIdle (boundedRefusal A .number))
 
-promised : (A B : Bounded) (F : Bounded → Type 0) → A ≡ B → F B → Idle (boundedRefusal B .number) → Promised A B F
-promised A B F e h i = (e, (subst F (sym e) h, subst (λ (a : Bounded). Idle (boundedRefusal a .number)) (sym e) i))
+promised : (A B : Bounded) (F : Bounded → Type 0) → A ≡ B → F B → NotIdle (boundedRefusal B .number) → Promised A B F
+promised A B F e h i = (e, (subst F (sym e) h, subst (λ (a : Bounded). NotIdle (boundedRefusal a .number)) (sym e) i))
 
 pub bound-promised : (p : ℕ) (ks ps ws : List Float) (r : Bool) (lo hi : Float) (A : Bounded) → A ≡ boundOf p ks ps r ws lo hi → Promised A (boundOf p ks ps r ws lo hi) (Holds p ks ps r ws lo hi)
 bound-promised p ks ps ws r lo hi A e = promised A _ (Holds p ks ps r ws lo hi) e (bound-holds p ks ps ws r lo hi) (bound-idle p ks ps ws r lo hi)

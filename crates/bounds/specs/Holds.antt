@@ -75,6 +75,6 @@ SurfaceHolds p q uk vk nu nv ps r ws ulo uhi vlo vhi =
     HoldsOver p q (spanOver p nu uk ulo uhi) (spanOver q nv vk vlo vhi) uk vk nu nv r ws ulo uhi vlo vhi (coordinateValue ps)
 
 -- ---- a number that is neither 28 nor 29
-pub record Idle (n : ℕ) : Type 0 where
+pub record NotIdle (n : ℕ) : Type 0 where
   pub not-28 : n ≡ refuse quotient-none .number → ⊥
   pub not-29 : n ≡ refuse weights-apart .number → ⊥

@@ -22,7 +22,7 @@ ghost use Rattle.bounds.specs.Curve.{boundOf, boundAt, spanBound};
 ghost use Rattle.knots.specs.Curve.{countOf};
 ghost use Rattle.runs.specs.Fraction.{coordinateValue};
 ghost use Rattle.bounds.specs.Numbers.{boundedRefusal};
-ghost use Rattle.bounds.specs.Holds.{Holds, HoldsOn, Idle};
+ghost use Rattle.bounds.specs.Holds.{Holds, HoldsOn, NotIdle};
 
 // The bounds on span s.
 fn on_span(
@@ -59,7 +59,7 @@ fn on_span(
     }
 }
 
-// The bounds of a curve over the closed range [lo, hi], which one nonempty span must contain. The first such span is taken, so a range that is one inner knot belongs to the span before it. They hold the exact point and its exact first derivative at every fraction of the range.
+// The bounds of a curve over the closed range [lo, hi], which one nonempty span must contain. The first such span is taken, so a range that is one inner knot belongs to the span before it. They hold the exact point and its exact first derivative at every fraction of the range, and dv holds 0. 28 and 29 are never given.
 pub fn bound_curve(
     degree: usize,
     knots: &[f64],
@@ -71,7 +71,7 @@ pub fn bound_curve(
 ) -> Bounded
     ensures { λ r. ⌜ r ≡ boundOf degree (now (knots .entry)) (now (points .entry)) rational (now (weights .entry)) lo hi ⌝ }
     ensures { λ r. ⌜ Holds degree (now (knots .entry)) (now (points .entry)) rational (now (weights .entry)) lo hi r ⌝ }
-    ensures { λ r. ⌜ Idle (boundedRefusal r .number) ⌝ }
+    ensures { λ r. ⌜ NotIdle (boundedRefusal r .number) ⌝ }
 {
     let refusal = curve_refusal(degree, knots, points, rational, weights);
     if refusal.number != 0 {
@@ -86,7 +86,7 @@ pub fn bound_curve(
     answer_of(on_span(degree, s, knots, points, weights, rational, lo, hi))
 }
 
-// The bounds on a span that is asked for by its index: no number but the span's own is read, so that a walk over all spans of a valid curve validates once. Of any curve it answers for, it holds the exact point and derivative.
+// The bounds on a span that is asked for by its index: no number but the span's own is read, so that a walk over all spans of a valid curve validates once. Where it answers, its bounds hold the exact point and derivative, and dv holds 0, whatever the rest of the table is. 28 and 29 are never given.
 pub fn bound_span(
     degree: usize,
     span: usize,
@@ -99,7 +99,7 @@ pub fn bound_span(
 ) -> Bounded
     ensures { λ r. ⌜ r ≡ boundAt degree span (now (knots .entry)) (now (points .entry)) rational (now (weights .entry)) lo hi ⌝ }
     ensures { λ r. ⌜ HoldsOn degree span (now (knots .entry)) (countOf (now (points .entry))) rational (now (weights .entry)) lo hi (coordinateValue (now (points .entry))) r ⌝ }
-    ensures { λ r. ⌜ Idle (boundedRefusal r .number) ⌝ }
+    ensures { λ r. ⌜ NotIdle (boundedRefusal r .number) ⌝ }
 {
     let refusal = start_refusal(degree, span, knots, points, rational, weights, lo, hi);
     if refusal.number != 0 {

@@ -13,7 +13,7 @@ ghost use Rattle.knots.specs.Surface.{surfaceRefusal};
 ghost use Rattle.ranges.specs.Range.{spanOver};
 ghost use Rattle.bounds.specs.Surface.{rangesRefusal, boundedBy, surfaceOf};
 ghost use Rattle.bounds.specs.Numbers.{boundedRefusal};
-ghost use Rattle.bounds.specs.Holds.{SurfaceHolds, Idle};
+ghost use Rattle.bounds.specs.Holds.{SurfaceHolds, NotIdle};
 
 // Refusals 31, then 24 and 25 for u and for v.
 fn ranges_refusal(u: Side, v: Side, us: usize, vs: usize) -> Refusal
@@ -51,7 +51,7 @@ fn bound_valid(
     answer_of(on_spans(u, v, us, vs, uk, vk, points, weights, rational))
 }
 
-// The bounds of a surface over a closed rectangle, which one rectangle of nonempty spans must contain. They hold the exact point and both its first derivatives at every pair of fractions.
+// The bounds of a surface over a closed rectangle, which one rectangle of nonempty spans must contain. They hold the exact point and both its first derivatives at every pair of fractions. 28 and 29 are never given.
 pub fn bound_surface(
     u_degree: usize,
     v_degree: usize,
@@ -69,7 +69,7 @@ pub fn bound_surface(
 ) -> Bounded
     ensures { λ r. ⌜ r ≡ surfaceOf «u_degree» «v_degree» (now («u_knots» .entry)) (now («v_knots» .entry)) «u_count» «v_count» (now (points .entry)) rational (now (weights .entry)) «u_lo» «u_hi» «v_lo» «v_hi» ⌝ }
     ensures { λ r. ⌜ SurfaceHolds «u_degree» «v_degree» (now («u_knots» .entry)) (now («v_knots» .entry)) «u_count» «v_count» (now (points .entry)) rational (now (weights .entry)) «u_lo» «u_hi» «v_lo» «v_hi» r ⌝ }
-    ensures { λ r. ⌜ Idle (boundedRefusal r .number) ⌝ }
+    ensures { λ r. ⌜ NotIdle (boundedRefusal r .number) ⌝ }
 {
     let refusal = surface_refusal(
         u_degree,

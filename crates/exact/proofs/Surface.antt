@@ -30,7 +30,7 @@ sum₂-relative m n A B w P r σ = Σ-cong m (λ i l. Σ-relative n (λ j. A i *
 
 pub whole₂-is : (U : ℕ → ℚ) (u : ℚ) (s p count : ℕ) (U′ : ℕ → ℚ) (v : ℚ) (z q count′ : ℕ) (c : ℕ → ℕ → ℚ)
     → whole₂ U u s p count U′ v z q count′ c ≡ whole U u s p count (λ i. whole U′ v z q count′ (c i))
-unfolding whole₂ whole
+unfolding whole₂ sum₂ whole
 whole₂-is U u s p count U′ v z q count′ c = Σ-cong count (λ i l.
     Σ-cong count′ (λ j k. q-ring (basis U u s p i ∷ basis U′ v z q j ∷ c i j ∷ []) (search qring depth 20) tt)
     ∙ Σ-mul count′ (basis U u s p i) (λ j. basis U′ v z q j *q c i j))

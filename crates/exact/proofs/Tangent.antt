@@ -1,4 +1,4 @@
--- The exact derivatives are derivatives: at t + h the exact point is the point at t, h times its derivative, and h h times a fraction; so is that of a surface along u and along v.
+-- The exact derivatives are derivatives: at t + h the exact point is the point at t, h times its derivative, and h h times a fraction in which nothing but the weights' sums at t and at t + h stands below; so is that of a surface along u and along v.
 -- Assumes nothing.
 use mathlib.Core.Path.{_≡_, _∙_, ap, ap₂}
 use mathlib.Core.Logic.{_≢_}
@@ -61,22 +61,19 @@ unfolding Σq
 Σ-along zero h x y z = q-ring (h ∷ []) (search qring depth 20) tt
 Σ-along (suc n) h x y z = ap (λ a. a +q Along h (x n) (y n) (z n)) (Σ-along n h x y z) ∙ q-ring (h ∷ Σq n x ∷ Σq n y ∷ Σq n z ∷ x n ∷ y n ∷ z n ∷ []) (search qring depth 20) tt
 
--- a sum of products, of which one factor changes
-sum₂-u : (m n : ℕ) (h : ℚ) (A A₁ A′ R B : ℕ → ℚ) (c : ℕ → ℕ → ℚ) → ((i : ℕ) → A₁ i ≡ Along h (A i) (A′ i) (R i))
-    → sum₂ m n A₁ B c ≡ Along h (sum₂ m n A B c) (sum₂ m n A′ B c) (sum₂ m n R B c)
-unfolding sum₂
-sum₂-u m n h A A₁ A′ R B c e =
-    Σ-cong m (λ i l. Σ-cong n (λ j k. ap (λ a. a *q B j *q c i j) (e i) ∙ q-ring (h ∷ A i ∷ A′ i ∷ R i ∷ B j ∷ c i j ∷ []) (search qring depth 20) tt)
-    ∙ Σ-along n h (λ j. A i *q B j *q c i j) (λ j. A′ i *q B j *q c i j) (λ j. R i *q B j *q c i j))
-    ∙ Σ-along m h (λ i. Σq n (λ j. A i *q B j *q c i j)) (λ i. Σq n (λ j. A′ i *q B j *q c i j)) (λ i. Σq n (λ j. R i *q B j *q c i j))
+-- a double sum whose factors change
+sums-along : (m n : ℕ) (h : ℚ) (D D₁ D′ R c : ℕ → ℕ → ℚ) → ((i j : ℕ) → D₁ i j ≡ Along h (D i j) (D′ i j) (R i j))
+    → Σq m (λ i. Σq n (λ j. D₁ i j *q c i j)) ≡ Along h (Σq m (λ i. Σq n (λ j. D i j *q c i j))) (Σq m (λ i. Σq n (λ j. D′ i j *q c i j))) (Σq m (λ i. Σq n (λ j. R i j *q c i j)))
+sums-along m n h D D₁ D′ R c e =
+    Σ-cong m (λ i l. Σ-cong n (λ j k. ap (λ d. d *q c i j) (e i j) ∙ q-ring (h ∷ D i j ∷ D′ i j ∷ R i j ∷ c i j ∷ []) (search qring depth 20) tt)
+    ∙ Σ-along n h (λ j. D i j *q c i j) (λ j. D′ i j *q c i j) (λ j. R i j *q c i j))
+    ∙ Σ-along m h (λ i. Σq n (λ j. D i j *q c i j)) (λ i. Σq n (λ j. D′ i j *q c i j)) (λ i. Σq n (λ j. R i j *q c i j))
 
-sum₂-v : (m n : ℕ) (h : ℚ) (A B B₁ B′ R : ℕ → ℚ) (c : ℕ → ℕ → ℚ) → ((j : ℕ) → B₁ j ≡ Along h (B j) (B′ j) (R j))
-    → sum₂ m n A B₁ c ≡ Along h (sum₂ m n A B c) (sum₂ m n A B′ c) (sum₂ m n A R c)
-unfolding sum₂
-sum₂-v m n h A B B₁ B′ R c e =
-    Σ-cong m (λ i l. Σ-cong n (λ j k. ap (λ b. A i *q b *q c i j) (e j) ∙ q-ring (h ∷ A i ∷ B j ∷ B′ j ∷ R j ∷ c i j ∷ []) (search qring depth 20) tt)
-    ∙ Σ-along n h (λ j. A i *q B j *q c i j) (λ j. A i *q B′ j *q c i j) (λ j. A i *q R j *q c i j))
-    ∙ Σ-along m h (λ i. Σq n (λ j. A i *q B j *q c i j)) (λ i. Σq n (λ j. A i *q B′ j *q c i j)) (λ i. Σq n (λ j. A i *q R j *q c i j))
+first-along : (h a a′ r b : ℚ) → Along h a a′ r *q b ≡ Along h (a *q b) (a′ *q b) (r *q b)
+first-along h a a′ r b = q-ring (h ∷ a ∷ a′ ∷ r ∷ b ∷ []) (search qring depth 20) tt
+
+second-along : (h a b b′ r : ℚ) → a *q Along h b b′ r ≡ Along h (a *q b) (a *q b′) (a *q r)
+second-along h a b b′ r = q-ring (h ∷ a ∷ b ∷ b′ ∷ r ∷ []) (search qring depth 20) tt
 
 module _ (U : ℕ → ℚ) (u : ℚ) (s p m : ℕ) (U′ : ℕ → ℚ) (v : ℚ) (z q n : ℕ) (h : ℚ) (w P : ℕ → ℕ → ℚ) where
   abbrev W : (ℕ → ℕ → ℚ) → ℚ
@@ -94,11 +91,11 @@ module _ (U : ℕ → ℚ) (u : ℚ) (s p m : ℕ) (U′ : ℕ → ℚ) (v : ℚ
 
   whole₂-u : (c : ℕ → ℕ → ℚ) → whole₂ U (u +q h) s p m U′ v z q n c ≡ Along h (W c) (along-u (dbasis U u s p) c) (along-u (rest U u h s p) c)
   unfolding whole₂ sum₂
-  whole₂-u c = sum₂-u m n h (basis U u s p) (basis U (u +q h) s p) (dbasis U u s p) (rest U u h s p) (basis U′ v z q) c (basis-at U u h s p)
+  whole₂-u c = sums-along m n h _ _ _ _ c (λ i j. ap (λ a. a *q basis U′ v z q j) (basis-at U u h s p i) ∙ first-along h (basis U u s p i) (dbasis U u s p i) (rest U u h s p i) (basis U′ v z q j))
 
   whole₂-v : (c : ℕ → ℕ → ℚ) → whole₂ U u s p m U′ (v +q h) z q n c ≡ Along h (W c) (along-v (dbasis U′ v z q) c) (along-v (rest U′ v h z q) c)
   unfolding whole₂ sum₂
-  whole₂-v c = sum₂-v m n h (basis U u s p) (basis U′ v z q) (basis U′ (v +q h) z q) (dbasis U′ v z q) (rest U′ v h z q) c (basis-at U′ v h z q)
+  whole₂-v c = sums-along m n h _ _ _ _ c (λ i j. ap (λ b. basis U u s p i *q b) (basis-at U′ v h z q j) ∙ second-along h (basis U u s p i) (basis U′ v z q j) (dbasis U′ v z q j) (rest U′ v h z q j))
 
   pub exact₂-at-u : W w ≢ q0 → whole₂ U (u +q h) s p m U′ v z q n w ≢ q0
       → exact₂ U (u +q h) s p m U′ v z q n w P ≡ Along h (exact₂ U u s p m U′ v z q n w P) (dexact₂u U u s p m U′ v z q n w P)

@@ -49,6 +49,7 @@ exact U t s p count w P = whole U t s p count (λ i. w i *q P i) /q whole U t s 
 unfoldable pub slope : (ℕ → ℚ) → ℕ → ℕ → ℚ
 slope U k i = inv (U (i + suc k) -q U i)
 
+-- N' by the product rule: at t + h the function is N + h N' + h h times a polynomial in h (`basis-at`), and on knots that do not decrease N' is the book's formula 2.7 (`dbasis-formula`)
 unfoldable pub dbasis : (ℕ → ℚ) → ℚ → ℕ → ℕ → ℕ → ℚ
 unfolding slope basis
 dbasis U t s zero i = q0

@@ -11,8 +11,8 @@ sum₂ m n A B c = Σq m (λ i. Σq n (λ j. A i *q B j *q c i j))
 
 -- Σ Σ N_i(u) M_j(v) c_ij over all the points
 unfoldable pub whole₂ : (ℕ → ℚ) → ℚ → ℕ → ℕ → ℕ → (ℕ → ℚ) → ℚ → ℕ → ℕ → ℕ → (ℕ → ℕ → ℚ) → ℚ
-unfolding Σq basis
-whole₂ U u s p count U′ v z q count′ c = Σq count (λ i. Σq count′ (λ j. basis U u s p i *q basis U′ v z q j *q c i j))
+unfolding sum₂ basis
+whole₂ U u s p count U′ v z q count′ c = sum₂ count count′ (basis U u s p) (basis U′ v z q) c
 
 -- Σ Σ N w P / Σ Σ N w
 unfoldable pub exact₂ : (ℕ → ℚ) → ℚ → ℕ → ℕ → ℕ → (ℕ → ℚ) → ℚ → ℕ → ℕ → ℕ → (ℕ → ℕ → ℚ) → (ℕ → ℕ → ℚ) → ℚ

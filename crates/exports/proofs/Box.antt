@@ -11,7 +11,7 @@ use Rattle.doubles.specs.Value.{zero+}
 use Rattle.bounds.specs.declared.answer.NurbsBounds.{NurbsBounds}
 use Rattle.bounds.specs.declared.answer.Bounded.{Bounded}
 use Rattle.bounds.specs.declared.answer.Bounded.the-variants.{Are}
-use Rattle.bounds.specs.Holds.{Idle}
+use Rattle.bounds.specs.Holds.{NotIdle}
 use Rattle.bounds.specs.Numbers.{boundedRefusal, boundedValues, storedSix}
 use Rattle.bounds.proofs.Promised.{Promised}
 use Rattle.exports.specs.Answer.{values, Leaves}
@@ -47,5 +47,5 @@ module _ {before after : List Float} {r : ℕ} where
   bounded-by e = leaves-by (ap boundedAnswer e)
 
   -- and what is promised of it
-  pub bounded-promised : {a b : Bounded} (F : Bounded → Type 0) → Promised a b F → Leaves (boundedAnswer a) before after r → Leaves (boundedAnswer b) before after r × (F b × Idle (boundedRefusal b .number))
-  bounded-promised F p l = (bounded-by (p .0) l, (subst F (p .0) (p .1 .0), subst (λ (x : Bounded). Idle (boundedRefusal x .number)) (p .0) (p .1 .1)))
+  pub bounded-promised : {a b : Bounded} (F : Bounded → Type 0) → Promised a b F → Leaves (boundedAnswer a) before after r → Leaves (boundedAnswer b) before after r × (F b × NotIdle (boundedRefusal b .number))
+  bounded-promised F p l = (bounded-by (p .0) l, (subst F (p .0) (p .1 .0), subst (λ (x : Bounded). NotIdle (boundedRefusal x .number)) (p .0) (p .1 .1)))

@@ -7,7 +7,7 @@ use bounds::store::store_triple;
 use bounds::surface::bound_surface;
 use knots::clear::clear;
 ghost use Rattle.bounds.specs.Curve.{boundOf};
-ghost use Rattle.bounds.specs.Holds.{Holds, SurfaceHolds, Idle};
+ghost use Rattle.bounds.specs.Holds.{Holds, SurfaceHolds, NotIdle};
 ghost use Rattle.bounds.specs.Numbers.{boundedRefusal, boundedValues};
 ghost use Rattle.bounds.specs.Surface.{surfaceOf};
 ghost use Rattle.exports.specs.Answer.{Leaves, values};
@@ -36,7 +36,7 @@ fn put_bounded(out: &mut [f64], a: Bounded) -> u64
     }
 }
 
-// The bounds of a curve on the closed range [lo, hi]: they hold the exact point and derivative, and 28 and 29 are not given.
+// The bounds of a curve on the closed range [lo, hi]: they hold the exact point and derivative, dv holds 0, and 28 and 29 are never given.
 #[no_mangle]
 pub extern "C" fn tasulogi_bound_curve(
     degree: usize,
@@ -50,7 +50,7 @@ pub extern "C" fn tasulogi_bound_curve(
 ) -> u64
     ensures { λ r. ⌜ Leaves (boundedAnswer (boundOf degree (now (knots .entry)) (now (points .entry)) rational (now (weights .entry)) lo hi)) (now (out .entry)) (now (out .exit)) r ⌝ }
     ensures { λ r. ⌜ Holds degree (now (knots .entry)) (now (points .entry)) rational (now (weights .entry)) lo hi (boundOf degree (now (knots .entry)) (now (points .entry)) rational (now (weights .entry)) lo hi) ⌝ }
-    ensures { λ r. ⌜ Idle (boundedRefusal (boundOf degree (now (knots .entry)) (now (points .entry)) rational (now (weights .entry)) lo hi) .number) ⌝ }
+    ensures { λ r. ⌜ NotIdle (boundedRefusal (boundOf degree (now (knots .entry)) (now (points .entry)) rational (now (weights .entry)) lo hi) .number) ⌝ }
 {
     put_bounded(
         out,
@@ -78,7 +78,7 @@ pub extern "C" fn tasulogi_bound_surface(
 ) -> u64
     ensures { λ r. ⌜ Leaves (boundedAnswer (surfaceOf p q (now (uk .entry)) (now (vk .entry)) un vn (now (points .entry)) rational (now (weights .entry)) «u_lo» «u_hi» «v_lo» «v_hi»)) (now (out .entry)) (now (out .exit)) r ⌝ }
     ensures { λ r. ⌜ SurfaceHolds p q (now (uk .entry)) (now (vk .entry)) un vn (now (points .entry)) rational (now (weights .entry)) «u_lo» «u_hi» «v_lo» «v_hi» (surfaceOf p q (now (uk .entry)) (now (vk .entry)) un vn (now (points .entry)) rational (now (weights .entry)) «u_lo» «u_hi» «v_lo» «v_hi») ⌝ }
-    ensures { λ r. ⌜ Idle (boundedRefusal (surfaceOf p q (now (uk .entry)) (now (vk .entry)) un vn (now (points .entry)) rational (now (weights .entry)) «u_lo» «u_hi» «v_lo» «v_hi») .number) ⌝ }
+    ensures { λ r. ⌜ NotIdle (boundedRefusal (surfaceOf p q (now (uk .entry)) (now (vk .entry)) un vn (now (points .entry)) rational (now (weights .entry)) «u_lo» «u_hi» «v_lo» «v_hi») .number) ⌝ }
 {
     put_bounded(
         out,

@@ -11,7 +11,7 @@ use interval::Sign;
 ghost use mathlib.Core.Path.{_≡_};
 ghost use mathlib.Core.List.{_∷_, []};
 ghost use Rattle.interval.specs.Ops.{entire, newOf, pointOf, widthOf, hullOf, sqrOf, addOf, subOf, mulOf, negOf, divideOf};
-ghost use Rattle.bounds.specs.Holds.{Idle};
+ghost use Rattle.bounds.specs.Holds.{NotIdle};
 ghost use Rattle.exports.specs.Answer.{Leaves, values};
 ghost use Rattle.exports.specs.Intervals.{operationOf, ends, newAnswer, quotientAnswer, onNew, onBoth, bothOf, signNumber, insideNumber};
 
@@ -177,7 +177,7 @@ pub extern "C" fn tasulogi_interval_mul(al: f64, ah: f64, bl: f64, bh: f64, out:
     binary(MUL, al, ah, bl, bh, out)
 }
 
-// 26 where the divisor contains 0; 28, where no quotient can be formed, is not given.
+// 26 where the divisor contains 0. 28 is never given.
 #[no_mangle]
 pub extern "C" fn tasulogi_interval_divide(
     al: f64,
@@ -187,7 +187,7 @@ pub extern "C" fn tasulogi_interval_divide(
     out: &mut [f64],
 ) -> u32
     ensures { λ r. ⌜ Leaves (onBoth (bothOf (newOf al ah) (newOf bl bh)) (λ a b. quotientAnswer (divideOf a b))) (now (out .entry)) (now (out .exit)) r ⌝ }
-    ensures { λ r. ⌜ Idle r ⌝ }
+    ensures { λ r. ⌜ NotIdle r ⌝ }
 {
     let p = pair(al, ah, bl, bh);
     match p {

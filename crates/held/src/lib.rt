@@ -9,7 +9,7 @@ ghost use Rattle.knots.specs.Span.{refusing, clamping, spanAnswer};
 ghost use Rattle.evaluate.specs.Curve.{evalOf};
 ghost use Rattle.bounds.specs.Curve.{boundOf};
 ghost use Rattle.bounds.specs.Numbers.{boundedRefusal};
-ghost use Rattle.bounds.specs.Holds.{Holds, Idle};
+ghost use Rattle.bounds.specs.Holds.{Holds, NotIdle};
 
 // The fields stand in the order in which every call takes them. Weights count only where rational is true.
 pub struct Curve<'a> {
@@ -89,7 +89,7 @@ pub fn eval_clamped_in<'a>(
     evaluate::curve::eval_clamped(degree, knots, points, rational, weights, t)
 }
 
-// The bounds over the closed range [lo, hi]: the answer, that bounds hold the exact point and derivative, and that 28 and 29 are not given.
+// The bounds over the closed range [lo, hi]: the answer, that bounds hold the exact point and derivative, and that 28 and 29 are never given.
 pub fn bound_in<'a>(
     degree: usize,
     knots: &'a [f64],
@@ -101,7 +101,7 @@ pub fn bound_in<'a>(
 ) -> Bounded
     ensures { λ r. ⌜ r ≡ boundOf degree (now (knots .entry)) (now (points .entry)) rational (now (weights .entry)) lo hi ⌝ }
     ensures { λ r. ⌜ Holds degree (now (knots .entry)) (now (points .entry)) rational (now (weights .entry)) lo hi r ⌝ }
-    ensures { λ r. ⌜ Idle (boundedRefusal r .number) ⌝ }
+    ensures { λ r. ⌜ NotIdle (boundedRefusal r .number) ⌝ }
 {
     bounds::curve::bound_curve(degree, knots, points, rational, weights, lo, hi)
 }
@@ -175,7 +175,7 @@ impl<'a> Curve<'a> {
     pub fn bound(self, lo: f64, hi: f64) -> Bounded
         ensures { λ r. ⌜ r ≡ boundOf (self .entry .degree) (now (self .entry .knots)) (now (self .entry .points)) (self .entry .rational) (now (self .entry .weights)) lo hi ⌝ }
         ensures { λ r. ⌜ Holds (self .entry .degree) (now (self .entry .knots)) (now (self .entry .points)) (self .entry .rational) (now (self .entry .weights)) lo hi r ⌝ }
-        ensures { λ r. ⌜ Idle (boundedRefusal r .number) ⌝ }
+        ensures { λ r. ⌜ NotIdle (boundedRefusal r .number) ⌝ }
     {
         bound_in(
             self.degree,

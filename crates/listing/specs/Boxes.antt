@@ -29,7 +29,7 @@ spacedDecimals i = 32 ∷ (fixed false (i .lo) ++ (32 ∷ fixed true (i .hi)))
 abbrev pub each : (Interval → List ℕ) → Triple → List ℕ
 each text t = text (t .x) ++ (text (t .y) ++ text (t .z))
 
--- the coordinates of the point, or of du, six numbers behind it, where speeds are asked for, by their bits, then as decimals; or, where the bound is refused and has no values, ` refused ` and the number
+-- the intervals of the point, or where speeds are asked for those of du, which stand six numbers behind it: by their bits, then as decimals; or, where the bound is refused and has no values, ` refused ` and the number
 unfoldable pub outcome : Bool → Bounded → List ℕ
 outcome speeds a = let vs = boundedValues a in let t = tripleBy (at vs) (cond speeds 6 0) in cond (eqb (length vs) 0) (32 ∷ (refusedWord ++ decimal (boundedRefusal a .number))) (each spacedEnds t ++ each spacedDecimals t)
 

@@ -52,7 +52,7 @@ fn put_all_ends(out: &mut [u8], at: usize, rounded: bool, t: Triple) -> usize
 }
 
 // The point, or its derivative along u.
-fn triple_by(speeds: bool, b: NurbsBounds) -> Triple
+fn shown_of(speeds: bool, b: NurbsBounds) -> Triple
     ensures { λ r. ⌜ r ≡ tripleBy (at (boundedValues (Bounded.Are b))) (cond speeds 6 0) ⌝ }
 {
     if speeds {
@@ -68,7 +68,7 @@ fn put_outcome(out: &mut [u8], at: usize, speeds: bool, answer: Bounded) -> usiz
 {
     match answer {
         Bounded::Are(b) => {
-            let t = triple_by(speeds, b);
+            let t = shown_of(speeds, b);
             let next = put_all_ends(out, at, false, t);
             put_all_ends(out, next, true, t)
         }

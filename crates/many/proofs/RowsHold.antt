@@ -20,7 +20,7 @@ use Rattle.knots.specs.declared.refusal.Refusal.{Refusal}
 use Rattle.knots.proofs.Refusals.{row-both, orElse-none}
 use Rattle.runs.specs.Fraction.{coordinateValue}
 use Rattle.jets.specs.Three.{Three}
-use Rattle.bounds.specs.Holds.{Boxed, HoldsOn, Idle}
+use Rattle.bounds.specs.Holds.{Boxed, HoldsOn, NotIdle}
 use Rattle.bounds.specs.Numbers.{boundedRefusal, boundedValues}
 use Rattle.bounds.specs.Eighteen.{tripleBy, boundsBy}
 use Rattle.bounds.specs.declared.answer.NurbsBounds.{NurbsBounds}
@@ -129,7 +129,7 @@ module _ (p : ℕ) (ks ps : List Float) (g : Bool) (ws : List Float) where
 
   -- what is said of row i, of span s
   abbrev Row : List ℕ → List Float → ℕ → ℕ → Type 0
-  Row marks boxes s i = HoldsOn p s ks (countOf ps) g ws (at ks s) (at ks (s + 1)) (coordinateValue ps) (answerAt marks boxes i) × Idle (boundedRefusal (answerAt marks boxes i) .number)
+  Row marks boxes s i = HoldsOn p s ks (countOf ps) g ws (at ks s) (at ks (s + 1)) (coordinateValue ps) (answerAt marks boxes i) × NotIdle (boundedRefusal (answerAt marks boxes i) .number)
 
   module _ (a b : ℕ) (marks : List ℕ) (boxes : List Float) (A : ManyAnswer) (M : SpansMeet p ks ps g ws a b marks boxes A) where
     abbrev r : Refusal
@@ -138,10 +138,10 @@ module _ (p : ℕ) (ks ps : List Float) (g : Bool) (ws : List Float) where
     abbrev spans : List ℕ
     spans = spansOf p ks ps
 
-    start-idle : Idle (manyAnswerRefusal A .number)
-    start-idle = subst (λ (x : ManyAnswer). Idle (manyAnswerRefusal x .number)) (sym (M .answered)) (go (eqb (r .number) 0))
+    start-idle : NotIdle (manyAnswerRefusal A .number)
+    start-idle = subst (λ (x : ManyAnswer). NotIdle (manyAnswerRefusal x .number)) (sym (M .answered)) (go (eqb (r .number) 0))
       where
-        go : (x : Bool) → Idle (manyAnswerRefusal (cond x (Rows (length spans)) (Refused r)) .number)
+        go : (x : Bool) → NotIdle (manyAnswerRefusal (cond x (Rows (length spans)) (Refused r)) .number)
         go true = idle 0 tt
         go false = idle (r .number) (start-other a b)
 
@@ -174,7 +174,7 @@ module _ (p : ℕ) (ks ps : List Float) (g : Bool) (ws : List Float) where
           let z = spans-in ks (countOf ps - p) p i l in
           let f = z .last in
           let h = row-holds p ks ps g ws v s (z .first) (omega arith) (z .wide) in
-          ((λ t from upto. back .boxed _ (h t from upto)), subst Idle (back .number) (bound-idle p ks ps ws g (at ks s) (at ks (s + 1))))
+          ((λ t from upto. back .boxed _ (h t from upto)), subst NotIdle (back .number) (bound-idle p ks ps ws g (at ks s) (at ks (s + 1))))
 
     pub rows-hold : RowsHold p ks ps g ws marks boxes A
     rows-hold = record { idle = start-idle; each = λ n e. go n (eqb (r .number) 0) (eqb-true (r .number) 0) (sym (M .answered) ∙ e) }

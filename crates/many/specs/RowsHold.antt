@@ -10,7 +10,7 @@ use Rattle.doubles.specs.Run.{at}
 use Rattle.knots.specs.Refusal.{numbered}
 use Rattle.knots.specs.Curve.{countOf}
 use Rattle.runs.specs.Fraction.{coordinateValue}
-use Rattle.bounds.specs.Holds.{HoldsOn, Idle}
+use Rattle.bounds.specs.Holds.{HoldsOn, NotIdle}
 use Rattle.bounds.specs.Numbers.{boundedRefusal}
 use Rattle.bounds.specs.Eighteen.{boundsBy}
 use Rattle.bounds.specs.declared.answer.Bounded.{Bounded}
@@ -24,8 +24,8 @@ abbrev pub answerAt : List ℕ → List Float → ℕ → Bounded
 answerAt marks boxes i = let n = getD marks (i * 2 + 1) 0 in cond (eqb n 0) (Are (boundsBy (λ j. at boxes (i * 18 + j)))) (Refused (numbered n))
 
 pub record RowsHold (p : ℕ) (ks ps : List Float) (g : Bool) (ws : List Float) (marks : List ℕ) (boxes : List Float) (A : ManyAnswer) : Type 0 where
-  pub idle : Idle (manyAnswerRefusal A .number)
+  pub idle : NotIdle (manyAnswerRefusal A .number)
   pub each : (n : ℕ) → A ≡ Rows n → (i : ℕ) → i < n →
       let s = getD marks (i * 2) 0 in
       let B = answerAt marks boxes i in
-      HoldsOn p s ks (countOf ps) g ws (at ks s) (at ks (s + 1)) (coordinateValue ps) B × Idle (boundedRefusal B .number)
+      HoldsOn p s ks (countOf ps) g ws (at ks s) (at ks (s + 1)) (coordinateValue ps) B × NotIdle (boundedRefusal B .number)

@@ -120,7 +120,7 @@ fn bound_each(
     }
 }
 
-// The bounds on each nonempty span over its own closed range, one validation for all: the span and the number of its own refusal or 0, and eighteen numbers, which hold the exact point and derivative at every fraction of that range.
+// The bounds on each nonempty span over its own closed range, one validation for all: the span and the number of its own refusal or 0, and eighteen numbers. Where that number is 0 they hold the exact point and derivative at every fraction of that range; else they are +0.0. 28 and 29 are never given.
 pub fn bound_spans(
     degree: usize,
     knots: &[f64],

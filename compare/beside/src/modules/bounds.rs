@@ -20,8 +20,8 @@ const SURFACE_CARE: Care = Care { steep: [400, 200, 30, 6, 2, 3], broken: 8, lon
 
 /// One case in so many is a surface.
 const SURFACE_EVERY: u64 = 11;
-/// In one box in so many exact vectors are looked for: of a curve, of a surface. Over one point, which is rare of a
-/// surface, they are looked for in each box.
+/// In one box in so many exact vectors are looked for: of a curve, of a surface. Surfaces over one point are rare, so each
+/// of their boxes is looked at.
 const EXACT_EVERY: [u64; 2] = [20, 5];
 
 const CALLS: [(&str, &[u32]); 2] = [
@@ -65,7 +65,7 @@ fn asked(
     is_point: bool,
     ours: impl Fn(&mut [f64]) -> u64,
     literal: impl FnOnce() -> String,
-    exact: impl FnOnce(&mut Desk, &[f64]) -> Option<String>,
+    look: impl FnOnce(&mut Desk, &[f64]) -> Option<String>,
 ) -> Option<String> {
     let text = compared(desk, Asked { row, needs: &[BOX], high: 0, room }, want, |l| ours(l[0]));
     let text = text.map(|text| format!("{}\n  Rust literal:  {}\n{text}", CALLS[row].0, literal()));
@@ -74,7 +74,7 @@ fn asked(
     if !is_looked_at || ours(&mut ends) != 0 {
         return text;
     }
-    let outside = exact(desk, &ends);
+    let outside = look(desk, &ends);
     text.or(outside)
 }
 
@@ -82,8 +82,8 @@ fn curve(desk: &mut Desk) -> Option<String> {
     let case = CurveCase::made(&mut desk.r, &CARE);
     case.table.features(&mut desk.tally.features);
     desk.tally.count(case.table.doubles().take(400).chain([&case.range.0, &case.range.1]));
-    let exact = |desk: &mut Desk, b: &[f64]| exact::curve(&mut desk.r, &case, b, &mut desk.tally);
-    asked(desk, 0, &case.rust(), false, |out| case.ours(out), || case.literal(), exact)
+    let look = |desk: &mut Desk, b: &[f64]| exact::curve(&mut desk.r, &case, b, &mut desk.tally);
+    asked(desk, 0, &case.rust(), false, |out| case.ours(out), || case.literal(), look)
 }
 
 fn surface(desk: &mut Desk) -> Option<String> {
@@ -91,6 +91,6 @@ fn surface(desk: &mut Desk) -> Option<String> {
     case.table.features(&mut desk.tally.features);
     desk.tally.count(case.table.doubles().take(400));
     let is_point = case.u.0 == case.u.1 && case.v.0 == case.v.1;
-    let exact = |desk: &mut Desk, b: &[f64]| exact::surface(&mut desk.r, &case, b, &mut desk.tally);
-    asked(desk, 1, &case.rust(), is_point, |out| case.ours(out), || case.literal(), exact)
+    let look = |desk: &mut Desk, b: &[f64]| exact::surface(&mut desk.r, &case, b, &mut desk.tally);
+    asked(desk, 1, &case.rust(), is_point, |out| case.ours(out), || case.literal(), look)
 }

@@ -7,7 +7,7 @@ use crate::held::{Kind, Spot};
 use crate::rng::Rng;
 use crate::tally::Tally;
 
-/// A table whose exact numbers would be longer than about so many bits is left out.
+/// A table whose exact numbers are estimated to have more bits is left out, but for a curve's dv.
 const MOST_BITS: i64 = 4000;
 
 const SPOTS: &[Spot] = &[Spot::Alone, Spot::End, Spot::Double, Spot::Long];
@@ -43,15 +43,8 @@ impl Vector {
     }
 
     fn is_in(&self, ends: &[f64]) -> bool {
-        self.top.iter().zip(ends.chunks_exact(2)).all(|(x, e)| is_between(x, &self.bottom, e[0], e[1]))
+        self.top.iter().zip(ends.chunks_exact(2)).all(|(x, e)| x.is_inside_over(&self.bottom, e[0], e[1]))
     }
-}
-
-/// Whether top / bottom lies between two ends; an infinite end sets no limit, a NaN holds nothing.
-fn is_between(top: &Fraction, bottom: &Fraction, lo: f64, hi: f64) -> bool {
-    let over = lo == f64::NEG_INFINITY || lo.is_finite() && !top.sub(&bottom.mul(&Fraction::of(lo))).is_negative();
-    let under = hi == f64::INFINITY || hi.is_finite() && !bottom.mul(&Fraction::of(hi)).sub(top).is_negative();
-    over && under
 }
 
 /// A box, what it is of, and where vectors that are looked for in it are counted.
@@ -83,6 +76,14 @@ impl Looked<'_> {
         first
     }
 
+    /// Counts the box, and whether it is left out by its estimate.
+    fn is_left_out(&mut self, bits: i64) -> bool {
+        let row = &mut self.tally.rows[self.row];
+        row.boxes += 1;
+        row.left_out += (bits > MOST_BITS) as u64;
+        bits > MOST_BITS
+    }
+
     /// A basis that does not add up.
     fn wrong(&mut self) -> Option<String> {
         self.tally.rows[self.row].outside += 1;
@@ -96,8 +97,8 @@ fn span(knots: &[f64], degree: usize, count: usize, range: (f64, f64)) -> usize 
     (degree..count).find(holds).expect("a box has a span")
 }
 
-/// How far apart the exponents of the numbers are: what a sum of them takes in bits.
-fn spread<'a>(run: impl Iterator<Item = &'a f64>) -> i64 {
+/// How far apart the exponents of the numbers are, with a double's digits: what a sum of them takes in bits.
+fn exponents_apart<'a>(run: impl Iterator<Item = &'a f64>) -> i64 {
     let (mut least, mut most) = (i64::MAX, i64::MIN);
     for x in run.filter(|x| **x != 0.0) {
         let e = (x.to_bits() >> 52 & 0x7ff) as i64;
@@ -106,10 +107,10 @@ fn spread<'a>(run: impl Iterator<Item = &'a f64>) -> i64 {
     if least > most { 53 } else { most - least + 53 }
 }
 
-/// About how many bits the basis on these knots has.
+/// About how many bits the basis on these knots has: a function of it is a sum of products of p(p + 1)/2 differences.
 fn bits(knots: &[f64], range: (f64, f64)) -> i64 {
     let p = knots.len() as i64 / 2;
-    spread(knots.iter().chain([&range.0, &range.1])) * p * (p + 1) / 2
+    exponents_apart(knots.iter().chain([&range.0, &range.1])) * p * (p + 1) / 2
 }
 
 /// A control point times its weight, and the weight.
@@ -128,11 +129,11 @@ pub fn curve(r: &mut Rng, case: &CurveCase, ends: &[f64], tally: &mut Tally) -> 
     let (c, p) = (&case.table, case.table.degree);
     let mut looked = Looked { tally, row: 0, rational: c.rational, ends, literal: &|| case.literal() };
     let is_point = case.range.0 == case.range.1;
-    let zero = ends[12..].chunks_exact(2).all(|e| e[0] <= 0.0 && 0.0 <= e[1]);
+    let zero = ends[12..].chunks_exact(2).all(|e| Fraction::of(0.0).is_inside(e[0], e[1]));
     let mut first = looked.count(2, if is_point { Spot::Alone } else { Spot::Whole }, zero);
     let s = span(&c.knots, p, c.count(), case.range);
     let knots = &c.knots[s + 1 - p..=s + p];
-    if bits(knots, case.range) + spread(c.points.iter()) > MOST_BITS {
+    if looked.is_left_out(bits(knots, case.range) + exponents_apart(c.points.iter())) {
         return first;
     }
     let recursion = Recursion::new(knots);
@@ -160,7 +161,8 @@ pub fn surface(r: &mut Rng, case: &SurfaceCase, ends: &[f64], tally: &mut Tally)
     let mut looked = Looked { tally, row: 1, rational: c.rational, ends, literal: &|| case.literal() };
     let (us, vs) = (span(&c.knots[0], p, c.counts[0], case.u), span(&c.knots[1], q, c.counts[1], case.v));
     let (uk, vk) = (&c.knots[0][us + 1 - p..=us + p], &c.knots[1][vs + 1 - q..=vs + q]);
-    if 2 * (bits(uk, case.u) + bits(vk, case.v)) + spread(c.points.iter()) > MOST_BITS {
+    // Twice, for the quotient rule: there are about eight pairs. A curve's four parameters may have derivatives twice as long.
+    if looked.is_left_out(2 * (bits(uk, case.u) + bits(vk, case.v)) + exponents_apart(c.points.iter())) {
         return None;
     }
     let weights = c.rational.then_some(&c.weights[..]);

@@ -11,8 +11,8 @@ use Rattle.listing.proofs.boxes.put_outcome.Tie as tie
 enum-known-answer : tie.Need-enum-known-answer
 enum-known-answer c = search needs
 
-triple-by-requires : tie.Need-triple-by-requires
-triple-by-requires c κs = search needs
+shown-of-requires : tie.Need-shown-of-requires
+shown-of-requires c κs = search needs
 
 put-all-ends-requires : tie.Need-put-all-ends-requires
 unfolding endsRoom
@@ -43,7 +43,7 @@ returns c =
     let a = c .before .before .before .before .before .before .put-all-ends .ensures in
     let b = c .before .before .put-all-ends2 .ensures in
     rw (c .before .before .before .before .before .before .before .before .before .before .answer .given .1)
-    (rw (c .before .before .before .before .before .before .before .before .triple-by .ensures) at (both-stored (a .0) (b .0)), omega arith)
+    (rw (c .before .before .before .before .before .before .before .before .shown-of .ensures) at (both-stored (a .0) (b .0)), omega arith)
 
 same-length-2 : tie.Need-same-length-2
 same-length-2 c = search needs
@@ -59,7 +59,7 @@ put-outcome-spec =
     tie.close
     (tie.spec
     enum-known-answer
-    triple-by-requires
+    shown-of-requires
     put-all-ends-requires
     put-all-ends-requires-2
     enum-known-answer-2
