@@ -2,9 +2,9 @@ use crate::{Interval, Refusal, Span, refusal};
 
 /// What is known of a curve over a range, or of a surface over two: intervals of x, y and z.
 ///
-/// At every fraction of the range, the ends and all doubles among them, the exact point lies in `point` and its exact first
-/// derivative along u in `du`; of a surface, at every pair of fractions of its two ranges, that along v in `dv`. A curve's
-/// one parameter is u, and its `dv` encloses 0. All are worked out on the first nonempty span, of each direction, that
+/// At every fraction of the range, the ends and all doubles among them, and of a surface at every pair of fractions of its
+/// two ranges, the exact point lies in `point`, its exact first derivative along u in `du` and that along v in `dv`. A
+/// curve's one parameter is u, and its `dv` encloses 0. All are worked out on the first nonempty span, of each direction, that
 /// contains the range. An infinite end sets no limit. Refusals 28 and 29 are never given.
 #[derive(Clone, Copy, Debug, PartialEq)]
 pub struct BoundBox {

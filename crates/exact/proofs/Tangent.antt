@@ -1,4 +1,4 @@
--- The exact derivatives are derivatives: at t + h the exact point is the point at t, h times its derivative, and h h times a fraction in which nothing but the weights' sums at t and at t + h stands below; so is that of a surface along u and along v.
+-- The exact derivatives are derivatives: at t + h the exact point is the point at t, h times its derivative, and h h times a fraction in which, differences of knots aside, nothing but the weights' sums at t and at t + h stands below; so is that of a surface along u and along v.
 -- Assumes nothing.
 use mathlib.Core.Path.{_≡_, _∙_, ap, ap₂}
 use mathlib.Core.Logic.{_≢_}

@@ -1,4 +1,4 @@
--- What `tasulogi_interval_divide` returns is neither 28 nor 29: two doubles that are an interval divide, or hold 0. Assumes nothing.
+-- What `tasulogi_interval_divide` returns is neither 28 nor 29: a divisor that is an interval has a quotient, or holds 0. Assumes nothing.
 use Prim.Native.Nat.{ℕ}
 use mathlib.Core.Path.{_≡_, refl, sym, subst}
 use mathlib.Core.Bool.{Bool, true, false, cond}

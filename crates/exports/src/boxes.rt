@@ -58,7 +58,7 @@ pub extern "C" fn tasulogi_bound_curve(
     )
 }
 
-// The bounds of a surface on a closed rectangle: the same at every pair of fractions.
+// The bounds of a surface on a closed rectangle: they hold the exact point and both its first derivatives at every pair of fractions, and 28 and 29 are never given.
 #[no_mangle]
 pub extern "C" fn tasulogi_bound_surface(
     p: usize,

@@ -108,7 +108,7 @@ pub extern "C" fn tasulogi_eval2_many_clamped(
     rows_number(eval2_many_clamped(degree, knots, points, rational, weights, ts, numbers, rows))
 }
 
-// The bounds on each nonempty span: what is left in both runs holds the exact point and derivative row by row, and 28 and 29 are never given.
+// The bounds on each nonempty span: each row whose number is 0 holds the exact point and derivative; 28 and 29 are never given.
 #[no_mangle]
 pub extern "C" fn tasulogi_bound_spans(
     degree: usize,
