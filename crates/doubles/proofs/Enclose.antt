@@ -6,7 +6,7 @@ use native.Mathlib.Nat.{zero-lt-suc, mul-pos, eq-zero-or-pos}
 use native.Mathlib.Omega.{arith}
 use mathlib.Core.Bool.{Bool, true, false, not, cond, true≢false}
 use lib.IntN.{ℤ, pos}
-use lib.Dec.{T, T_not, not_t, ltb, ltb→lt, nltb→le}
+use lib.Dec.{T, T_not, not_T, ltb, ltb→lt, nltb→le}
 use lib.Ieee.{Float, nan, inf, fin, Format, prec, emax, low, up, down, odd, units, round, fits, is_nan, lt, le, neg}
 use lib.Ieee.Fits.{down_pos, round-fits, round_is, neg-fits}
 use lib.Ieee.Order.{round_mono}
@@ -122,7 +122,7 @@ zero-rounds f D C = round_same f true 0 D (0 * 1) 1 C (zero-lt-suc 0) (go D) ∙
 
 minus-zero-not : (n : ℕ) (d : ℤ) → n * up d ≡ 0 → T (not (lt (fin true 0 (pos 0)) (fin false n d)))
 unfolding lt
-minus-zero-not n d z = not_t (ltb 0 (0 * 1 * down d + n * up d * 1)) (λ t. go (down d) (n * up d) z (ltb→lt 0 (0 * 1 * down d + n * up d * 1) t))
+minus-zero-not n d z = not_T (ltb 0 (0 * 1 * down d + n * up d * 1)) (λ t. go (down d) (n * up d) z (ltb→lt 0 (0 * 1 * down d + n * up d * 1) t))
   where
     go : (a b : ℕ) → b ≡ 0 → 0 < 0 * 1 * a + b * 1 → ⊥
     go a b z h = omega arith

@@ -1,7 +1,7 @@
 -- The smaller and the larger of two doubles that are no NaN, and of four. Assumes nothing.
 use mathlib.Core.Path.{◌≡◌, refl, sym, ap, ◌∙◌}
 use mathlib.Core.Bool.{Bool, true, false, not, ◌||◌, cond}
-use lib.Dec.{T, not_t}
+use lib.Dec.{T, not_T}
 use lib.Ieee.{Float, nan, inf, fin, Format, fits, is_nan, lt}
 use lib.Ieee.Fits.{inf-fits, cond-fits}
 use lib.Ieee.Bits.{is_false}
@@ -24,7 +24,7 @@ Over m x = x ⊑ m
 
 module _ (a b : Float) (na : Number a) (nb : Number b) where
   pub smaller : Picked Under a b (fmin a b)
-  smaller = go (lt b a) (is_nan a) na (lt-asym b a) (not_t (lt b a))
+  smaller = go (lt b a) (is_nan a) na (lt-asym b a) (not_T (lt b a))
     where
       go : (k n : Bool) → T (not n) → (T k → b ⊑ a) → ((T k → ⊥) → a ⊑ b) → Picked Under a b (cond (k || n) b a)
       go true n e h g = record { number = nb; first = h tt; second = lt_irrefl b }
@@ -32,7 +32,7 @@ module _ (a b : Float) (na : Number a) (nb : Number b) where
       go false false e h g = record { number = na; first = lt_irrefl a; second = g (λ t. t) }
 
   pub larger : Picked Over a b (fmax a b)
-  larger = go (lt a b) (is_nan a) na (lt-asym a b) (not_t (lt a b))
+  larger = go (lt a b) (is_nan a) na (lt-asym a b) (not_T (lt a b))
     where
       go : (k n : Bool) → T (not n) → (T k → a ⊑ b) → ((T k → ⊥) → b ⊑ a) → Picked Over a b (cond (k || n) b a)
       go true n e h g = record { number = nb; first = h tt; second = lt_irrefl b }

@@ -5,7 +5,7 @@ use Prim.Native.Nat.{ℕ, ◌+◌, ◌*◌, ◌≤◌, ◌<◌}
 use native.Mathlib.Nat.{le_of_eq, le_of_lt, eq-or-lt_of_le}
 use native.Mathlib.Omega.{arith}
 use mathlib.Core.Bool.{Bool, true, false, not, ◌||◌, beq}
-use lib.Dec.{T, T_not, not_t, ltb, eqb, eqb→eq, ltb→lt, lt→ltb, nltb→le}
+use lib.Dec.{T, T_not, not_T, ltb, eqb, eqb→eq, ltb→lt, lt→ltb, nltb→le}
 use lib.Arith.{le→nltb}
 use lib.Ieee.{Float, nan, inf, fin, up, down, is_nan, lt, eq, le, below, level}
 use lib.Ieee.Scale.{finite}
@@ -99,7 +99,7 @@ pub ⊑-lt : (x y z : Float) → Number x → x ⊑ y → T (lt y z) → T (lt x
 ⊑-lt x y z n h k = elim (yes_or_no (lt x z)) [ inl t ↦ t | inr t ↦ absurd (T_not (lt y x) h (lt-⊑ y z x n k t)) ]
 
 pub ⊑_trans : (x y z : Float) → Number y → x ⊑ y → y ⊑ z → x ⊑ z
-⊑_trans x y z n h k = not_t (lt z x) (λ t. T_not (lt z y) k (lt-⊑ z x y n t h))
+⊑_trans x y z n h k = not_T (lt z x) (λ t. T_not (lt z y) k (lt-⊑ z x y n t h))
 
 pub lt_trans : (x y z : Float) → T (lt x y) → T (lt y z) → T (lt x z)
 lt_trans x y z h k = lt-⊑ x y z (lt-right y z k) h (lt-asym y z k)
@@ -113,7 +113,7 @@ below-asym true a true b h = le→nltb a b (le_of_lt (ltb→lt b a h))
 
 level-not : (s : Bool) (a : ℕ) (t : Bool) (b : ℕ) → T (level s a t b) → T (not (below t b s a))
 level-not false a false b h = le→nltb b a (le_of_eq (eqb→eq a b (and_l (eqb a b) (true || eqb a 0) h)))
-level-not false a true b h = not_t (ltb 0 (b + a)) (λ t. go a b (eqb→eq a b (and_l (eqb a b) (false || eqb a 0) h)) (eqb→eq a 0 (and_r (eqb a b) (eqb a 0) h)) (ltb→lt 0 (b + a) t))
+level-not false a true b h = not_T (ltb 0 (b + a)) (λ t. go a b (eqb→eq a b (and_l (eqb a b) (false || eqb a 0) h)) (eqb→eq a 0 (and_r (eqb a b) (eqb a 0) h)) (ltb→lt 0 (b + a) t))
   where
     go : (a b : ℕ) → a ≡ b → a ≡ 0 → 0 < b + a → ⊥
     go a b p q r = omega arith

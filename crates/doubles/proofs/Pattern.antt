@@ -8,7 +8,7 @@ use native.Mathlib.Nat.{mul-lt-mul_of_pos_right, mod-lt, mod-eq_of_lt, add-mod_l
 use native.Mathlib.Nat.{div-lt_iff_lt-mul, eq-or-lt_of_le, le_of_suc-le-suc}
 use native.Mathlib.Omega.{arith}
 use mathlib.Core.Bool.{Bool, true, false, not, cond}
-use lib.Dec.{T, leb, eqb, not_t, eqb→eq, le→leb}
+use lib.Dec.{T, leb, eqb, not_T, eqb→eq, le→leb}
 use lib.Arith.{digits_lt, digits_div, digits_mod, lt→nleb}
 use lib.Pow.{pow_pos}
 use lib.Ieee.{Float, nan, inf, Format, prec, emax, low, odd, hid, ones, top, of_fields, of_bits}
@@ -122,7 +122,7 @@ ones_pos : (e : ℕ) → 0 ≡ 2 * e + 1 → ⊥
 ones_pos e h = omega arith
 
 lt→neqb : (a b : ℕ) → a < b → T (not (eqb a b))
-lt→neqb a b h = not_t (eqb a b) (λ t. lt_irrefl b (subst (λ (x : ℕ). x < b) (eqb→eq a b t) h))
+lt→neqb a b h = not_T (eqb a b) (λ t. lt_irrefl b (subst (λ (x : ℕ). x < b) (eqb→eq a b t) h))
 
 -- a finite pattern: its value has the sign s and is `field` units in size
 fields-ticks : (f : Format) (s : Bool) (x t : ℕ) → x < ones f → HasValue (of_fields f s x t) s (field f x t) (2 ^ low f)

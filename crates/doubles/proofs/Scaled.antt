@@ -5,7 +5,7 @@ use mathlib.Core.List.{[], ◌∷◌}
 use Prim.Native.Nat.{ℕ, zero, suc, ◌+◌, ◌*◌, ◌/◌, ◌^◌, pred, ◌<◌}
 use native.Mathlib.Nat.{mul-pos, mul_assoc, mul_comm, mul_left_comm, zero-lt-suc, mul-div_cancel, lt_irrefl}
 use lib.Pow.{pow_pos}
-use lib.Dec.{T, T_not, not_t, eqb, eqb-suc-zero}
+use lib.Dec.{T, T_not, not_T, eqb, eqb-suc-zero}
 use lib.IntN.{ℤ, pos, negsuc, nat_abs, ◌+ℤ◌, ◌*ℤ◌}
 use lib.Signed.{◌≤ℤ◌, lt_z, lt_z_no}
 use lib.Ieee.{Float, nan, inf, fin, Format, low, up, down, round, add, mul, div, unlike, fits}
@@ -64,7 +64,7 @@ less (negsuc a) (pos b) t = absurd t
 less (negsuc a) (negsuc b) t = below-yes true (suc b) true (suc a) (subst T (lt_z-signed true (suc b) true (suc a)) t)
 
 nonneg-le : (a b : ℤ) → T (nonneg (b ⊞ ⊟ a)) → a ≤ℤ b
-nonneg-le a b h = lt_z_no (not_t (lt_z b a) (λ t. T_not (nonneg (b ⊞ ⊟ a)) (less a b t) h))
+nonneg-le a b h = lt_z_no (not_T (lt_z b a) (λ t. T_not (nonneg (b ⊞ ⊟ a)) (less a b t) h))
 
 -- a unit is left out on both sides
 unit-under : (a n : ℤ) (d l : ℕ) → frac a l ≤q frac n (d ∗ l) → (a ⊠ den d) ≤ℤ n

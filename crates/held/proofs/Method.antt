@@ -24,7 +24,7 @@ use denote.RattleType.{RattleType, Denots, Valss, owns}
 use denote.Laws.{Ises, Spells, Tellss, valss}
 use denote.Builtin.{f64, usize, bool, SliceRefOf}
 use denote.Exit.{yes}
-use denote.Floats.{float_tells}
+use denote.Floats.{float_Tells}
 use denote.Signature.{Slot, Signature, plain, named_lft, types_at}
 use denote.Slice.{slice_ty, slice_val}
 use denote.Struct.Declared.{Declared}
@@ -63,7 +63,7 @@ spell (suc k) κs = ((λ x. vfloat binary64 x ∷ []), spell k κs)
 
 abbrev pub tell : (k : ℕ) (κs : Lfts 1) → Tellss (types_at (floats k) κs) (Ises (types_at (floats k) κs)) (spell k κs)
 tell zero κs = tt
-tell (suc k) κs = (float_tells binary64, tell k κs)
+tell (suc k) κs = (float_Tells binary64, tell k κs)
 
 abbrev pub low : (k : ℕ) (κs : Lfts 1) → Floats k κs → Valss (types_at (floats k) κs)
 low k κs xs = valss (types_at (floats k) κs) (spell k κs) xs

@@ -27,7 +27,7 @@ use sound.WpLaws.{FmC, fm_of}
 use denote.RattleType.{RattleType, flat}
 use denote.Laws.{Is, Ises, Are, shows}
 use denote.Builtin.{f64}
-use denote.Floats.{float_lawful}
+use denote.Floats.{float_Lawful}
 use denote.Signature.{types_at}
 use denote.Steps.{peeks, said}
 use denote.Struct.Laws as LL
@@ -83,7 +83,7 @@ module _ (R : RattleType) (τ : Ty) (f : Name) {M : Type 1} {𝓤 : Ura M} (𝓛
         split t $ split t $ move t (1 ∷ []) $ peeks t R (Is R) (shows 𝓛 R) r (u ∷ []) (λ is. next u r (typed r u is))))
 
   fits : (x : Float) → Is f64 x (vfloat binary64 x ∷ []) → Holds (has_ty (ty_float binary64) (vfloat binary64 x)) × WT (vfloat binary64 x)
-  fits x is = ((float_lawful 𝓛 binary64).typed x _ is).0
+  fits x is = ((float_Lawful 𝓛 binary64).typed x _ is).0
 
   none : (P : Promise 0 R 𝓛) → Known 0 P → Through 0 P
   none P known κs qs d xs wt are =

@@ -15,21 +15,21 @@ pub mod spread;
 mod step;
 
 // A closed interval that holds the exact value it stands for.
-#[derive(Drop)]
+#[derive(Clone, Copy)]
 pub struct Interval {
     lo: f64,
     hi: f64,
 }
 
 // An interval, or none where the low end is above the high end or one is a NaN.
-#[derive(Drop)]
+#[derive(Clone, Copy)]
 pub enum New {
     Made(Interval),
     Nothing,
 }
 
 // The sign of all that an interval holds. Zero is [0, 0] alone; what is on both sides of 0, or touches it, is Unknown.
-#[derive(Drop)]
+#[derive(Clone, Copy)]
 pub enum Sign {
     Positive,
     Negative,
@@ -228,7 +228,7 @@ impl Interval {
 }
 
 // A quotient of two intervals: the first times the outward interval of both reciprocals.
-#[derive(Drop)]
+#[derive(Clone, Copy)]
 pub enum Quotient {
     Is(Interval),
     HoldsZero,
