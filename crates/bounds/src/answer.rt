@@ -7,7 +7,7 @@ use jets::cartesian::{BoundAnswer, Bounds};
 use knots::refusal::{Refusal, refuse};
 
 // An interval for each coordinate.
-#[derive(Drop)]
+#[derive(Clone, Copy)]
 pub struct Triple {
     pub x: Interval,
     pub y: Interval,
@@ -15,27 +15,27 @@ pub struct Triple {
 }
 
 // Enclosures of the point and of its derivatives along u and v. A curve's dv encloses 0.
-#[derive(Drop)]
+#[derive(Clone, Copy)]
 pub struct NurbsBounds {
     pub point: Triple,
     pub du: Triple,
     pub dv: Triple,
 }
 
-#[derive(Drop)]
+#[derive(Clone, Copy)]
 pub enum Bounded {
     Are(NurbsBounds),
     Refused(Refusal),
 }
 
 // Three intervals, as of the point alone, or the number of a refusal.
-#[derive(Drop)]
+#[derive(Clone, Copy)]
 pub enum PointAnswer {
     Are(Triple),
     Refused(u32),
 }
 
-#[derive(Drop)]
+#[derive(Clone, Copy)]
 pub enum PointBounded {
     Are(Triple),
     Refused(Refusal),

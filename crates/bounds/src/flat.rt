@@ -19,7 +19,7 @@ use runs::vector::Vector;
 use runs::weights::weight_at;
 
 // A range of the parameter of degree `degree` on a span of its knots.
-#[derive(Drop)]
+#[derive(Clone, Copy)]
 pub struct Within {
     pub degree: usize,
     pub span: usize,

@@ -7,7 +7,7 @@ use jets::jet::Jet;
 use jets::net::{Control, NetAnswer, step};
 
 // A parameter of degree `degree` on a span of its knots.
-#[derive(Drop)]
+#[derive(Clone, Copy)]
 pub struct Along {
     pub degree: usize,
     pub span: usize,
@@ -15,7 +15,7 @@ pub struct Along {
 }
 
 // Level by level, in each the places from the degree down to the level.
-#[derive(Drop)]
+#[derive(Clone, Copy)]
 pub struct Place {
     pub level: usize,
     pub j: usize,

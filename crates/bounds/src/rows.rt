@@ -15,7 +15,7 @@ use runs::points::point_at;
 use runs::vector::Vector;
 
 // One parameter of a surface: its degree, its count of points and a closed range.
-#[derive(Drop)]
+#[derive(Clone, Copy)]
 pub struct Side {
     pub degree: usize,
     pub count: usize,

@@ -13,7 +13,7 @@ use runs::points::point_at;
 use runs::vector::Vector;
 use runs::weights::weight_at;
 
-#[derive(Drop)]
+#[derive(Clone, Copy)]
 pub struct Extremes {
     pub least: f64,
     pub most: f64,
@@ -53,7 +53,7 @@ pub fn no_extremes() -> Extremes
 }
 
 // The scale and the enclosure of the weight, or the number of a refusal.
-#[derive(Drop)]
+#[derive(Clone, Copy)]
 pub enum Weights {
     Are(f64, Interval),
     Refused(u32),

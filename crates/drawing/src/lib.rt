@@ -20,7 +20,7 @@ use paths::{both_finite, put_corners, put_path, put_refusal, put_unbounded};
 use record::clear::clear_bytes;
 
 // The numbers of an SVG's viewBox: y grows downward there, so the top is the greatest y with its sign turned.
-#[derive(Drop)]
+#[derive(Clone, Copy)]
 pub struct View {
     pub x: f64,
     pub y: f64,

@@ -6,7 +6,7 @@ ghost use Rattle.elevation.specs.Passes.{NextBreak, BreaksCounted};
 use edits::counts::{bit_of, multiplicity};
 
 // How many breaks there are, and how many of them are full.
-#[derive(Drop)]
+#[derive(Clone, Copy)]
 pub struct BreakCount {
     pub breaks: usize,
     pub full: usize,

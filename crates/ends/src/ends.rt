@@ -8,7 +8,7 @@ ghost use Rattle.ends.specs.Ends.{capped_of, step_of, ends_of, interval_by, sum_
 use interval::{Interval, New};
 
 // The interval [-under, over].
-#[derive(Drop)]
+#[derive(Clone, Copy)]
 pub struct Ends {
     pub under: f64,
     pub over: f64,

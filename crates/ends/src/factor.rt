@@ -7,7 +7,7 @@ use interval::Interval;
 use interval::float::is_finite;
 
 // Its ends.
-#[derive(Drop)]
+#[derive(Clone, Copy)]
 pub struct Factor {
     pub low: f64,
     pub high: f64,

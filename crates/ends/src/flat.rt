@@ -9,7 +9,7 @@ use crate::factor::{Factor, are_factors, factor_of, times};
 use interval::{Interval, Quotient};
 
 // Three weighted coordinates and the weight.
-#[derive(Drop)]
+#[derive(Clone, Copy)]
 pub struct Flat {
     pub x: Ends,
     pub y: Ends,
@@ -18,7 +18,7 @@ pub struct Flat {
 }
 
 // A point of the net, or the number of a refusal.
-#[derive(Drop)]
+#[derive(Clone, Copy)]
 pub enum FlatAnswer {
     Is(Flat),
     Refused(u32),

@@ -72,7 +72,7 @@ pub fn scale_at(rational: bool, weights: &[f64], first: usize, n: usize) -> f64
 }
 
 // What the basis functions and their first derivatives give.
-#[derive(Drop)]
+#[derive(Clone, Copy)]
 pub struct ValueSlope {
     pub value: Sums,
     pub slope: Sums,

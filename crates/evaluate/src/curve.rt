@@ -13,13 +13,13 @@ use knots::span::{clamp, span_of};
 use runs::points::point_at;
 use runs::vector::Vector;
 
-#[derive(Drop)]
+#[derive(Clone, Copy)]
 pub struct CurveDerivs {
     pub point: Vector,
     pub d1: Vector,
 }
 
-#[derive(Drop)]
+#[derive(Clone, Copy)]
 pub enum CurveAnswer {
     At(CurveDerivs),
     Refused(Refusal),

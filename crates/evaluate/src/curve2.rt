@@ -13,14 +13,14 @@ use knots::span::{clamp, span_of};
 use runs::points::point_at;
 use runs::vector::{Vector, finite_vector};
 
-#[derive(Drop)]
+#[derive(Clone, Copy)]
 pub struct CurveDerivs2 {
     pub point: Vector,
     pub d1: Vector,
     pub d2: Vector,
 }
 
-#[derive(Drop)]
+#[derive(Clone, Copy)]
 pub enum CurveAnswer2 {
     At(CurveDerivs2),
     Refused(Refusal),

@@ -12,7 +12,7 @@ use runs::points::point_at;
 use runs::vector::Vector;
 
 // The p + 1 rows from row a on and the q + 1 columns from column b on, of a net of so many columns.
-#[derive(Drop)]
+#[derive(Clone, Copy)]
 pub struct Net {
     pub columns: usize,
     pub a: usize,

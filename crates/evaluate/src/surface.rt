@@ -13,14 +13,14 @@ use knots::span::{clamp, span_of};
 use runs::points::point_at;
 use runs::vector::Vector;
 
-#[derive(Drop)]
+#[derive(Clone, Copy)]
 pub struct SurfaceDerivs {
     pub point: Vector,
     pub du: Vector,
     pub dv: Vector,
 }
 
-#[derive(Drop)]
+#[derive(Clone, Copy)]
 pub enum SurfaceAnswer {
     At(SurfaceDerivs),
     Refused(Refusal),

@@ -5,7 +5,7 @@ ghost use Rattle.exports.specs.Intervals.{both_of};
 
 use interval::{Interval, New};
 
-#[derive(Drop)]
+#[derive(Clone, Copy)]
 pub enum Both {
     Are(Interval, Interval),
     Nothing,

@@ -13,7 +13,7 @@ use knots::refusal::Refusal;
 use knots::span::SpanAnswer;
 
 // The fields stand in the order in which every call takes them. Weights count only where rational is true.
-#[derive(Drop)]
+#[derive(Clone, Copy)]
 pub struct Curve<'a> {
     pub degree: usize,
     pub knots: &'a [f64],

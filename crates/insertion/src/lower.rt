@@ -15,7 +15,7 @@ use knots::refusal::{Refusal, refuse, refuse_at};
 use runs::vector::{Vector, finite_vector};
 
 // Where a knot goes: the degree, the knot t, the last place k whose knot is at most t, and how many knots equal t.
-#[derive(Drop)]
+#[derive(Clone, Copy)]
 pub struct Spot {
     pub p: usize,
     pub k: usize,

@@ -9,14 +9,14 @@ use interval::{Interval, New, Quotient};
 use runs::vector::Vector;
 
 // Enclosures of the three coordinates, each with its derivatives.
-#[derive(Drop)]
+#[derive(Clone, Copy)]
 pub struct Bounds {
     pub x: Jet,
     pub y: Jet,
     pub z: Jet,
 }
 
-#[derive(Drop)]
+#[derive(Clone, Copy)]
 pub enum BoundAnswer {
     Are(Bounds),
     Refused(u32),

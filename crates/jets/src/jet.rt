@@ -4,7 +4,7 @@ ghost use Rattle.jets.specs.Jet.{constant_of, parameter_of, second_of, jet_sub, 
 
 use interval::Interval;
 
-#[derive(Drop)]
+#[derive(Clone, Copy)]
 pub struct Jet {
     pub v: Interval,
     pub du: Interval,
@@ -63,7 +63,7 @@ pub fn second(range: Interval) -> Jet
 }
 
 // A jet, or the number of a refusal.
-#[derive(Drop)]
+#[derive(Clone, Copy)]
 pub enum JetAnswer {
     Is(Jet),
     Refused(u32),

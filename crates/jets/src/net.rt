@@ -9,7 +9,7 @@ use interval::spread::{product, sum_of_products};
 use interval::{Interval, Quotient};
 
 // A point of the net: three weighted coordinates and the weight.
-#[derive(Drop)]
+#[derive(Clone, Copy)]
 pub struct Control {
     pub x: Jet,
     pub y: Jet,
@@ -18,7 +18,7 @@ pub struct Control {
 }
 
 // A point of the net, or the number of a refusal.
-#[derive(Drop)]
+#[derive(Clone, Copy)]
 pub enum NetAnswer {
     Is(Control),
     Refused(u32),

@@ -3,7 +3,7 @@ ghost use Rattle.std.specs.Prelude.{◌≡◌};
 ghost use Rattle.knots.specs.Refusal.{numbered, placed, along, class_of};
 
 // The number in the table of refusals, 0 for none; the direction of 1 to 7 of a surface: 0 for u, 1 for v, else 2; and the place of 4, 7, 8 and 10, else 0.
-#[derive(Drop)]
+#[derive(Clone, Copy)]
 pub struct Refusal {
     pub number: u32,
     pub direction: u32,

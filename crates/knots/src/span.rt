@@ -10,7 +10,7 @@ use crate::refusal::{Refusal, refuse};
 use interval::float::{is_finite, is_nan};
 
 // The span of a parameter, or the refusal of the run or of the parameter.
-#[derive(Drop)]
+#[derive(Clone, Copy)]
 pub enum SpanAnswer {
     Span(usize),
     Refused(Refusal),

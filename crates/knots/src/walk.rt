@@ -3,7 +3,7 @@ ghost use Rattle.std.specs.Prelude.{◌≡◌};
 ghost use Rattle.knots.specs.Walk.{first_from, next_span};
 
 // The next nonempty span, or that there is none.
-#[derive(Drop)]
+#[derive(Clone, Copy)]
 pub enum NextSpan {
     At(usize),
     Nothing,

@@ -17,14 +17,14 @@ use record::clear::clear_bytes;
 use starts::put_start;
 
 // The line of the next nonempty span, with the bytes that it has, or that there is none.
-#[derive(Drop)]
+#[derive(Clone, Copy)]
 pub enum NextLine {
     Line { span: usize, length: usize },
     End,
 }
 
 // The next nonempty span with its knots, or that there is none.
-#[derive(Drop)]
+#[derive(Clone, Copy)]
 pub enum NextRange {
     Range { span: usize, lower: f64, upper: f64 },
     Nothing,

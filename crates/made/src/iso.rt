@@ -10,7 +10,7 @@ use runs::vector::Vector;
 use runs::weights::weight_at;
 
 // The p + 1 places of the fixed direction from the first on, in a net of so many columns.
-#[derive(Drop)]
+#[derive(Clone, Copy)]
 pub struct Strip {
     pub constant_u: bool,
     pub columns: usize,

@@ -23,7 +23,7 @@ pub fn iso_knots<'a>(constant_u: bool, u_knots: &'a [f64], v_knots: &'a [f64]) -
 }
 
 // The numbers of a surface beside its runs.
-#[derive(Drop)]
+#[derive(Clone, Copy)]
 struct Form {
     u_degree: usize,
     v_degree: usize,
@@ -33,7 +33,7 @@ struct Form {
 }
 
 // The direction that t fixes, and the other, which is the isocurve's.
-#[derive(Drop)]
+#[derive(Clone, Copy)]
 struct Held {
     constant_u: bool,
     t: f64,

@@ -2,7 +2,7 @@
 use knots::refusal::Refusal;
 
 // How many rows are stored, or why none is.
-#[derive(Drop)]
+#[derive(Clone, Copy)]
 pub enum ManyAnswer {
     Rows(usize),
     Refused(Refusal),

@@ -6,7 +6,7 @@ use bounds::answer::{Bounded, NurbsBounds, PointBounded, Triple};
 use interval::Interval;
 
 // The number of its refusal or 0, then the box. Where the point alone is asked for, du and dv are not stored.
-#[derive(Drop)]
+#[derive(Clone, Copy)]
 pub struct BoxRow {
     pub number: u32,
     pub bounds: NurbsBounds,

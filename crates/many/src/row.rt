@@ -9,7 +9,7 @@ use knots::refusal::Refusal;
 use runs::vector::Vector;
 
 // The number of its refusal or 0, then the point and the derivatives. Where one is asked for, d2 is not stored.
-#[derive(Drop)]
+#[derive(Clone, Copy)]
 pub struct PointRow {
     pub number: u32,
     pub point: Vector,

@@ -8,7 +8,7 @@ use pieces::{Piece, print_piece, print_points};
 use record::table::{TableAnswer, read_table};
 
 // The nonempty spans, those with intervals that hold the point or its derivative, or the drawing.
-#[derive(Drop)]
+#[derive(Clone, Copy)]
 pub enum Kind {
     Spans,
     Boxes,

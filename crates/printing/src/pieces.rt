@@ -7,7 +7,7 @@ use knots::refusal::Refusal;
 use listing::refusal_line;
 use runs::points::point_at;
 
-#[derive(Drop)]
+#[derive(Clone, Copy)]
 pub enum Piece {
     Refusal(Refusal),
     Head(View),

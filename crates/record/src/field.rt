@@ -9,7 +9,7 @@ use crate::bytes::{double_at, put_u16, put_u64, u16_at};
 use interval::bits::bits_of;
 
 // A count of bytes or numbers, if there is one.
-#[derive(Drop)]
+#[derive(Clone, Copy)]
 pub enum Count {
     Is(usize),
     Bad,

@@ -9,7 +9,7 @@ use knots::refusal::{Refusal, refuse};
 
 // How many numbers each run of a record has. The knots start at byte 8, the points 3 bytes after the knots, the weights 3 bytes after the points.
 // An absent weights field is not weighted; a zero-length one is, with no weight in it.
-#[derive(Drop)]
+#[derive(Clone, Copy)]
 pub struct Layout {
     pub degree: usize,
     pub knots: usize,
@@ -18,7 +18,7 @@ pub struct Layout {
     pub weights: usize,
 }
 
-#[derive(Drop)]
+#[derive(Clone, Copy)]
 pub enum Record {
     Fields(Layout),
     Refused(Refusal),

@@ -10,7 +10,7 @@ use knots::curve::curve_refusal;
 use knots::refusal::Refusal;
 
 // The curve of a record, by its layout and whether it is rational; or why there is none.
-#[derive(Drop)]
+#[derive(Clone, Copy)]
 pub enum TableAnswer {
     Curve { layout: Layout, rational: bool },
     Refused(Refusal),

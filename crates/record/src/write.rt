@@ -9,7 +9,7 @@ use crate::clear::clear_bytes;
 use crate::field::{Count, put_head, put_run};
 use knots::refusal::{Refusal, refuse};
 
-#[derive(Drop)]
+#[derive(Clone, Copy)]
 pub enum Write {
     Written(usize),
     Refused(Refusal),

@@ -4,7 +4,7 @@ ghost use Rattle.runs.specs.Point.{finite_vector};
 
 use interval::float::is_finite;
 
-#[derive(Drop)]
+#[derive(Clone, Copy)]
 pub struct Vector {
     pub x: f64,
     pub y: f64,

@@ -8,7 +8,7 @@ ghost use Rattle.tiny.specs.Factors.{factor_of, times_of};
 use interval::bits::{bits_of, double_of};
 
 // A double without a sign: m / 2^shift.
-#[derive(Drop)]
+#[derive(Clone, Copy)]
 pub struct Factor {
     pub m: u64,
     pub shift: u64,
