@@ -1,4 +1,6 @@
 // The basis functions of a span and their derivatives.
+#![tactic(auto)]
+
 mod basis;
 pub mod ders;
 mod read;

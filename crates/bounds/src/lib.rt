@@ -1,4 +1,6 @@
 // Outward bounds of rational B-spline curves and surfaces: the source's nurbs_bounds.rs.
+#![tactic(auto)]
+
 pub mod answer;
 pub mod curve;
 mod flat;

@@ -1,4 +1,6 @@
 // Draws the control polygon and the span boxes of the table record on standard input as an SVG, or says why it is refused.
+#![tactic(auto)]
+
 use printing::{Kind, print_table};
 
 // One byte more than a record may have is read, so that a longer input shows.

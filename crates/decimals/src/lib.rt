@@ -1,4 +1,6 @@
 // Numbers as text in a lent run of bytes.
+#![tactic(auto)]
+
 mod figures;
 mod fixed;
 pub mod pieces;

@@ -1,4 +1,6 @@
 // A drawing of a motion table: an SVG of its control polygon and of each span's box. Its texts follow each other as head, points, middle, boxes, tail.
+#![tactic(auto)]
+
 mod extremes;
 mod parts;
 mod paths;

@@ -1,4 +1,6 @@
 // A curve's degree is raised, in lent runs.
+#![tactic(auto)]
+
 mod copy;
 pub mod elevate;
 mod extract;

@@ -1,4 +1,6 @@
 // Points and derivatives of curves and surfaces.
+#![tactic(auto)]
+
 mod controls;
 pub mod curve;
 pub mod curve2;

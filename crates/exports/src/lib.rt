@@ -1,4 +1,6 @@
 // The C face of the libraries: numbers and lent runs in, a number and filled runs out.
+#![tactic(auto)]
+
 mod answer;
 pub mod boxes;
 pub mod curves;

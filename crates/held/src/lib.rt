@@ -1,4 +1,6 @@
 // A curve that holds its three runs, and thin methods over it. Each method calls a function that takes the fields one by one and does the work, so callers with plain runs need no struct.
+#![tactic(auto)]
+
 ghost use Rattle.std.specs.Prelude.{◌≡◌};
 ghost use Rattle.knots.specs.Curve.{count_of, curve_refusal};
 ghost use Rattle.knots.specs.Span.{refusing, clamping, span_answer};

@@ -1,4 +1,6 @@
 // Knots inserted into a curve, in lent runs.
+#![tactic(auto)]
+
 pub mod insert;
 mod list;
 mod lower;

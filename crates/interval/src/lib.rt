@@ -1,5 +1,7 @@
 // Outward-rounding interval arithmetic: each bound is rounded to nearest, and then moved one double outward,
 // so that the interval encloses the exact result. The source's interval.rs, and `divide` of its nurbs_bounds.rs.
+#![tactic(auto)]
+
 ghost use Rattle.std.specs.Prelude.{◌≡◌};
 ghost use Rattle.std.specs.Float.Ieee.{neg};
 ghost use Rattle.doubles.specs.Neighbour.{next_up, next_down};

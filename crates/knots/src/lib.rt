@@ -1,4 +1,6 @@
 // Knots, curves and surfaces: refusals, clearing, validation, spans.
+#![tactic(auto)]
+
 pub mod clear;
 pub mod curve;
 pub mod knots;

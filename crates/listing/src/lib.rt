@@ -1,4 +1,6 @@
 // The listers' lines.
+#![tactic(auto)]
+
 pub mod boxes;
 mod places;
 mod starts;

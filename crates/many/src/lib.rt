@@ -1,4 +1,6 @@
 // Many answers of one curve with one validation: a point for each parameter, a box for each span.
+#![tactic(auto)]
+
 pub mod answer;
 mod box_row;
 pub mod boxes;

@@ -1,4 +1,6 @@
 // What the programs print of the table record that they are given.
+#![tactic(auto)]
+
 mod lines;
 mod pieces;
 

@@ -1,4 +1,6 @@
 // The table record: its reader and its writer.
+#![tactic(auto)]
+
 mod bytes;
 pub mod clear;
 mod field;

@@ -1,4 +1,6 @@
 // Replays the list on standard input, which holds the Rust's answers, and says for each call how many differ.
+#![tactic(auto)]
+
 mod boxes;
 mod intervals;
 mod points;

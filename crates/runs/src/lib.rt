@@ -1,4 +1,6 @@
 // What all crates above read from runs of numbers and store there: numbers, points, weights, and runs at the front of others. Each call is total.
+#![tactic(auto)]
+
 pub mod copy;
 pub mod larger;
 pub mod numbers;

@@ -1,4 +1,6 @@
 // Steps of the calls as C functions, for the comparison alone: they take tables that were validated before, and are no part of what the library promises. Each is total.
+#![tactic(auto)]
+
 ghost use Rattle.std.specs.Prelude.{◌≡◌, length};
 ghost use Rattle.knots.specs.Span.{refusing};
 ghost use Rattle.knots.specs.Search.{SpanFound};

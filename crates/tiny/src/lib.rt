@@ -1,4 +1,6 @@
 // The product of a double with a few of the smallest one, in whole numbers: some processors take long for a floating-point product with such a number.
+#![tactic(auto)]
+
 ghost use Rattle.std.specs.Prelude.{◌≡◌, ◌≤◌, ◌<◌, ◌^◌};
 ghost use Rattle.std.specs.Float.{binary64};
 ghost use Rattle.std.specs.Float.Ieee.{mul, of_bits, to_bits};

@@ -1,0 +1,36 @@
+-- The number times what is left of the power stays the same.
+-- Assumes nothing.
+use native.Mathlib.Omega.{arith}
+use mathlib.Core.Path.{◌≡◌, refl, sym, ◌∙◌}
+use native.Mathlib.Nat.{mul-one}
+use lib.Pow.{pow_mono}
+use Rattle.decimals.specs.Figures.{number}
+use Rattle.decimals.proofs.Rounding.{doubling-step, doubling-fits}
+use Rattle.decimals.proofs.figures.double.Goals as goal
+
+pub loop-left-init : goal.loop-left-init
+loop-left-init c = (c.requires.figures, refl, refl)
+
+pub raise-requires : goal.raise-requires
+raise-requires c = let i = c.loop-left.invariant in
+    let t = c.taken-some.ensures in (
+      i.0,
+      (rw c.power.ensures (pow_mono t.1.0), (omega arith, rw (c.power.ensures, i.1) (doubling-fits _ _ _ _ t.0 (rw i.2 c.requires.k_bound)))),
+    )
+
+pub loop-left-smaller : goal.loop-left-smaller
+loop-left-smaller c = omega (arith, c.taken-some.ensures.result_nonzero c.loop-left-test.true)
+
+pub loop-left-preserved : goal.loop-left-preserved
+loop-left-preserved c = let i = c.loop-left.invariant in (
+      c.raise.ensures.figures_2,
+      c.raise.auto.0 ∙ i.1,
+      rw (c.raise.ensures.run_after, c.power.ensures) (doubling-step _ _ _ c.taken-some.ensures.upper_bound ∙ i.2),
+    )
+
+pub shape_of-run : goal.shape_of-run
+shape_of-run c = c.loop-left.invariant.1
+
+pub returns : goal.returns
+returns c = let e : c.loop-left.left ≡ 0 = omega (arith, c.loop-left-test.false) in
+    (c.loop-left.invariant.0, sym (mul-one _) ∙ rw e at c.loop-left.invariant.2)

@@ -1,0 +1,14 @@
+-- The figures of a double, as text.
+-- Assumes nothing.
+use mathlib.Core.Path.{◌∙◌, refl}
+use Rattle.decimals.proofs.Places.{zeros-figures, number-zeros}
+use Rattle.decimals.proofs.fixed.put_finite.Goals as goal
+
+pub round-requires : goal.round-requires
+round-requires c = let p = c.requires in
+    (zeros-figures 330, (refl, (number-zeros 330, (p.q_bound, p.j_bound))))
+
+pub returns : goal.returns
+returns c = let p = c.put_billionths.ensures in
+    let e = c.round.ensures.run_after in
+    (p.0 ∙ rw e, (p.1.0 ∙ rw e, p.1.1))

@@ -1,0 +1,52 @@
+-- The bits tell which of the four answers it is.
+-- Assumes nothing.
+use lib.Dec.{T, leb}
+use native.Mathlib.Omega.{arith}
+use mathlib.Core.Path.{sym, subst}
+use lib.Ieee.{binary64, fits}
+use Rattle.decimals.proofs.Decimals.{inf-stored}
+use Rattle.decimals.proofs.Patterns.{nan_is, inf-is, small_is, large_is}
+use Rattle.decimals.proofs.fixed.put_fixed.Goals as goal
+
+pub returns-then-size-gt9218868437227405312 : goal.returns-then-size-gt9218868437227405312
+returns-then-size-gt9218868437227405312 c = let a = c.args in
+    let good = c.well_formed in
+    let fit : T (fits binary64 a.x) = subst T (sym good.1.1.1.0.1) tt in
+    let f = nan_is a.up a.x fit _ c.bits_of-bits.ensures c.if-size-gt9218868437227405312.true in
+    let w = c.put_word.ensures in
+    rw f (w.0, (w.1, omega arith))
+
+pub returns-then-size-eq9218868437227405312 : goal.returns-then-size-eq9218868437227405312
+returns-then-size-eq9218868437227405312 c = let a = c.args in
+    let good = c.well_formed in
+    let fit : T (fits binary64 a.x) = subst T (sym good.1.1.1.0.1) tt in
+    let f =
+    inf-is
+    a.up a.x fit _ c.bits_of-bits.ensures
+    c.if-size-eq9218868437227405312.true in
+    let m = c.put_minus-next.ensures in
+    let w = c.put_word-then-size-eq9218868437227405312.ensures in
+    let r =
+    inf-stored
+    a.out.now a.at (leb 0x8000000000000000 c.bits_of-bits.result) m.0 m.1.0 m.1.1 w.0 w.1 in
+    rw f (r.0, (r.1, r.2))
+
+pub returns-then-field-eq0 : goal.returns-then-field-eq0
+returns-then-field-eq0 c = let a = c.args in
+    let good = c.well_formed in
+    let fit : T (fits binary64 a.x) = subst T (sym good.1.1.1.0.1) tt in
+    let f =
+    small_is
+    a.up a.x fit _ c.bits_of-bits.ensures c.if-size-gt9218868437227405312.false
+    c.if-size-eq9218868437227405312.false c.if-field-eq0.true in
+    rw f c.put_finite.ensures
+
+pub returns : goal.returns
+returns c = let a = c.args in
+    let good = c.well_formed in
+    let fit : T (fits binary64 a.x) = subst T (sym good.1.1.1.0.1) tt in
+    let f =
+    large_is
+    a.up a.x fit _ c.bits_of-bits.ensures c.if-size-gt9218868437227405312.false
+    c.if-size-eq9218868437227405312.false c.if-field-eq0.false in
+    rw f c.put_finite-2.ensures

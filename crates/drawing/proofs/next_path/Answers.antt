@@ -1,0 +1,39 @@
+-- The line of a part of the span that is found, bounded.
+-- Assumes nothing.
+use Prim.Native.Nat.{ℕ, ◌+◌}
+use mathlib.Core.Path.{◌≡◌, refl, sym, ◌∙◌}
+use mathlib.Core.List.{List}
+use lib.ListN.{length}
+use lib.Ieee.{Float}
+use borrow.Author.Rules.{rules}
+use Rattle.listing.proofs.Ranges.{next-shown, end-shown}
+use Rattle.drawing.specs.Drawing.{box_text, mark_of, parts_of, part_of, part_line, drawn_of}
+use Rattle.bounds.specs.Curve.{bound_at}
+use Rattle.bounds.specs.Point.{point_only}
+use Rattle.knots.specs.Walk.{next_span}
+use Rattle.knots.specs.Curve.{count_of}
+use Rattle.drawing.proofs.next_path.Goals as goal
+
+pub returns-in-Range : goal.returns-in-Range
+unfolding drawn_of part_line
+returns-in-Range c = let a = c.args in
+    let s = c.in-Range.span in
+    let k = parts_of (count_of a.points.now) in
+    let j = part_of k a.part in
+    let text : Float → Float → List ℕ = λ lower upper. box_text s j
+    (point_only (bound_at a.degree s a.knots.now a.points.now a.rational a.weights.now (mark_of lower upper j k) (mark_of lower upper (j + 1) k))) in
+    let shown = rw (
+      c.bound_part-answer.ensures,
+      c.part_in-taken.ensures.value,
+      c.parts_of-parts.ensures.value,
+    ) at c.box_text-length.ensures in
+    next-shown (drawn_of a.degree a.knots.now a.points.now a.rational a.weights.now a.part) a.knots.now
+    (next_span a.degree (count_of a.points.now) a.knots.now a.«from») 2304 text
+    (sym c.in-Range.is ∙ c.next_range.ensures) refl shown
+
+pub returns-in-Nothing : goal.returns-in-Nothing
+returns-in-Nothing c = let a = c.args in
+    let long : length a.out.now ≡ 2304 = search rules in
+    end-shown (drawn_of a.degree a.knots.now a.points.now a.rational a.weights.now a.part) a.knots.now
+    (next_span a.degree (count_of a.points.now) a.knots.now a.«from») 2304
+    (sym c.in-Nothing.is ∙ c.next_range.ensures) c.clear_bytes.ensures long

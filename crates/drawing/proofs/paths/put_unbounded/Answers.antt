@@ -1,0 +1,13 @@
+-- Two pieces, one behind the other.
+-- Assumes nothing.
+use borrow.Author.Rules.{rules}
+use Rattle.decimals.proofs.Storing.{both_stored}
+use Rattle.decimals.specs.Ascii.{ascii}
+use Rattle.drawing.specs.Drawing.{label, part_text, unbounded_text}
+use Rattle.drawing.proofs.paths.put_unbounded.Goals as goal
+
+pub returns : goal.returns
+unfolding unbounded_text part_text label ascii
+returns c = let a = c.put_part-a.ensures in
+    let b = c.put_text.ensures in
+    (both_stored a.0 (b.roomy (search rules)), search rules)

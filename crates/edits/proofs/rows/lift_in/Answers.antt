@@ -1,0 +1,57 @@
+-- `edits::rows::lift_in` meets its contract.
+-- Assumes nothing.
+use mathlib.Core.Path.{◌∙◌, ap}
+use native.Mathlib.Omega.{arith}
+use borrow.Author.Tests.{not-true, not-false}
+use Rattle.knots.specs.Clear.{zeros}
+use Rattle.edits.specs.Control.{vector_of}
+use Rattle.edits.proofs.LiftCall.{lift-short, lift-zeros, lift-19, lift-none, lift-run, lift-moved, lift-none-at, positive}
+use Rattle.edits.proofs.rows.lift_in.Goals as goal
+
+pub returns-then-n-work : goal.returns-then-n-work
+returns-then-n-work c = let a = c.args in
+    let t = c.if-n-work.true in
+    let e = lift-short a.scale a.n a.rational a.work.now (omega arith) in
+    (c.refuse.ensures ∙ e, lift-zeros a.scale a.n a.rational a.work.now _ e (λ z. omega arith) _ c.clear.ensures)
+
+pub returns-then-n-eq0 : goal.returns-then-n-eq0
+returns-then-n-eq0 c = let a = c.args in
+    let t = c.if-n-eq0.true in let o = lift-none-at a.scale a.n a.rational a.work.now t in (c.refuse-then-n-eq0.ensures ∙ o.0, o.1)
+
+pub returns-then-not-lift_rows : goal.returns-then-not-lift_rows
+returns-then-not-lift_rows c = let a = c.args in
+    let t = c.if-n-work.false in
+    let e =
+    lift-19
+    a.scale a.n a.rational a.work.now (omega arith) _ _
+    (lift-moved
+    a.scale a.n a.rational a.work.now _ _ _ (positive c.if-n-eq0.false)
+    (c.vector_of-o.ensures
+    ∙ ap vector_of c.row_at.ensures)
+    c.lift_rows.ensures)
+    c.if-not-lift_rows.true in (
+      c.refuse-then-not-lift_rows.ensures ∙ e,
+      lift-zeros
+          a.scale a.n a.rational a.work.now _ e (λ z. omega arith) _
+          (c.clear-then-not-lift_rows.ensures ∙ ap zeros c.work-2-1.given),
+    )
+
+pub returns : goal.returns
+returns c = let a = c.args in
+    let t = c.if-n-work.false in (
+      c.refuse-2.ensures
+          ∙ lift-none
+          a.scale a.n a.rational a.work.now (omega arith) _ _
+          (lift-moved
+          a.scale a.n a.rational a.work.now _ _ _ (positive c.if-n-eq0.false)
+          (c.vector_of-o.ensures ∙ ap vector_of c.row_at.ensures)
+          c.lift_rows.ensures)
+          c.if-not-lift_rows.false,
+      lift-run
+          a.scale a.n a.rational a.work.now (omega arith) _ _
+          (lift-moved
+          a.scale a.n a.rational a.work.now _ _ _ (positive c.if-n-eq0.false)
+          (c.vector_of-o.ensures ∙ ap vector_of c.row_at.ensures)
+          c.lift_rows.ensures)
+          c.if-not-lift_rows.false c.work-2-1.given,
+    )

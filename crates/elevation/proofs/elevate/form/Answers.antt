@@ -1,0 +1,43 @@
+-- `elevation::elevate::form` meets its contract.
+-- Assumes nothing.
+use mathlib.Core.Path.{ap}
+use lib.ListN.{length}
+use Rattle.knots.specs.declared.refusal.Refusal.{Refusal}
+use Rattle.elevation.proofs.Outcomes.{copy-ready, copied, raised-up, start-ready, meets-moved}
+use Rattle.elevation.proofs.elevate.form.Goals as goal
+
+pub copy_curve-requires : goal.copy_curve-requires
+copy_curve-requires c = let a = c.args in
+    copy-ready
+    a.degree a.knots.now a.points.now a.rational a.weights.now a.raised (length a.out_knots.now) (length a.out_points.now) (length a.out_weights.now)
+    (length a.work.now) c.requires c.if-raised-degree.true
+
+pub returns-then-raised-degree : goal.returns-then-raised-degree
+returns-then-raised-degree c = let a = c.args in
+    copied
+    a.degree a.knots.now a.points.now a.rational a.weights.now a.raised (length a.out_knots.now) (length a.out_points.now) (length a.out_weights.now) _ _ _ _
+    c.if-raised-degree.true (ap (λ (x : Refusal). x.number) c.refuse.ensures)
+    c.copy_curve.ensures
+
+pub raise_into-requires : goal.raise_into-requires
+raise_into-requires c = let a = c.args in
+    let s =
+    start-ready
+    a.degree a.knots.now a.points.now a.rational a.weights.now a.raised (length a.out_knots.now) (length a.out_points.now) (length a.out_weights.now)
+    (length a.work.now) _ _ _ c.clear.ensures
+    c.clear-2.ensures c.clear-3.ensures
+    c.requires in
+    (s.0, (c.if-raised-degree.false, s.1))
+
+pub returns : goal.returns
+returns c = let a = c.args in
+    raised-up
+    a.degree a.knots.now a.points.now a.rational a.weights.now a.raised (length a.out_knots.now) (length a.out_points.now) (length a.out_weights.now) _ _ _ _
+    c.if-raised-degree.false
+    (meets-moved
+    a.degree a.knots.now a.points.now a.rational a.weights.now a.raised (length a.out_knots.now) (length a.out_points.now) (length a.out_weights.now)
+    (length a.work.now) _ _ _
+    c.clear.ensures
+    c.clear-2.ensures
+    c.clear-3.ensures _ _ _ _ _
+    c.raise_into.ensures)

@@ -1,0 +1,114 @@
+-- `elevation::into::raise_into` meets its contract.
+-- Assumes nothing.
+use Prim.Native.Nat.{◌+◌, ◌*◌}
+use native.Mathlib.Omega.{arith}
+use mathlib.Core.Path.{refl}
+use lib.ListN.{length}
+use Rattle.elevation.proofs.RaisedInto.{in_reach, sizes, lay-none, extract-ready, raise-ready, into-stop, into-end}
+use borrow.Author.Rules.{rules}
+use Rattle.elevation.proofs.into.raise_into.Goals as goal
+
+pub count_breaks-met-requires : goal.count_breaks-met-requires
+count_breaks-met-requires c = let a = c.args in
+    in_reach
+    a.degree a.knots.now a.points.now a.rational a.weights.now a.raised (length a.out_knots.now) (length a.out_points.now) (length a.out_weights.now)
+    (length a.work.now) c.requires.work_value
+
+pub overflow_add-m : goal.overflow_add-m
+overflow_add-m c = let a = c.args in
+    let r =
+    in_reach
+    a.degree a.knots.now a.points.now a.rational a.weights.now a.raised (length a.out_knots.now) (length a.out_points.now) (length a.out_weights.now)
+    (length a.work.now) c.requires.work_value in
+    let x = r.0 in search rules
+
+pub overflow_add-m-2 : goal.overflow_add-m-2
+overflow_add-m-2 c = let a = c.args in
+    let q =
+    sizes
+    a.degree a.knots.now a.points.now a.rational a.weights.now a.raised (length a.out_knots.now) (length a.out_points.now) (length a.out_weights.now)
+    (length a.work.now) c.requires.work_value c.count_breaks-met.result.breaks c.count_breaks-met.result.full
+    c.count_breaks-met.ensures in
+    let x = q.0 in let y = q.1 in let z = q.2 in search rules
+
+pub overflow_mul-m : goal.overflow_mul-m
+overflow_mul-m c = let a = c.args in
+    let q =
+    sizes
+    a.degree a.knots.now a.points.now a.rational a.weights.now a.raised (length a.out_knots.now) (length a.out_points.now) (length a.out_weights.now)
+    (length a.work.now) c.requires.work_value c.count_breaks-met.result.breaks c.count_breaks-met.result.full
+    c.count_breaks-met.ensures in
+    let x = q.0 in let y = q.1 in let z = q.2 in search rules
+
+pub overflow_mul-a : goal.overflow_mul-a
+overflow_mul-a c = let a = c.args in
+    let q =
+    sizes
+    a.degree a.knots.now a.points.now a.rational a.weights.now a.raised (length a.out_knots.now) (length a.out_points.now) (length a.out_weights.now)
+    (length a.work.now) c.requires.work_value c.count_breaks-met.result.breaks c.count_breaks-met.result.full
+    c.count_breaks-met.ensures in
+    let x = q.0 in let y = q.1 in let z = q.2 in search rules
+
+pub returns-then-laid-ne0 : goal.returns-then-laid-ne0
+returns-then-laid-ne0 c = let a = c.args in
+    absurd
+    (c.if-laid-ne0.true
+    (lay-none
+    a.degree a.knots.now a.points.now a.rational a.weights.now a.raised (length a.out_knots.now) (length a.out_points.now) (length a.out_weights.now)
+    (length a.work.now) c.requires.work_value
+    c.count_breaks-met.result.breaks c.count_breaks-met.result.full
+    c.count_breaks-met.ensures
+    ((a.degree + 1) * (c.count_breaks-met.result.breaks + 1)) refl a.work.now refl _
+    c.lay_curve-laid.ensures.value))
+
+pub extract-refusal-requires : goal.extract-refusal-requires
+extract-refusal-requires c = let a = c.args in
+    extract-ready
+    a.degree a.knots.now a.points.now a.rational a.weights.now a.raised (length a.out_knots.now) (length a.out_points.now) (length a.out_weights.now)
+    (length a.work.now) c.requires.work_value
+    c.count_breaks-met.result.breaks c.count_breaks-met.result.full
+    c.count_breaks-met.ensures
+    ((a.degree + 1) * (c.count_breaks-met.result.breaks + 1)) refl a.work.now refl _
+    c.lay_curve-laid.ensures.work_after
+    _ (omega arith)
+
+pub returns-then-refusal-ne0 : goal.returns-then-refusal-ne0
+returns-then-refusal-ne0 c = let a = c.args in
+    into-stop
+    a.degree a.knots.now a.points.now a.rational a.weights.now a.raised (length a.out_knots.now) (length a.out_points.now) (length a.out_weights.now)
+    (length a.work.now)
+    c.requires.work_value
+    c.count_breaks-met.result.breaks
+    c.count_breaks-met.result.full
+    c.count_breaks-met.ensures
+    ((a.degree + 1) * (c.count_breaks-met.result.breaks + 1)) refl a.work.now refl _
+    c.lay_curve-laid.ensures.work_after _ _ c.extract-refusal.ensures c.if-refusal-ne0.true _ _ _
+
+pub raise_extracted-requires : goal.raise_extracted-requires
+raise_extracted-requires c = let b = c.count_breaks-met in
+    let a = c.args in
+    let q = c.requires in
+    raise-ready
+    a.degree a.knots.now a.points.now a.rational a.weights.now a.raised (length a.out_knots.now) (length a.out_points.now) (length a.out_weights.now)
+    (length a.work.now) q.work_value
+    b.result.breaks
+    b.result.full
+    b.ensures
+    ((a.degree + 1) * (b.result.breaks + 1))
+    refl a.work.now refl _ c.lay_curve-laid.ensures.work_after q.fact _ (omega arith)
+
+pub returns : goal.returns
+returns c = let a = c.args in
+    let q = c.requires in
+    into-end
+    a.degree a.knots.now a.points.now a.rational a.weights.now a.raised (length a.out_knots.now) (length a.out_points.now) (length a.out_weights.now)
+    (length a.work.now) q.work_value
+    c.count_breaks-met.result.breaks
+    c.count_breaks-met.result.full
+    c.count_breaks-met.ensures
+    ((a.degree + 1) * (c.count_breaks-met.result.breaks + 1))
+    refl a.work.now refl _
+    c.lay_curve-laid.ensures.work_after
+    _ _ c.extract-refusal.ensures
+    c.if-refusal-ne0.false a.out_knots.now a.out_points.now a.out_weights.now _ _ _ _
+    c.raise_extracted.ensures q.out_knots_value.0 q.out_knots_value.1 q.out_knots_value.2

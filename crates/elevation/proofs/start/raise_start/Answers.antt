@@ -1,0 +1,66 @@
+-- `elevation::start::raise_start` meets its contract.
+-- Assumes nothing.
+use Prim.Native.Nat.{ℕ}
+use mathlib.Core.Path.{sym, ◌∙◌, ap}
+use borrow.Author.Tests.{lt-ltb, le-ltb}
+use Rattle.knots.proofs.Refusals.{stop, skip}
+use Rattle.edits.specs.Start.{out_room, scratch_room}
+use Rattle.elevation.specs.Whole.{raise_start}
+use Rattle.elevation.proofs.Limits.{not-high, breaks-small, extracted-small, extracted-is}
+use borrow.Author.Rules.{rules}
+use Rattle.elevation.proofs.start.raise_start.Goals as goal
+
+pub returns-then-e-p : goal.returns-then-e-p
+unfolding raise_start
+returns-then-e-p c = simp (lt-ltb c.args.e c.args.p c.if-e-p.true) c.refuse.ensures
+
+pub returns-then-is_high : goal.returns-then-is_high
+unfolding raise_start
+returns-then-is_high c = let a = c.args in
+    simp (le-ltb a.e a.p c.if-e-p.false, sym c.is_high.ensures ∙ c.if-is_high.true) c.refuse-then-is_high.ensures
+
+pub elevated_count-count-requires : goal.elevated_count-count-requires
+elevated_count-count-requires c = let a = c.args in
+    let q = c.requires in
+    ((q.0, q.1, q.2), (not-high a.p a.e (sym c.is_high.ensures ∙ c.if-is_high.false)))
+
+pub overflow_add-extracted-2 : goal.overflow_add-extracted-2
+overflow_add-extracted-2 c = let a = c.args in
+    let q = c.requires in
+    let w = breaks-small a.p a.n a.knots.now q.0 q.2 in
+    let x = c.count_breaks-met.ensures.breaks in
+    let m = extracted-small a.p a.n a.knots.now q.0 q.2 c.count_breaks-met.result.breaks c.count_breaks-met.ensures.breaks in search rules
+
+pub overflow_mul-extracted : goal.overflow_mul-extracted
+overflow_mul-extracted c = let a = c.args in
+    let q = c.requires in
+    let w = breaks-small a.p a.n a.knots.now q.0 q.2 in
+    let x = c.count_breaks-met.ensures.breaks in
+    let m = extracted-small a.p a.n a.knots.now q.0 q.2 c.count_breaks-met.result.breaks c.count_breaks-met.ensures.breaks in search rules
+
+pub returns-then-room-ne0 : goal.returns-then-room-ne0
+unfolding raise_start
+returns-then-room-ne0 c = let a = c.args in
+    simp (
+      le-ltb a.e a.p c.if-e-p.false,
+      sym c.is_high.ensures ∙ c.if-is_high.false,
+      stop
+          (c.out_room-room.ensures ∙ ap (λ (k : ℕ). out_room a.e k a.rational a.a a.b a.c)
+          c.elevated_count-count.ensures) c.if-room-ne0.true,
+    )
+    (c.out_room-room.ensures ∙ ap (λ (k : ℕ). out_room a.e k a.rational a.a a.b a.c) c.elevated_count-count.ensures)
+
+pub returns : goal.returns
+unfolding raise_start
+returns c = let a = c.args in
+    let q = c.requires in
+    simp (
+      le-ltb a.e a.p c.if-e-p.false,
+      sym c.is_high.ensures ∙ c.if-is_high.false,
+      skip
+          (c.out_room-room.ensures ∙ ap (λ (k : ℕ). out_room a.e k a.rational a.a a.b a.c)
+          c.elevated_count-count.ensures)
+          c.if-room-ne0.false,
+    )
+    (c.scratch_room.ensures
+    ∙ ap (λ (k : ℕ). scratch_room a.p k a.d) (extracted-is a.p a.n a.knots.now q.0 q.2 _ _ c.count_breaks-met.ensures))

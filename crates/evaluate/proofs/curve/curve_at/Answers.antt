@@ -1,0 +1,13 @@
+-- `evaluate::curve::curve_at` meets its contract.
+-- Assumes nothing.
+use mathlib.Core.Path.{refl}
+use native.Mathlib.Omega.{arith}
+use Rattle.evaluate.proofs.curve.curve_at.Goals as goal
+
+pub curve_by-requires : goal.curve_by-requires
+curve_by-requires c = let q = c.requires in
+    (q.p_nonzero, (q.p_bound, (q.p_le_span, (q.p_in_bounds, (q.span_in_bounds, (q.span_in_bounds_2, (omega arith, refl)))))))
+
+pub curve_by-requires-2 : goal.curve_by-requires-2
+curve_by-requires-2 c = let q = c.requires in
+    (q.p_nonzero, (q.p_bound, (q.p_le_span, (q.p_in_bounds, (q.span_in_bounds, (q.span_in_bounds_2, (omega arith, refl)))))))

@@ -1,0 +1,16 @@
+-- `evaluate::curve::found_at` meets its contract.
+-- Assumes nothing.
+use mathlib.Core.Path.{◌∙◌, ap₂}
+use Rattle.evaluate.specs.Curve.{curve_of, found_of}
+use Rattle.evaluate.proofs.Steps.{found-reach}
+use Rattle.evaluate.proofs.curve.found_at.Goals as goal
+
+pub curve_at-requires : goal.curve_at-requires
+curve_at-requires c = let q = c.requires in
+    let a = c.args in
+    found-reach a.degree a.knots.now a.points.now a.rational a.weights.now q.degree_bound q.weights_value _ _ c.span_of-span.ensures.found
+
+pub returns : goal.returns
+unfolding found_of
+returns c = let a = c.args in
+    c.curve_at.ensures ∙ ap₂ (curve_of a.degree a.knots.now a.points.now a.rational a.weights.now) c.span_of-span.ensures.found c.clamp-u.ensures

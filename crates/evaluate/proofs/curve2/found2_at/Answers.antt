@@ -1,0 +1,16 @@
+-- `evaluate::curve2::found2_at` meets its contract.
+-- Assumes nothing.
+use mathlib.Core.Path.{◌∙◌, ap₂}
+use Rattle.evaluate.specs.Curve2.{curve2_of, found2_of}
+use Rattle.evaluate.proofs.Steps.{found-reach}
+use Rattle.evaluate.proofs.curve2.found2_at.Goals as goal
+
+pub curve2_at-requires : goal.curve2_at-requires
+curve2_at-requires c = let q = c.requires in
+    let a = c.args in
+    found-reach a.degree a.knots.now a.points.now a.rational a.weights.now q.degree_bound q.weights_value _ _ c.span_of-span.ensures.found
+
+pub returns : goal.returns
+unfolding found2_of
+returns c = let a = c.args in
+    c.curve2_at.ensures ∙ ap₂ (curve2_of a.degree a.knots.now a.points.now a.rational a.weights.now) c.span_of-span.ensures.found c.clamp-u.ensures

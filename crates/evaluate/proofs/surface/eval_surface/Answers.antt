@@ -1,0 +1,14 @@
+-- `evaluate::surface::eval_surface` meets its contract.
+-- Assumes nothing.
+use mathlib.Core.Path.{◌∙◌}
+use Rattle.knots.specs.Span.{refusing}
+use Rattle.evaluate.proofs.Surfaces.{surface-eval-fits, surface-eval-is}
+use Rattle.evaluate.proofs.surface.eval_surface.Goals as goal
+
+pub surface_with-requires : goal.surface_with-requires
+surface_with-requires c = let a = c.args in
+    surface-eval-fits a.p a.q a.uk.now a.vk.now a.m a.n a.points.now a.rational a.weights.now refusing a.u a.v _ c.surface_eval_refusal-refusal.ensures
+
+pub returns : goal.returns
+returns c = let a = c.args in
+    c.surface_with.ensures ∙ surface-eval-is a.p a.q a.uk.now a.vk.now a.m a.n a.points.now a.rational a.weights.now refusing a.u a.v _ c.surface_eval_refusal-refusal.ensures

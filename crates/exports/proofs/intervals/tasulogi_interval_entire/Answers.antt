@@ -1,0 +1,5 @@
+use Rattle.exports.proofs.Branches.{ends_of}
+use Rattle.exports.proofs.intervals.tasulogi_interval_entire.Goals as goal
+
+pub returns : goal.returns
+returns c = ends_of c.entire.ensures c.put.ensures

@@ -1,0 +1,9 @@
+-- `exports::points::tasulogi_eval2` meets its contract.
+-- Assumes nothing.
+use Rattle.exports.specs.Points.{curve2_answer}
+use Rattle.exports.proofs.Put.{leaves_by}
+use mathlib.Core.Path.{ap}
+use Rattle.exports.proofs.points.tasulogi_eval2.Goals as goal
+
+pub returns : goal.returns
+returns c = leaves_by (ap curve2_answer c.eval2.ensures) c.put_curve2.ensures

@@ -1,0 +1,8 @@
+-- `exports::rows::tasulogi_eval2_many` meets its contract.
+-- Assumes nothing.
+use Rattle.exports.proofs.Settled.{settled-rows}
+use Rattle.exports.specs.Rows.{rows_number}
+use Rattle.exports.proofs.rows.tasulogi_eval2_many.Goals as goal
+
+pub returns : goal.returns
+returns c = settled-rows rows_number c.rows_number.ensures c.eval2_many.ensures

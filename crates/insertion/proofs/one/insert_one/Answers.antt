@@ -1,0 +1,77 @@
+use mathlib.Core.Path.{sym, ◌∙◌, ap}
+use mathlib.Core.List.{List}
+use Prim.Native.Nat.{◌+◌}
+use lib.Ieee.{Float}
+use Rattle.doubles.specs.Run.{at}
+use Rattle.knots.specs.declared.refusal.Refusal.{Refusal}
+use Rattle.edits.specs.Counts.{multiplicity_of}
+use Rattle.insertion.specs.Insert.{spot_refusal}
+use Rattle.edits.specs.Work.{knots_from, points_from, weights_from}
+use Rattle.edits.proofs.IntoRun.{slice_is}
+use Rattle.insertion.proofs.OneInsertion.{insert-early, insert-done}
+use Rattle.insertion.proofs.OneInsertion.{spot-open, spot-found, moved-span}
+use Rattle.insertion.proofs.one.insert_one.Goals as goal
+
+pub returns-then-early-ne0 : goal.returns-then-early-ne0
+returns-then-early-ne0 c = let a = c.args in
+    insert-early
+    a.p a.n (knots_from a.a a.p a.n a.work.now) (points_from a.n a.work.now) a.rational (weights_from a.rational a.n a.work.now) a.t a.a a.work.now _
+    _ a.n (c.multiplicity-s.ensures ∙ ap (λ (ks : List Float). multiplicity_of ks a.t) (slice_is a.a (a.n + a.p + 1) a.work.now)) _
+    (c.spot_refusal-early.ensures
+    ∙ ap
+    (λ (ks : List Float). spot_refusal (at ks a.p) (at ks a.n) a.t a.p c.multiplicity-s.result)
+    (slice_is a.a (a.n + a.p + 1) a.work.now))
+    c.if-early-ne0.true
+
+pub insert_at-requires : goal.insert_at-requires
+insert_at-requires c = let a = c.args in
+    let q = c.requires in
+    let o =
+    spot-open
+    a.p a.n (knots_from a.a a.p a.n a.work.now) (points_from a.n a.work.now) a.rational (weights_from a.rational a.n a.work.now) a.t _ q.valid_knots
+    (sym
+    (ap
+    (λ (r : Refusal). r.number)
+    (c.spot_refusal-early.ensures
+    ∙ ap
+    (λ (ks : List Float). spot_refusal (at ks a.p) (at ks a.n) a.t a.p c.multiplicity-s.result)
+    (slice_is a.a (a.n + a.p + 1) a.work.now)))
+    ∙ c.if-early-ne0.false) in
+    let s =
+    spot-found
+    a.p a.n (knots_from a.a a.p a.n a.work.now) (points_from a.n a.work.now) a.rational (weights_from a.rational a.n a.work.now) a.t _ _
+    (c.multiplicity-s.ensures ∙ ap (λ (ks : List Float). multiplicity_of ks a.t) (slice_is a.a (a.n + a.p + 1) a.work.now))
+    q.valid_knots o (moved-span (slice_is a.a (a.n + a.p + 1) a.work.now) c.span_of-k.ensures) in
+    ((o.room, s.0.from, s.0.below), (q.n_bound, (s.2, q.scale_value)))
+
+pub returns : goal.returns
+returns c = let a = c.args in
+    let q = c.requires in
+    let o =
+    spot-open
+    a.p a.n (knots_from a.a a.p a.n a.work.now) (points_from a.n a.work.now) a.rational (weights_from a.rational a.n a.work.now) a.t _ q.valid_knots
+    (sym
+    (ap
+    (λ (r : Refusal). r.number)
+    (c.spot_refusal-early.ensures
+    ∙ ap
+    (λ (ks : List Float). spot_refusal (at ks a.p) (at ks a.n) a.t a.p c.multiplicity-s.result)
+    (slice_is a.a (a.n + a.p + 1) a.work.now)))
+    ∙ c.if-early-ne0.false) in
+    let s =
+    spot-found
+    a.p a.n (knots_from a.a a.p a.n a.work.now) (points_from a.n a.work.now) a.rational (weights_from a.rational a.n a.work.now) a.t _ _
+    (c.multiplicity-s.ensures
+    ∙ ap (λ (ks : List Float). multiplicity_of ks a.t) (slice_is a.a (a.n + a.p + 1) a.work.now))
+    q.valid_knots o (moved-span (slice_is a.a (a.n + a.p + 1) a.work.now) c.span_of-k.ensures) in
+    insert-done
+    a.p a.n (knots_from a.a a.p a.n a.work.now) (points_from a.n a.work.now) a.rational (weights_from a.rational a.n a.work.now) a.t a.a a.work.now _
+    _ _
+    (c.multiplicity-s.ensures
+    ∙ ap (λ (ks : List Float). multiplicity_of ks a.t) (slice_is a.a (a.n + a.p + 1) a.work.now))
+    _ _
+    (c.spot_refusal-early.ensures
+    ∙ ap
+    (λ (ks : List Float). spot_refusal (at ks a.p) (at ks a.n) a.t a.p c.multiplicity-s.result)
+    (slice_is a.a (a.n + a.p + 1) a.work.now))
+    c.if-early-ne0.false s.1 c.insert_at.ensures

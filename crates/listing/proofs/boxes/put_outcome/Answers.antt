@@ -1,0 +1,27 @@
+-- The intervals, or a refusal.
+-- Assumes nothing.
+use native.Mathlib.Omega.{arith}
+use borrow.Author.Rules.{rules}
+use Rattle.decimals.proofs.Storing.{both_stored}
+use Rattle.listing.specs.Boxes.{outcome}
+use Rattle.listing.specs.Ends.{ends_room}
+use Rattle.listing.proofs.boxes.put_outcome.Goals as goal
+
+pub put_all_ends-next-requires : goal.put_all_ends-next-requires
+unfolding ends_room
+put_all_ends-next-requires c = search rules
+
+pub put_all_ends-requires : goal.put_all_ends-requires
+unfolding ends_room
+put_all_ends-requires c = search rules
+
+pub returns-in-Are : goal.returns-in-Are
+unfolding outcome ends_room
+returns-in-Are c = let a = c.put_all_ends-next.ensures in
+    let b = c.put_all_ends.ensures in
+    rw c.in-Are.is (both_stored a.0 b.0, omega arith)
+
+pub returns-in-Refused : goal.returns-in-Refused
+unfolding outcome
+returns-in-Refused c = let a = c.put_label.ensures in
+    rw c.in-Refused.is (a.roomy (search rules), omega arith)

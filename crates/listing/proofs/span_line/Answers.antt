@@ -1,0 +1,17 @@
+-- The two parts of a line, stored into cleared bytes.
+-- Assumes nothing.
+use mathlib.Core.Path.{◌≡◌}
+use mathlib.Core.List.{append_assoc}
+use native.Mathlib.Omega.{arith}
+use lib.ListN.{length}
+use borrow.Author.Rules.{rules}
+use Rattle.decimals.proofs.Storing.{both_stored, one-stored}
+use Rattle.listing.proofs.Lines.{front-shown}
+use Rattle.listing.specs.Text.{span_line}
+use Rattle.listing.proofs.span_line.Goals as goal
+
+pub returns : goal.returns
+unfolding span_line
+returns c = let long : length c.args.out.now ≡ 2304 = search rules in
+    let a = c.put_start-a.ensures in
+    simp append_assoc at (front-shown 2304 _ c.clear_bytes.ensures long (both_stored a.0 (one-stored _ _ 10)) (omega arith))

@@ -1,0 +1,49 @@
+-- `made::iso_curve::iso_into` meets its contract.
+-- Assumes nothing.
+use mathlib.Core.Bool.{Bool, true, false}
+use Rattle.made.proofs.IsoCurves.{HeldOpen, held-open, chosen}
+use mathlib.Core.Path.{subst}
+use lib.ListN.{length}
+use Rattle.made.proofs.iso_curve.iso_into.Goals as goal
+
+pub iso_along-requires : goal.iso_along-requires
+iso_along-requires c = let a = c.args in
+    let q = c.requires in
+    let o =
+    subst
+    (λ (x : Bool). HeldOpen a.form.u_degree a.form.v_degree a.us.now a.vs.now a.form.u_count a.form.v_count a.points.now a.form.rational
+    a.weights.now x a.t (length a.out_points.now) (length a.out_weights.now))
+    c.if-constant_u.true
+    (held-open
+    a.form.u_degree a.form.v_degree a.us.now a.vs.now a.form.u_count a.form.v_count a.points.now a.form.rational a.weights.now a.t
+    (length a.out_points.now) (length a.out_weights.now) a.constant_u q.out_weights_value)
+    in
+    (o.high, (o.knots, (o.inside, (o.places, (o.weights, (o.points-room, (o.weights-room, (o.few, (q.out_points_value, q.out_weights_value_2)))))))))
+
+pub returns-then-constant_u : goal.returns-then-constant_u
+returns-then-constant_u c = let a = c.args in
+    chosen
+    a.form.u_degree a.form.v_degree a.us.now a.vs.now a.form.u_count a.form.v_count a.points.now a.form.rational a.weights.now a.t
+    (length a.out_points.now) (length a.out_weights.now) a.constant_u true c.if-constant_u.true _ _ _
+    c.iso_along.ensures
+
+pub iso_along-requires-2 : goal.iso_along-requires-2
+iso_along-requires-2 c = let a = c.args in
+    let q = c.requires in
+    let o =
+    subst
+    (λ (x : Bool). HeldOpen a.form.u_degree a.form.v_degree a.us.now a.vs.now a.form.u_count a.form.v_count a.points.now a.form.rational
+    a.weights.now x a.t (length a.out_points.now) (length a.out_weights.now))
+    c.if-constant_u.false
+    (held-open
+    a.form.u_degree a.form.v_degree a.us.now a.vs.now a.form.u_count a.form.v_count a.points.now a.form.rational a.weights.now a.t
+    (length a.out_points.now) (length a.out_weights.now) a.constant_u q.out_weights_value)
+    in
+    (o.high, (o.knots, (o.inside, (o.places, (o.weights, (o.points-room, (o.weights-room, (o.few, (q.out_points_value, q.out_weights_value_2)))))))))
+
+pub returns : goal.returns
+returns c = let a = c.args in
+    chosen
+    a.form.u_degree a.form.v_degree a.us.now a.vs.now a.form.u_count a.form.v_count a.points.now a.form.rational a.weights.now a.t
+    (length a.out_points.now) (length a.out_weights.now) a.constant_u false c.if-constant_u.false _ _ _
+    c.iso_along-2.ensures

@@ -1,0 +1,39 @@
+-- `made::reverse::reverse_into` meets its contract.
+-- Assumes nothing.
+use native.Mathlib.Omega.{arith}
+use Rattle.made.proofs.Reverses.{given-in, formed-is}
+use mathlib.Core.Path.{◌≡◌}
+use Prim.Native.Nat.{ℕ}
+use Rattle.made.specs.Reverse.{back_place, back_number}
+use Rattle.made.proofs.reverse.reverse_into.Goals as goal
+
+pub run_back-requires : goal.run_back-requires
+run_back-requires c = let l = c.requires.knots_in_bounds in (omega arith, (l, (λ g. let z : ◌≡◌ {A = ℕ} 0 1 = cc in absurd (omega arith))))
+
+pub run_back-requires-2 : goal.run_back-requires-2
+run_back-requires-2 c = let q = c.requires in
+    let v = q.valid_curve.triples in let l = q.points_in_bounds in (omega arith, (l, (λ g. v)))
+
+pub run_back-requires-3 : goal.run_back-requires-3
+run_back-requires-3 c = let a = c.args in
+    let n = c.given_len-w.ensures in
+    let h = given-in a.rational a.weights.now in
+    let q = c.requires.weights_in_bounds in
+    (omega arith, (omega arith, (λ g. let z : ◌≡◌ {A = ℕ} 0 1 = cc in absurd (omega arith))))
+
+pub made_refusal-requires : goal.made_refusal-requires
+made_refusal-requires c = let pr = c.requires in
+    let a = c.args in
+    let n = c.given_len-w.ensures in
+    let x = pr.knots_in_bounds in let y = pr.points_in_bounds in let q = pr.weights_in_bounds in (omega arith, (omega arith, omega arith))
+
+pub returns : goal.returns
+unfolding back_place back_number
+returns c = let a = c.args in
+    let q = c.requires.?.1.1.1.1 in
+    formed-is
+    a.degree a.knots.now a.points.now a.rational a.weights.now a.out_knots.now a.out_points.now a.out_weights.now _ _ _ q.0 q.1.0 q.1.1
+    c.run_back.ensures
+    c.run_back-2.ensures _
+    c.given_len-w.ensures
+    c.run_back-3.ensures _ c.made_refusal.ensures

@@ -1,0 +1,11 @@
+-- `many::box_row::point_row_of` meets its contract.
+-- Assumes nothing.
+use mathlib.Core.Path.{◌∙◌, sym, ap}
+use Rattle.many.specs.Spans.{bare, point_bounds, point_box_row}
+use Rattle.many.proofs.box_row.point_row_of.Goals as goal
+
+pub returns-in-Are : goal.returns-in-Are
+returns-in-Are c = ap (bare 0) c.point_bounds.ensures ∙ ap point_box_row (sym c.in-Are.is)
+
+pub returns-in-Refused : goal.returns-in-Refused
+returns-in-Refused c = ap (bare c.in-Refused.r.number) (c.point_bounds-in-Refused.ensures ∙ ap point_bounds c.no_triple.ensures) ∙ ap point_box_row (sym c.in-Refused.is)

@@ -1,0 +1,92 @@
+-- `many::boxes::bound_all` meets its contract.
+-- Assumes nothing.
+use lib.ListN.{length}
+use Prim.Native.Nat.{ℕ, ◌≤◌}
+use native.Mathlib.Omega.{arith}
+use mathlib.Core.Path.{refl, sym, ◌∙◌, ap}
+use Rattle.knots.specs.declared.refusal.Refusal.{Refusal}
+use Rattle.many.specs.Spans.{spans_of, box_width, bound_in, mark_at, box_at, spans_start}
+use Rattle.many.proofs.Said.{box-says}
+use Rattle.many.proofs.Rows.{meets-refused, meets-answered, table-open, small_product}
+use Rattle.many.proofs.Bounded.{box-width-small, rows_few, table-stops, rooms-stop, spans-fits}
+use Rattle.many.proofs.boxes.bound_all.Goals as goal
+
+pub returns-then-table-ne0 : goal.returns-then-table-ne0
+returns-then-table-ne0 c = let a = c.args in
+    let m = c.clear_numbers in
+    let b = c.clear in
+    let t = c.table_refusal-table in
+    meets-refused
+    (mark_at a.degree a.knots.now a.points.now a.rational a.weights.now) 2 (λ s. refl) (box_at a.degree a.knots.now a.points.now a.rational a.weights.now a.alone) (box_width a.alone)
+    (λ s. (box-says a.alone (bound_in a.degree a.knots.now a.points.now a.rational a.weights.now s)).count)
+    (spans_of a.degree a.knots.now a.points.now) (length a.marks.now) (length a.boxes.now)
+    m.new.numbers b.new.xs m.ensures b.ensures _ _
+    (table-stops a.degree a.knots.now a.points.now a.rational a.weights.now (box_width a.alone) (length a.marks.now) (length a.boxes.now) _ t.ensures c.if-table-ne0.true)
+    c.if-table-ne0.true
+
+pub span_count-n-requires : goal.span_count-n-requires
+span_count-n-requires c = let a = c.args in
+    let t = c.table_refusal-table in
+    let v = table-open a.degree a.knots.now a.points.now a.rational a.weights.now (sym (ap (λ (x : Refusal). x.number) t.ensures) ∙ c.if-table-ne0.false) in
+    (omega (arith, v.knots.count), omega (arith, v.knots.count, v.knots.long))
+
+pub overflow_mul-n : goal.overflow_mul-n
+overflow_mul-n c = let a = c.args in
+    let t = c.table_refusal-table in
+    omega (arith, c.span_count-n.ensures, rows_few a.degree a.knots.now a.points.now a.rational a.weights.now (table-open a.degree a.knots.now a.points.now a.rational a.weights.now (sym (ap (λ (x : Refusal). x.number) t.ensures) ∙ c.if-table-ne0.false)))
+
+pub overflow_mul-n-2 : goal.overflow_mul-n-2
+overflow_mul-n-2 c = let a = c.args in
+    let t = c.table_refusal-table in
+    let b = c.box_width-w in
+    let n : c.span_count-n.result ≤ 1048576 = rw c.span_count-n.ensures (rows_few a.degree a.knots.now a.points.now a.rational a.weights.now (table-open a.degree a.knots.now a.points.now a.rational a.weights.now (sym (ap (λ (x : Refusal). x.number) t.ensures) ∙ c.if-table-ne0.false))) in
+    let w : b.result ≤ 18 = rw b.ensures (box-width-small a.alone) in
+    omega (arith, small_product c.span_count-n.result b.result n w)
+
+pub returns-then-room-ne0 : goal.returns-then-room-ne0
+returns-then-room-ne0 c = let a = c.args in
+    let m = c.clear_numbers in
+    let b = c.clear in
+    let t = c.table_refusal-table in
+    let n = c.span_count-n in
+    let w = c.box_width-w in
+    let r = c.rooms_refusal-room in
+    meets-refused
+    (mark_at a.degree a.knots.now a.points.now a.rational a.weights.now) 2 (λ s. refl) (box_at a.degree a.knots.now a.points.now a.rational a.weights.now a.alone) (box_width a.alone)
+    (λ s. (box-says a.alone (bound_in a.degree a.knots.now a.points.now a.rational a.weights.now s)).count)
+    (spans_of a.degree a.knots.now a.points.now) (length a.marks.now) (length a.boxes.now)
+    m.new.numbers b.new.xs m.ensures b.ensures _ _
+    (rooms-stop a.degree a.knots.now a.points.now a.rational a.weights.now
+    w.result (length a.marks.now) (length a.boxes.now) m.new.numbers b.new.xs m.ensures b.ensures _ t.ensures c.if-table-ne0.false _ n.ensures _ r.ensures
+    ∙ ap (λ (k : ℕ). spans_start a.degree a.knots.now a.points.now a.rational a.weights.now k (length a.marks.now) (length a.boxes.now)) w.ensures)
+    c.if-room-ne0.true
+
+pub bound_each-requires : goal.bound_each-requires
+bound_each-requires c = let a = c.args in
+    let t = c.table_refusal-table in
+    let f = spans-fits a.degree a.knots.now a.points.now a.rational a.weights.now c.box_width-w.result _ _ _ c.span_count-n.ensures _ c.rooms_refusal-room.ensures c.if-room-ne0.false in
+    (table-open a.degree a.knots.now a.points.now a.rational a.weights.now (sym (ap (λ (x : Refusal). x.number) t.ensures) ∙ c.if-table-ne0.false), (f.0, rw (← c.box_width-w.ensures) f.1))
+
+pub shape_of-marks : goal.shape_of-marks
+shape_of-marks c = c.marks-2-1.given ∙ c.marks-1.given
+
+pub shape_of-boxes : goal.shape_of-boxes
+shape_of-boxes c = c.boxes-2-1.given ∙ c.boxes-1.given
+
+pub returns : goal.returns
+returns c = let a = c.args in
+    let m = c.clear_numbers in
+    let b = c.clear in
+    let t = c.table_refusal-table in
+    let n = c.span_count-n in
+    let w = c.box_width-w in
+    let r = c.rooms_refusal-room in
+    meets-answered
+    (mark_at a.degree a.knots.now a.points.now a.rational a.weights.now) 2 (λ s. refl) (box_at a.degree a.knots.now a.points.now a.rational a.weights.now a.alone) (box_width a.alone)
+    (λ s. (box-says a.alone (bound_in a.degree a.knots.now a.points.now a.rational a.weights.now s)).count)
+    (spans_of a.degree a.knots.now a.points.now) (length a.marks.now) (length a.boxes.now)
+    m.new.numbers b.new.xs m.ensures b.ensures _ _
+    (rooms-stop a.degree a.knots.now a.points.now a.rational a.weights.now
+    w.result (length a.marks.now) (length a.boxes.now) m.new.numbers b.new.xs m.ensures b.ensures _ t.ensures c.if-table-ne0.false _ n.ensures _ r.ensures
+    ∙ ap (λ (k : ℕ). spans_start a.degree a.knots.now a.points.now a.rational a.weights.now k (length a.marks.now) (length a.boxes.now)) w.ensures)
+    c.if-room-ne0.false _ _ _ _ _ n.ensures refl refl c.bound_each.ensures.marks_after c.bound_each.ensures.boxes_after

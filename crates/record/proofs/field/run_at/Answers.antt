@@ -1,0 +1,32 @@
+-- How many doubles a field has: its payload is a whole number of them.
+-- Assumes nothing.
+use mathlib.Core.Path.{◌≡◌, sym, ◌∙◌}
+use native.Mathlib.Omega.{arith}
+use Prim.Native.Nat.{◌%◌}
+use borrow.Author.Tests.{eq-eqb, ne_eqb}
+use lib.ListN.{drop}
+use Rattle.record.specs.Reading.{field_of, run_of}
+use Rattle.record.proofs.Tests.{is_below}
+use Rattle.record.specs.declared.field.Count.TheVariants.{Is, Bad}
+use Rattle.record.proofs.field.run_at.Goals as goal
+
+pub returns-in_default : goal.returns-in_default
+unfolding run_of
+returns-in_default c = let a = c.args in
+    let e : field_of (drop a.i a.s.now) a.tag ≡ Bad = sym c.field_at-got.ensures.value ∙ c.in_default.is in
+    (rw e, tt)
+
+pub returns-then-n-ne0 : goal.returns-then-n-ne0
+unfolding run_of
+returns-then-n-ne0 c = let a = c.args in
+    let n = c.in-Is.n in
+    let e : field_of (drop a.i a.s.now) a.tag ≡ Is c.in-Is.n = sym c.field_at-got.ensures.value ∙ c.in-Is.is in
+    (rw (e, ne_eqb (n % 8) 0 (λ z. omega arith)), tt)
+
+pub returns : goal.returns
+unfolding run_of
+returns c = let a = c.args in
+    let n = c.in-Is.n in
+    let e : field_of (drop a.i a.s.now) a.tag ≡ Is c.in-Is.n = sym c.field_at-got.ensures.value ∙ c.in-Is.is in
+    let small = is_below 65536 _ _ c.in-Is.is c.field_at-got.ensures.below in
+    (rw (e, eq-eqb (n % 8) 0 (omega arith)), omega arith)

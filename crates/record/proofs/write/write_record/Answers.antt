@@ -1,0 +1,94 @@
+-- The bytes are cleared first, so that each refusal is done; then the record is stored from the front.
+-- Assumes nothing.
+use Rattle.knots.specs.Refusal.{refuse, length-bad}
+use Rattle.record.specs.Writing.{Writes, table_from}
+use Rattle.record.proofs.RoundTrip.{reads-back}
+use mathlib.Core.Path.{◌≡◌, sym, ◌∙◌}
+use native.Mathlib.Omega.{arith}
+use lib.ListN.{length}
+use Rattle.record.specs.declared.write.Write.TheVariants.{Written, Refused}
+use Rattle.record.proofs.Written.{length-table, size_none, size-some, writes-none, writes_short, writes-all}
+use Rattle.record.proofs.write.write_record.Goals as goal
+
+pub returns-in_default : goal.returns-in_default
+returns-in_default c = let a = c.args in
+    let ks = a.knots.now in
+    let ps = a.points.now in
+    let ws = a.weights.now in
+    let out = a.out.now in
+    let t = table_from a.degree ks ps a.rational ws in
+    let none-held = size_none a.degree ks ps a.rational ws (sym c.record_size-size.ensures ∙ c.in_default.is) in
+    let w : Writes t out c.clear_bytes.new.bytes (Refused (refuse length-bad)) =
+    rw c.clear_bytes.ensures (writes-none t out none-held) in
+    rw
+    c.refuse.ensures (
+      w,
+      reads-back
+          a.degree ks ps a.rational ws (λ i. c.shared_slice_known-1.given i)
+          (λ i. c.shared_slice_known-2-1.given i)
+          (λ i. c.shared_slice_known-3-1.given i) out _ _ w,
+    )
+
+pub returns-then-out-n : goal.returns-then-out-n
+returns-then-out-n c = let b = c.clear_bytes in
+    let a = c.args in
+    let ks = a.knots.now in
+    let ps = a.points.now in
+    let ws = a.weights.now in
+    let out = a.out.now in
+    let t = table_from a.degree ks ps a.rational ws in
+    let size =
+    size-some
+    a.degree ks ps a.rational ws c.in-Is.n
+    (sym c.record_size-size.ensures ∙ c.in-Is.is) in
+    let long : length b.new.bytes ≡ length out = b.auto.0 in
+    let w : Writes t out b.new.bytes (Refused (refuse length-bad)) =
+    rw b.ensures (writes_short t out size.0 (omega arith)) in
+    rw
+    c.refuse-then-out-n.ensures (
+      w,
+      reads-back
+          a.degree ks ps a.rational ws (λ i. c.shared_slice_known-1.given i)
+          (λ i. c.shared_slice_known-2-1.given i)
+          (λ i. c.shared_slice_known-3-1.given i) out _ _ w,
+    )
+
+pub put_table-requires : goal.put_table-requires
+put_table-requires c = let a = c.args in
+    let ks = a.knots.now in
+    let ps = a.points.now in
+    let ws = a.weights.now in
+    let out = a.out.now in
+    let size =
+    size-some
+    a.degree ks ps a.rational ws c.in-Is.n
+    (sym c.record_size-size.ensures ∙ c.in-Is.is) in
+    let long : length c.clear_bytes.new.bytes ≡ length out =
+    c.clear_bytes.auto.0 in
+    let table = length-table a.degree ks ps a.rational ws in
+    omega arith
+
+pub returns : goal.returns
+returns c = let b = c.clear_bytes in
+    let a = c.args in
+    let ks = a.knots.now in
+    let ps = a.points.now in
+    let ws = a.weights.now in
+    let out = a.out.now in
+    let t = table_from a.degree ks ps a.rational ws in
+    let size =
+    size-some
+    a.degree ks ps a.rational ws c.in-Is.n
+    (sym c.record_size-size.ensures ∙ c.in-Is.is) in
+    let long : length b.new.bytes ≡ length out = b.auto.0 in
+    let w : Writes t out c.put_table.new.out (Written c.in-Is.n) =
+    rw
+    (c.put_table.ensures, b.ensures, ← size.1)
+    (writes-all t out size.0 (omega arith)) in (
+      w,
+      reads-back
+          a.degree ks ps a.rational ws
+          (λ i. c.shared_slice_known-1.given i)
+          (λ i. c.shared_slice_known-2-1.given i)
+          (λ i. c.shared_slice_known-3-1.given i) out _ _ w,
+    )

@@ -1,0 +1,147 @@
+use Prim.Native.Nat.{◌+◌, ◌*◌, ◌/◌}
+use native.Mathlib.Omega.{arith}
+use lib.ListN.{length}
+use Rattle.insertion.proofs.KnotCounts.{multiplicity-most}
+use Rattle.trimming.proofs.Ranges.{kept-fits}
+use Rattle.trimming.proofs.Cutting.{into-refused, into-cut}
+use borrow.Author.Rules.{rules}
+use Rattle.trimming.proofs.trim.trim_into.Goals as goal
+
+pub overflow_add-degree : goal.overflow_add-degree
+overflow_add-degree c = let pr = c.requires in
+    let v = pr.valid_curve in
+    let l = v.knots.long in
+    let k = v.knots.count in
+    let s = v.short.knots in
+    let q = pr.degree_in_bounds_2 in let g = c.well_formed in let f = c.ranges in search rules
+
+pub overflow_add-degree-2 : goal.overflow_add-degree-2
+overflow_add-degree-2 c = let pr = c.requires in
+    let v = pr.valid_curve in
+    let l = v.knots.long in
+    let k = v.knots.count in
+    let s = v.short.knots in
+    let q = pr.degree_in_bounds_2 in
+    let g = c.well_formed in let f = c.ranges in search rules
+
+pub overflow_add-a : goal.overflow_add-a
+overflow_add-a c = let pr = c.requires in
+    let v = pr.valid_curve in
+    let l = v.knots.long in
+    let k = v.knots.count in
+    let s = v.short.knots in
+    let q = pr.degree_in_bounds_2 in
+    let g = c.well_formed in
+    let f = c.ranges in let x = c.missing-x.ensures in let y = c.missing-y.ensures in omega arith
+
+pub overflow_add-a-2 : goal.overflow_add-a-2
+overflow_add-a-2 c = let pr = c.requires in
+    let v = pr.valid_curve in
+    let l = v.knots.long in
+    let k = v.knots.count in
+    let s = v.short.knots in
+    let q = pr.degree_in_bounds_2 in
+    let g = c.well_formed in
+    let f = c.ranges in let x = c.missing-x.ensures in let y = c.missing-y.ensures in omega arith
+
+pub overflow_mul-a : goal.overflow_mul-a
+overflow_mul-a c = let pr = c.requires in
+    let v = pr.valid_curve in
+    let l = v.knots.long in
+    let k = v.knots.count in
+    let s = v.short.knots in
+    let q = pr.degree_in_bounds_2 in
+    let g = c.well_formed in
+    let f = c.ranges in let x = c.missing-x.ensures in let y = c.missing-y.ensures in omega (arith, g, f)
+
+pub insert_ends-late-requires : goal.insert_ends-late-requires
+insert_ends-late-requires c = let pr = c.requires in
+    let v = pr.valid_curve in
+    let l = v.knots.long in
+    let k = v.knots.count in
+    let s = v.short.knots in
+    let q = pr.degree_in_bounds_2 in
+    let g = c.well_formed in
+    let f = c.ranges in
+    let x = c.missing-x.ensures in let y = c.missing-y.ensures in (pr.valid_curve, (omega arith, omega arith))
+
+pub shape_of-work-then-late-ne0 : goal.shape_of-work-then-late-ne0
+shape_of-work-then-late-ne0 c = c.work-1.given
+
+pub returns-then-late-ne0 : goal.returns-then-late-ne0
+returns-then-late-ne0 c = let a = c.args in
+    into-refused
+    a.degree a.knots.now a.points.now a.rational a.weights.now
+    c.requires.valid_curve a.lo a.hi (length a.out_knots.now)
+    (length a.out_points.now) (length a.out_weights.now) _ _ _ _ c.insert_ends-late.ensures.value c.if-late-ne0.true
+
+pub kept-m-requires : goal.kept-m-requires
+kept-m-requires c = let pr = c.requires in
+    let v = pr.valid_curve in
+    let l = v.knots.long in
+    let k = v.knots.count in
+    let s = v.short.knots in
+    let q = pr.degree_in_bounds_2 in
+    let g = c.well_formed in
+    let f = c.ranges in (omega arith, (s, pr.lo_bound))
+
+pub cut-requires : goal.cut-requires
+cut-requires c = let a = c.args in
+    let pr = c.requires in
+    let v = pr.valid_curve in
+    let l = v.knots.long in
+    let k = v.knots.count in
+    let s = v.short.knots in
+    let q = pr.degree_in_bounds_2 in
+    let g = c.well_formed in
+    let f = c.ranges in
+    let x = c.missing-x.ensures in
+    let y = c.missing-y.ensures in
+    let F = c.below-f.ensures in
+    let M = c.kept-m.ensures in
+    let w = c.work-1.given in
+    let b =
+    (kept-fits
+    a.degree (length a.points.now / 3) a.knots.now pr.valid_curve.knots a.lo a.hi pr.lo_bound
+    (multiplicity-most a.degree (length a.points.now / 3) a.knots.now pr.valid_curve.knots a.hi)) in
+    let o = pr.?.1.1 in let i = o.0 in let j = o.1.0 in ((omega arith, omega arith), (omega arith, (omega arith, rw M o.1.1.0)))
+
+pub shape_of-out_knots : goal.shape_of-out_knots
+shape_of-out_knots c = c.out_knots-1.given
+
+pub shape_of-out_points : goal.shape_of-out_points
+shape_of-out_points c = c.out_points-1.given
+
+pub shape_of-out_weights : goal.shape_of-out_weights
+shape_of-out_weights c = c.out_weights-1.given
+
+pub shape_of-work : goal.shape_of-work
+shape_of-work c = c.work-1.given
+
+pub returns : goal.returns
+returns c = let b = c.missing-x in
+    let d = c.missing-y in
+    let a = c.args in
+    let pr = c.requires in
+    let v = pr.valid_curve in
+    let l = v.knots.long in
+    let k = v.knots.count in
+    let s = v.short.knots in
+    let q = pr.degree_in_bounds_2 in
+    let g = c.well_formed in
+    let f = c.ranges in
+    let x = b.ensures in
+    let y = d.ensures in
+    into-cut
+    a.degree a.knots.now a.points.now a.rational a.weights.now pr.valid_curve a.lo a.hi (length a.out_knots.now) (length a.out_points.now) (length a.out_weights.now)
+    _ _ _
+    ((length a.points.now / 3 + (b.result + d.result)) * 4)
+    a.work.now _ _ c.below-f.ensures
+    c.kept-m.ensures
+    (kept-fits
+    a.degree (length a.points.now / 3) a.knots.now pr.valid_curve.knots a.lo a.hi pr.lo_bound
+    (multiplicity-most a.degree (length a.points.now / 3) a.knots.now pr.valid_curve.knots a.hi))
+    (omega arith) (omega arith) _ c.insert_ends-late.ensures.value
+    c.if-late-ne0.false _
+    c.insert_ends-late.ensures.work_after _
+    c.cut.ensures
