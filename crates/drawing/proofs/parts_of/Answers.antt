@@ -12,8 +12,17 @@ pub returns-then-count-lt1024 : goal.returns-then-count-lt1024
 unfolding parts_of
 returns-then-count-lt1024 c = let n = c.args.count in
     let t = c.if-count-lt1024.true in
-    (rw (lt-ltb n 1024 t) refl, ((le-div_iff_mul-le {k = n + 1} {x = 1} {y = 1024} (omega arith)).1 (omega arith), div-le_self 1024 (n + 1)))
+    record {
+      value = rw (lt-ltb n 1024 t) refl;
+      result_nonzero = (le-div_iff_mul-le {k = n + 1} {x = 1} {y = 1024} (omega arith)).1 (omega arith);
+      upper_bound = div-le_self 1024 (n + 1);
+    }
 
 pub returns : goal.returns
 unfolding parts_of
-returns c = let n = c.args.count in (rw (le-ltb n 1024 c.if-count-lt1024.false) refl, (omega arith, omega arith))
+returns c = let n = c.args.count in
+    record {
+      value = rw (le-ltb n 1024 c.if-count-lt1024.false) refl;
+      result_nonzero = omega arith;
+      upper_bound = omega arith;
+    }

@@ -19,7 +19,13 @@ column-requires c = let a = c.args in
     let lo = c.loop-j in
     let l = lo.invariant.3 ∙ length-set a.ndu.now 0 floats.one in
     let h = within a.w a.p lo.j lo.j (length a.ndu.now) (omega arith) (omega arith) c.requires.p_in_bounds_2 in
-    (omega arith, (omega arith, (omega arith, (omega arith, omega arith))))
+    record {
+      j_nonzero = omega arith;
+      j_lt_w = omega arith;
+      j_le_span = omega arith;
+      j_in_bounds = omega arith;
+      j_in_bounds_2 = omega arith;
+    }
 
 pub loop-j-preserved : goal.loop-j-preserved
 loop-j-preserved c = let a = c.args in

@@ -18,7 +18,15 @@ small_derivatives-requires c = let a = c.args in
     let h = sym c.in_reach.ensures ∙ c.if-not-in_reach.false in
     let r = reached m a.p a.n a.knots.now a.span h in
     let cl = c.clear in
-    (r.degree, (omega arith, (r.low, (r.long, (r.orders, (r.room, cleared-long m _ cl.ensures r.rows))))))
+    record {
+      p_nonzero = r.degree;
+      p_bound = omega arith;
+      p_le_span = r.low;
+      p_in_bounds = r.long;
+      n_bound = r.orders;
+      p_lt_w = r.room;
+      ders_len = cleared-long m _ cl.ensures r.rows;
+    }
 
 pub returns-then-p-le7 : goal.returns-then-p-le7
 returns-then-p-le7 c = let a = c.args in
@@ -33,7 +41,15 @@ middle_derivatives-requires c = let a = c.args in
     let h = sym c.in_reach.ensures ∙ c.if-not-in_reach.false in
     let r = reached m a.p a.n a.knots.now a.span h in
     let cl = c.clear in
-    (r.degree, (omega arith, (r.low, (r.long, (r.orders, (r.room, cleared-long m _ cl.ensures r.rows))))))
+    record {
+      p_nonzero = r.degree;
+      p_bound = omega arith;
+      p_le_span = r.low;
+      p_in_bounds = r.long;
+      n_bound = r.orders;
+      p_lt_w = r.room;
+      ders_len = cleared-long m _ cl.ensures r.rows;
+    }
 
 pub returns-then-p-le15 : goal.returns-then-p-le15
 returns-then-p-le15 c = let a = c.args in
@@ -48,7 +64,15 @@ wide_derivatives-requires c = let a = c.args in
     let h = sym c.in_reach.ensures ∙ c.if-not-in_reach.false in
     let r = reached m a.p a.n a.knots.now a.span h in
     let cl = c.clear in
-    (r.degree, (omega arith, (r.low, (r.long, (r.orders, (r.room, cleared-long m _ cl.ensures r.rows))))))
+    record {
+      p_nonzero = r.degree;
+      p_bound = omega arith;
+      p_le_span = r.low;
+      p_in_bounds = r.long;
+      n_bound = r.orders;
+      p_lt_w = r.room;
+      ders_len = cleared-long m _ cl.ensures r.rows;
+    }
 
 pub returns-then-p-le31 : goal.returns-then-p-le31
 returns-then-p-le31 c = let a = c.args in
@@ -63,7 +87,15 @@ large_derivatives-requires c = let a = c.args in
     let h = sym c.in_reach.ensures ∙ c.if-not-in_reach.false in
     let r = reached m a.p a.n a.knots.now a.span h in
     let cl = c.clear in
-    (r.degree, (r.high, (r.low, (r.long, (r.orders, (r.room, cleared-long m _ cl.ensures r.rows))))))
+    record {
+      p_nonzero = r.degree;
+      p_bound = r.high;
+      p_le_span = r.low;
+      p_in_bounds = r.long;
+      n_bound = r.orders;
+      p_lt_w = r.room;
+      ders_len = cleared-long m _ cl.ensures r.rows;
+    }
 
 pub returns : goal.returns
 returns c = let a = c.args in

@@ -25,7 +25,15 @@ function_ders-requires c = let a = c.args in
     let pre = c.requires in
     let lo = c.loop-r in
     let l = length-set lo.ders lo.r c.cell_at.result ∙ lo.invariant.1.long in
-    (pre.p_nonzero, (pre.p_bound, (omega arith, (pre.n_bound, (pre.p_lt_w, (l ∙ pre.ders_len, omega arith))))))
+    record {
+      p_nonzero = pre.p_nonzero;
+      p_bound = pre.p_bound;
+      r_le_p = omega arith;
+      n_bound = pre.n_bound;
+      p_lt_w = pre.p_lt_w;
+      ders_len = l ∙ pre.ders_len;
+      p_in_bounds = omega arith;
+    }
 
 pub loop-r-preserved : goal.loop-r-preserved
 loop-r-preserved c = let a = c.args in

@@ -18,43 +18,51 @@ number r = r.number
 
 pub returns-then-refusal-ne0 : goal.returns-then-refusal-ne0
 unfolding bound_of
-returns-then-refusal-ne0 c = let a = c.args in
+returns-then-refusal-ne0 c = let all = let a = c.args in
     bound-promised a.degree a.knots.now a.points.now a.weights.now a.rational a.lo a.hi _
-    (rw (stop c.curve_refusal-refusal.ensures c.if-refusal-ne0.taken) (ap Refused c.curve_refusal-refusal.ensures))
+    (rw (stop c.curve_refusal-refusal.ensures c.if-refusal-ne0.true) (ap Refused c.curve_refusal-refusal.ensures)) in
+    record { value = all.0; holds = all.1.0; not_idle = all.1.1 }
 
 pub returns-then-outside-ne0 : goal.returns-then-outside-ne0
 unfolding bound_of
-returns-then-outside-ne0 c = let a = c.args in
+returns-then-outside-ne0 c = let all = let a = c.args in
     let va = valid-curve a.degree a.knots.now a.points.now a.rational a.weights.now
-    (ap number (sym c.curve_refusal-refusal.ensures) ∙ c.if-refusal-ne0.left) in
+    (ap number (sym c.curve_refusal-refusal.ensures) ∙ c.if-refusal-ne0.false) in
     let e = c.span_over-s.ensures ∙ span-is a.degree (count_of a.points.now) a.knots.now a.lo a.hi va.knots in
     bound-promised a.degree a.knots.now a.points.now a.weights.now a.rational a.lo a.hi _
     (rw (
-      skip c.curve_refusal-refusal.ensures c.if-refusal-ne0.left,
+      skip c.curve_refusal-refusal.ensures c.if-refusal-ne0.false,
       ← e,
       stop c.range_refusal-outside.ensures
-          c.if-outside-ne0.taken,
-    ) (ap Refused c.range_refusal-outside.ensures))
+          c.if-outside-ne0.true,
+    ) (ap Refused c.range_refusal-outside.ensures)) in
+    record { value = all.0; holds = all.1.0; not_idle = all.1.1 }
 
 pub on_span-requires : goal.on_span-requires
 on_span-requires c = let a = c.args in
     let va = valid-curve a.degree a.knots.now a.points.now a.rational a.weights.now
-    (ap number (sym c.curve_refusal-refusal.ensures) ∙ c.if-refusal-ne0.left) in
+    (ap number (sym c.curve_refusal-refusal.ensures) ∙ c.if-refusal-ne0.false) in
     let e = c.span_over-s.ensures ∙ span-is a.degree (count_of a.points.now) a.knots.now a.lo a.hi va.knots in
     let sv = span-valid a.degree (count_of a.points.now) a.knots.now a.lo a.hi (omega (arith, va.knots.count))
-    (ap number (sym (c.range_refusal-outside.ensures ∙ ap (λ (s : ℕ). range_refusal a.degree (count_of a.points.now) s a.lo a.hi) e)) ∙ c.if-outside-ne0.left) in
-    (sv.small, (omega (arith, sv.span.first, e), (omega (arith, sv.span.last, va.knots.long, e), omega (arith, sv.span.last, va.triples, va.short.points, e))))
+    (ap number (sym (c.range_refusal-outside.ensures ∙ ap (λ (s : ℕ). range_refusal a.degree (count_of a.points.now) s a.lo a.hi) e)) ∙ c.if-outside-ne0.false) in
+    record {
+      degree_bound = sv.small;
+      degree_le_s = omega (arith, sv.span.first, e);
+      degree_in_bounds = omega (arith, sv.span.last, va.knots.long, e);
+      s_bound = omega (arith, sv.span.last, va.triples, va.short.points, e);
+    }
 
 pub returns : goal.returns
 unfolding bound_of
-returns c = let a = c.args in
+returns c = let all = let a = c.args in
     let va = valid-curve a.degree a.knots.now a.points.now a.rational a.weights.now
-    (ap number (sym c.curve_refusal-refusal.ensures) ∙ c.if-refusal-ne0.left) in
+    (ap number (sym c.curve_refusal-refusal.ensures) ∙ c.if-refusal-ne0.false) in
     let e = c.span_over-s.ensures ∙ span-is a.degree (count_of a.points.now) a.knots.now a.lo a.hi va.knots in
     bound-promised a.degree a.knots.now a.points.now a.weights.now a.rational a.lo a.hi _
     (rw (
-      skip c.curve_refusal-refusal.ensures c.if-refusal-ne0.left,
+      skip c.curve_refusal-refusal.ensures c.if-refusal-ne0.false,
       ← e,
       skip
-          c.range_refusal-outside.ensures c.if-outside-ne0.left,
-    ) (c.answer_of.ensures ∙ ap bounded_of c.on_span.ensures))
+          c.range_refusal-outside.ensures c.if-outside-ne0.false,
+    ) (c.answer_of.ensures ∙ ap bounded_of c.on_span.ensures)) in
+    record { value = all.0; holds = all.1.0; not_idle = all.1.1 }

@@ -16,10 +16,18 @@ pub overflow_sub-k : goal.overflow_sub-k
 overflow_sub-k c = omega (arith, turn c.loop-at.at c.loop-at.invariant.stand c.loop-at-test.true c.requires.degree_bound)
 
 pub flat_at-requires : goal.flat_at-requires
-flat_at-requires c = let z = levels-in c.args.knots.now c.args.along.degree c.args.along.span (parameter_of c.args.along.t) c.args.net.now c.loop-at.net c.loop-at.at c.loop-at.invariant c.loop-at-test.true c.requires.degree_bound c.requires.degree_in_bounds_2 in (z.0, z.1.0)
+flat_at-requires c = let z = levels-in c.args.knots.now c.args.along.degree c.args.along.span (parameter_of c.args.along.t) c.args.net.now c.loop-at.net c.loop-at.at c.loop-at.invariant c.loop-at-test.true c.requires.degree_bound c.requires.degree_in_bounds_2 in
+    record {
+      m_in_bounds = z.0;
+      m_bound = z.1.0;
+    }
 
 pub flat_at-requires-in-loop-at : goal.flat_at-requires-in-loop-at
-flat_at-requires-in-loop-at c = let z = levels-in c.args.knots.now c.args.along.degree c.args.along.span (parameter_of c.args.along.t) c.args.net.now c.loop-at.net c.loop-at.at c.loop-at.invariant c.loop-at-test.true c.requires.degree_bound c.requires.degree_in_bounds_2 in (z.1.1.0, z.1.1.1)
+flat_at-requires-in-loop-at c = let z = levels-in c.args.knots.now c.args.along.degree c.args.along.span (parameter_of c.args.along.t) c.args.net.now c.loop-at.net c.loop-at.at c.loop-at.invariant c.loop-at-test.true c.requires.degree_bound c.requires.degree_in_bounds_2 in
+    record {
+      m_in_bounds = z.1.1.0;
+      m_bound = z.1.1.1;
+    }
 
 pub flat_step_at-requires-clause-degree_le_span : goal.flat_step_at-requires-clause-degree_le_span
 flat_step_at-requires-clause-degree_le_span c = c.requires.degree_le_span
@@ -37,7 +45,11 @@ pub flat_step_at-requires-clause-j_le_degree : goal.flat_step_at-requires-clause
 flat_step_at-requires-clause-j_le_degree c = c.loop-at.invariant.stand.top
 
 pub put_flat-requires : goal.put_flat-requires
-put_flat-requires c = let z = levels-in c.args.knots.now c.args.along.degree c.args.along.span (parameter_of c.args.along.t) c.args.net.now c.loop-at.net c.loop-at.at c.loop-at.invariant c.loop-at-test.true c.requires.degree_bound c.requires.degree_in_bounds_2 in (z.1.1.0, z.1.1.1)
+put_flat-requires c = let z = levels-in c.args.knots.now c.args.along.degree c.args.along.span (parameter_of c.args.along.t) c.args.net.now c.loop-at.net c.loop-at.at c.loop-at.invariant c.loop-at-test.true c.requires.degree_bound c.requires.degree_in_bounds_2 in
+    record {
+      m_in_bounds = z.1.1.0;
+      m_bound = z.1.1.1;
+    }
 
 pub shape_of-net-in-Refused : goal.shape_of-net-in-Refused
 shape_of-net-in-Refused c = c.loop-at.invariant.long

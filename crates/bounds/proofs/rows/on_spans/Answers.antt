@@ -25,7 +25,15 @@ overflow_add-row c = omega (arith, c.requires.corner)
 
 pub rows_of-net-requires : goal.rows_of-net-requires
 rows_of-net-requires c = let q = c.requires in
-    (q.p-small, (q.u-low, (q.u-room, (q.q-small, (q.v_low, (q.v-room, q.fit))))))
+    record {
+      degree_bound = q.p-small;
+      degree_le_span = q.u-low;
+      degree_in_bounds = q.u-room;
+      degree_bound_2 = q.q-small;
+      degree_le_span_2 = q.v_low;
+      degree_in_bounds_2 = q.v-room;
+      rows_fit = q.fit;
+    }
 
 pub returns-in-Made-new : goal.returns-in-Made-new
 unfolding spans_bound row_at

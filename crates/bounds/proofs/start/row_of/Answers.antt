@@ -2,7 +2,8 @@ use Rattle.bounds.specs.Start.{row_of}
 use Rattle.bounds.proofs.start.row_of.Goals as goal
 
 pub row_by-requires : goal.row_by-requires
-row_by-requires c = c.requires
+row_by-requires c = let all = c.requires in
+    record { degree_bound = all.0; degree_le_span = all.1.0; degree_in_bounds = all.1.1.0; degree_bound_2 = all.1.1.1 }
 
 pub returns-in-Is : goal.returns-in-Is
 unfolding row_of

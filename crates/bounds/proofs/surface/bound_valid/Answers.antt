@@ -18,17 +18,17 @@ returns-then-outside-ne0 c = let a = c.args in
     let va =
     valid-surface
     a.u.degree a.v.degree a.uk.now a.vk.now a.u.count a.v.count a.points.now a.rational a.weights.now
-    c.pre in
+    c.requires in
     let e = c.span_over-us.ensures ∙ span-is a.u.degree a.u.count a.uk.now a.u.lo a.u.hi va.u in
     let f = c.span_over-vs.ensures ∙ span-is a.v.degree a.v.count a.vk.now a.v.lo a.v.hi va.v in
-    rw (← e, ← f, stop c.ranges_refusal-outside.ensures c.if-outside-ne0.taken) (ap Refused c.ranges_refusal-outside.ensures)
+    rw (← e, ← f, stop c.ranges_refusal-outside.ensures c.if-outside-ne0.true) (ap Refused c.ranges_refusal-outside.ensures)
 
 pub on_spans-requires : goal.on_spans-requires
 on_spans-requires c = let a = c.args in
     let va =
     valid-surface
     a.u.degree a.v.degree a.uk.now a.vk.now a.u.count a.v.count a.points.now a.rational a.weights.now
-    c.pre in
+    c.requires in
     let e = c.span_over-us.ensures ∙ span-is a.u.degree a.u.count a.uk.now a.u.lo a.u.hi va.u in
     let f = c.span_over-vs.ensures ∙ span-is a.v.degree a.v.count a.vk.now a.v.lo a.v.hi va.v in
     let ok =
@@ -38,7 +38,7 @@ on_spans-requires c = let a = c.args in
     (λ (x : Refusal). x.number)
     (sym
     (c.ranges_refusal-outside.ensures ∙ ap₂ (λ (x y : ℕ). ranges_refusal a.u.degree a.v.degree a.u.count a.v.count x y a.u.lo a.u.hi a.v.lo a.v.hi) e f))
-    ∙ c.if-outside-ne0.left) in
+    ∙ c.if-outside-ne0.false) in
     subst
     (λ (x : ℕ). SpansFit a.u.degree a.v.degree x c.span_over-vs.result (length a.uk.now) (length a.vk.now) a.v.count) (sym e)
     (subst
@@ -54,7 +54,7 @@ returns c = let a = c.args in
     let va =
     valid-surface
     a.u.degree a.v.degree a.uk.now a.vk.now a.u.count a.v.count a.points.now a.rational a.weights.now
-    c.pre in
+    c.requires in
     let e = c.span_over-us.ensures ∙ span-is a.u.degree a.u.count a.uk.now a.u.lo a.u.hi va.u in
     let f = c.span_over-vs.ensures ∙ span-is a.v.degree a.v.count a.vk.now a.v.lo a.v.hi va.v in
-    rw (← e, ← f, skip c.ranges_refusal-outside.ensures c.if-outside-ne0.left) (c.answer_of.ensures ∙ ap bounded_of c.on_spans.ensures)
+    rw (← e, ← f, skip c.ranges_refusal-outside.ensures c.if-outside-ne0.false) (c.answer_of.ensures ∙ ap bounded_of c.on_spans.ensures)

@@ -10,11 +10,20 @@ pub raise-requires : goal.raise-requires
 raise-requires c = let p = c.requires in
     let e = c.extra.ensures in
     let small = extra-small c.args.away c.args.g p.g_nonzero p.g_bound in
-    (p.figures, (omega arith, (omega arith, rw mul-one (omega arith))))
+    record {
+      figures = p.figures;
+      f_bound = omega arith;
+      c_bound = omega arith;
+      c_bound_2 = rw mul-one (omega arith);
+    }
 
 pub lower-requires : goal.lower-requires
 lower-requires c = let q = c.requires in
-    (c.raise.ensures.figures_2, (q.g_nonzero, q.g_bound))
+    record {
+      figures = c.raise.ensures.figures_2;
+      g_nonzero = q.g_nonzero;
+      g_bound = q.g_bound;
+    }
 
 pub returns-clause-figures_2 : goal.returns-clause-figures_2
 returns-clause-figures_2 c = c.lower.ensures.figures_2

@@ -13,10 +13,13 @@ loop-left-init c = (c.requires.figures, refl, refl)
 
 pub raise-requires : goal.raise-requires
 raise-requires c = let i = c.loop-left.invariant in
-    let t = c.taken-some.ensures in (
-      i.0,
-      (rw c.power.ensures (pow_mono t.1.0), (omega arith, rw (c.power.ensures, i.1) (doubling-fits _ _ _ _ t.0 (rw i.2 c.requires.k_bound)))),
-    )
+    let t = c.taken-some.ensures in
+    record {
+      figures = i.0;
+      f_bound = rw c.power.ensures (pow_mono t.1.0);
+      c_bound = omega arith;
+      c_bound_2 = rw (c.power.ensures, i.1) (doubling-fits _ _ _ _ t.0 (rw i.2 c.requires.k_bound));
+    }
 
 pub loop-left-smaller : goal.loop-left-smaller
 loop-left-smaller c = omega (arith, c.taken-some.ensures.result_nonzero c.loop-left-test.true)
@@ -32,5 +35,8 @@ pub shape_of-run : goal.shape_of-run
 shape_of-run c = c.loop-left.invariant.1
 
 pub returns : goal.returns
-returns c = let e : c.loop-left.left ≡ 0 = omega (arith, c.loop-left-test.false) in
-    (c.loop-left.invariant.0, sym (mul-one _) ∙ rw e at c.loop-left.invariant.2)
+returns c = let e : c.loop-left.false ≡ 0 = omega (arith, c.loop-left-test.false) in
+    record {
+      figures_2 = c.loop-left.invariant.0;
+      run_after = sym (mul-one _) ∙ rw e at c.loop-left.invariant.2;
+    }

@@ -14,7 +14,12 @@ loop-left-init c = (c.requires.figures, refl, omega arith, refl)
 pub divide-requires : goal.divide-requires
 divide-requires c = let i = c.loop-left.invariant in
     let t = c.taken-some.ensures in
-    (i.0, (rw c.power.ensures (pow_pos _), (rw c.power.ensures (pow_mono t.1.0), rw i.1 (omega (arith, c.requires.run_bound)))))
+    record {
+      figures = i.0;
+      g_nonzero = rw c.power.ensures (pow_pos _);
+      g_bound = rw c.power.ensures (pow_mono t.1.0);
+      run_bound = rw i.1 (omega (arith, c.requires.run_bound));
+    }
 
 pub loop-left-smaller : goal.loop-left-smaller
 loop-left-smaller c = omega (arith, c.taken-some.ensures.result_nonzero c.loop-left-test.true)
@@ -31,5 +36,8 @@ pub shape_of-run : goal.shape_of-run
 shape_of-run c = c.loop-left.invariant.1
 
 pub returns : goal.returns
-returns c = let e : c.loop-left.left ≡ 0 = omega (arith, c.loop-left-test.false) in
-    (c.loop-left.invariant.0, sym (whole-one _ _) ∙ rw e at c.loop-left.invariant.3)
+returns c = let e : c.loop-left.false ≡ 0 = omega (arith, c.loop-left-test.false) in
+    record {
+      figures_2 = c.loop-left.invariant.0;
+      run_after = sym (whole-one _ _) ∙ rw e at c.loop-left.invariant.3;
+    }

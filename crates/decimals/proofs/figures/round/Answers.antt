@@ -7,22 +7,31 @@ use Rattle.decimals.proofs.figures.round.Goals as goal
 
 pub raise-requires : goal.raise-requires
 raise-requires c = let p = c.requires in
-    (p.figures, (omega arith, (omega arith, room-first _ _ _ p.run_value p.run_len p.q_bound)))
+    record {
+      figures = p.figures;
+      f_bound = omega arith;
+      c_bound = omega arith;
+      c_bound_2 = room-first _ _ _ p.run_value p.run_len p.q_bound;
+    }
 
 pub raise-requires-2 : goal.raise-requires-2
 raise-requires-2 c = let p = c.requires in
     let r = c.raise.ensures in
-    (r.0, (omega arith, (omega arith, room-billion _ _ _ _ p.run_value r.1 (c.raise.auto.0 ∙ p.run_len) p.q_bound)))
+    record {
+      figures = r.0;
+      f_bound = omega arith;
+      c_bound = omega arith;
+      c_bound_2 = room-billion _ _ _ _ p.run_value r.1 (c.raise.auto.0 ∙ p.run_len) p.q_bound;
+    }
 
 pub returns : goal.returns
-returns c = let s = c.scale.ensures in (
-      s.0,
-      (
-        s.1.0
+returns c = let s = c.scale.ensures in
+    record {
+      figures_2 = s.0;
+      run_after = s.1.0
             ∙ rw
             (billions
             _ _ _ _ _ c.requires.run_value
-            c.raise.ensures.run_after c.raise-2.ensures.run_after),
-        s.1.1,
-      ),
-    )
+            c.raise.ensures.run_after c.raise-2.ensures.run_after);
+      run_bound = s.1.1;
+    }

@@ -14,7 +14,11 @@ halve-requires-clause-run_bound c = room-down _ _ c.requires.run_len c.requires.
 
 pub returns-then-j-lt1074 : goal.returns-then-j-lt1074
 returns-then-j-lt1074 c = let h = c.halve.ensures in
-    (h.0, (h.1 ∙ scaled-down 1074 _ _ _ (omega arith), rw h.1 (small-down _ _ (whole_le _ _ _ (pow_pos _)) c.requires.run_bound)))
+    record {
+      figures_2 = h.0;
+      run_after = h.1 ∙ scaled-down 1074 _ _ _ (omega arith);
+      run_bound_2 = rw h.1 (small-down _ _ (whole_le _ _ _ (pow_pos _)) c.requires.run_bound);
+    }
 
 pub double-requires-clause-figures : goal.double-requires-clause-figures
 double-requires-clause-figures c = c.requires.figures
@@ -24,4 +28,8 @@ double-requires-clause-k_bound c = room-up _ _ c.requires.run_len (small-up _ _ 
 
 pub returns : goal.returns
 returns c = let d = c.double.ensures in
-    (d.0, (d.1 ∙ scaled-up 1074 _ _ _ (omega arith), rw d.1 (small-up _ _ c.requires.run_bound (omega arith))))
+    record {
+      figures_2 = d.0;
+      run_after = d.1 ∙ scaled-up 1074 _ _ _ (omega arith);
+      run_bound_2 = rw d.1 (small-up _ _ c.requires.run_bound (omega arith));
+    }

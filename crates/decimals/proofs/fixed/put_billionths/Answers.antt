@@ -16,7 +16,11 @@ put_figures-requires c = let q = c.requires in
     let m = c.put_minus-start.ensures.upper_bound in
     let room = q.at_in_bounds in
     let k = c.put_minus-start.auto.0 in
-    (q.figures, (omega arith, rw q.run_len (omega arith)))
+    record {
+      figures = q.figures;
+      k_in_bounds = omega arith;
+      k_in_bounds_2 = rw q.run_len (omega arith);
+    }
 
 pub overflow_add-point : goal.overflow_add-point
 overflow_add-point c = let few = (let ahead-few' : c.ahead-w.result ≤ 309 = let few = counted-few (let counted' : Counted (number c.args.run.now) c.count-n.result = let e = c.count-n.ensures in record { under = e.1.0; «from» = e.1.1 } in counted') c.requires.run_bound in
@@ -51,7 +55,11 @@ put_figures-requires-2 c = let q = c.requires in
     let room = q.at_in_bounds in
     let k = c.put_minus-start.auto.0 in
     let k2 = c.put_figures.auto.0 in
-    (q.figures, (rw length-set (omega arith), rw q.run_len (omega arith)))
+    record {
+      figures = q.figures;
+      k_in_bounds = rw length-set (omega arith);
+      k_in_bounds_2 = rw q.run_len (omega arith);
+    }
 
 pub overflow_add-result : goal.overflow_add-result
 overflow_add-result c = let few = (let ahead-few' : c.ahead-w.result ≤ 309 = let few = counted-few (let counted' : Counted (number c.args.run.now) c.count-n.result = let e = c.count-n.ensures in record { under = e.1.0; «from» = e.1.1 } in counted') c.requires.run_bound in
@@ -82,4 +90,8 @@ returns c = let a = c.args in
     (c.ahead-w.ensures ∙ wide) (let ahead-few' : c.ahead-w.result ≤ 309 = let few = counted-few (let counted' : Counted (number c.args.run.now) c.count-n.result = let e = c.count-n.ensures in record { under = e.1.0; «from» = e.1.1 } in counted') c.requires.run_bound in
     rw c.ahead-w.ensures (ahead_small _ few) in ahead-few')
     c.put_figures.ensures (c.put_figures-2.ensures ∙ rw div-one) in
-    (r.0, (r.1, r.2))
+    record {
+      out_after = r.0;
+      value = r.1;
+      upper_bound = r.2;
+    }

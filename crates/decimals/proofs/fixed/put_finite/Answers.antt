@@ -6,9 +6,19 @@ use Rattle.decimals.proofs.fixed.put_finite.Goals as goal
 
 pub round-requires : goal.round-requires
 round-requires c = let p = c.requires in
-    (zeros-figures 330, (refl, (number-zeros 330, (p.q_bound, p.j_bound))))
+    record {
+      figures = zeros-figures 330;
+      run_len = refl;
+      run_value = number-zeros 330;
+      q_bound = p.q_bound;
+      j_bound = p.j_bound;
+    }
 
 pub returns : goal.returns
 returns c = let p = c.put_billionths.ensures in
     let e = c.round.ensures.run_after in
-    (p.0 ∙ rw e, (p.1.0 ∙ rw e, p.1.1))
+    record {
+      out_after = p.0 ∙ rw e;
+      value = p.1.0 ∙ rw e;
+      upper_bound = p.1.1;
+    }

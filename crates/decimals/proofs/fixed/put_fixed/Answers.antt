@@ -9,15 +9,16 @@ use Rattle.decimals.proofs.Patterns.{nan_is, inf-is, small_is, large_is}
 use Rattle.decimals.proofs.fixed.put_fixed.Goals as goal
 
 pub returns-then-size-gt9218868437227405312 : goal.returns-then-size-gt9218868437227405312
-returns-then-size-gt9218868437227405312 c = let a = c.args in
+returns-then-size-gt9218868437227405312 c = let all = let a = c.args in
     let good = c.well_formed in
     let fit : T (fits binary64 a.x) = subst T (sym good.1.1.1.0.1) tt in
     let f = nan_is a.up a.x fit _ c.bits_of-bits.ensures c.if-size-gt9218868437227405312.true in
     let w = c.put_word.ensures in
-    rw f (w.0, (w.1, omega arith))
+    rw f (w.0, (w.1, omega arith)) in
+    record { out_after = all.0; value = all.1.0; upper_bound = all.1.1 }
 
 pub returns-then-size-eq9218868437227405312 : goal.returns-then-size-eq9218868437227405312
-returns-then-size-eq9218868437227405312 c = let a = c.args in
+returns-then-size-eq9218868437227405312 c = let all = let a = c.args in
     let good = c.well_formed in
     let fit : T (fits binary64 a.x) = subst T (sym good.1.1.1.0.1) tt in
     let f =
@@ -29,24 +30,27 @@ returns-then-size-eq9218868437227405312 c = let a = c.args in
     let r =
     inf-stored
     a.out.now a.at (leb 0x8000000000000000 c.bits_of-bits.result) m.0 m.1.0 m.1.1 w.0 w.1 in
-    rw f (r.0, (r.1, r.2))
+    rw f (r.0, (r.1, r.2)) in
+    record { out_after = all.0; value = all.1.0; upper_bound = all.1.1 }
 
 pub returns-then-field-eq0 : goal.returns-then-field-eq0
-returns-then-field-eq0 c = let a = c.args in
+returns-then-field-eq0 c = let all = let a = c.args in
     let good = c.well_formed in
     let fit : T (fits binary64 a.x) = subst T (sym good.1.1.1.0.1) tt in
     let f =
     small_is
     a.up a.x fit _ c.bits_of-bits.ensures c.if-size-gt9218868437227405312.false
     c.if-size-eq9218868437227405312.false c.if-field-eq0.true in
-    rw f c.put_finite.ensures
+    rw f c.put_finite.ensures in
+    record { out_after = all.0; value = all.1.0; upper_bound = all.1.1 }
 
 pub returns : goal.returns
-returns c = let a = c.args in
+returns c = let all = let a = c.args in
     let good = c.well_formed in
     let fit : T (fits binary64 a.x) = subst T (sym good.1.1.1.0.1) tt in
     let f =
     large_is
     a.up a.x fit _ c.bits_of-bits.ensures c.if-size-gt9218868437227405312.false
     c.if-size-eq9218868437227405312.false c.if-field-eq0.false in
-    rw f c.put_finite-2.ensures
+    rw f c.put_finite-2.ensures in
+    record { out_after = all.0; value = all.1.0; upper_bound = all.1.1 }

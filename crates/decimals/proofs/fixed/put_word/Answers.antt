@@ -14,4 +14,8 @@ pub bounds-out-at-3 : goal.bounds-out-at-3
 bounds-out-at-3 c = simp length-set (omega arith)
 
 pub returns : goal.returns
-returns c = let two : c.args.at + 2 ≡ suc (suc c.args.at) = omega arith in (rw (add-one, two), refl)
+returns c = let two : c.args.at + 2 ≡ suc (suc c.args.at) = omega arith in
+    record {
+      out_after = rw (add-one, two);
+      value = refl;
+    }

@@ -20,7 +20,11 @@ overflow_add-at c = let room = (let has' : c.args.at + 17 ≤ length c.args.out.
 
 pub put_digits-requires : goal.put_digits-requires
 put_digits-requires c = let room = (let has' : c.args.at + 17 ≤ length c.args.out.now = leb-true _ _ (sym c.has_room.ensures ∙ c.if-has_room.true) in has') in
-    (omega arith, (omega arith, simp length-set (omega arith)))
+    record {
+      base_nonzero = omega arith;
+      base_bound = omega arith;
+      k_in_bounds = simp length-set (omega arith);
+    }
 
 pub overflow_add-result : goal.overflow_add-result
 overflow_add-result c = let room = (let has' : c.args.at + 17 ≤ length c.args.out.now = leb-true _ _ (sym c.has_room.ensures ∙ c.if-has_room.true) in has') in

@@ -21,4 +21,7 @@ pub returns : goal.returns
 returns c = let a = c.args in
     let l = c.loop-i in
     let e : l.i ≡ length a.text.now = omega arith in
-    (text-stored _ (sym (text-none l.out a.at l.i _ e) ∙ l.invariant.2) (omega arith), omega arith)
+    record {
+      stored = text-stored _ (sym (text-none l.out a.at l.i _ e) ∙ l.invariant.2) (omega arith);
+      upper_bound = omega arith;
+    }

@@ -12,4 +12,8 @@ unfolding decimal
 returns c = let a = c.args in
     let w = c.width-w.ensures in
     let long : length (digits 10 (width 19 a.n) a.n) ≡ width 19 a.n = length_digits 10 _ _ in
-    (c.put_digits.ensures ∙ rw w.0, (omega arith, omega arith))
+    record {
+      out_after = c.put_digits.ensures ∙ rw w.0;
+      value = omega arith;
+      upper_bound = omega arith;
+    }

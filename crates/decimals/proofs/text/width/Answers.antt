@@ -15,4 +15,8 @@ pub loop-rest-preserved : goal.loop-rest-preserved
 loop-rest-preserved c = counting-step c.loop-rest.invariant c.loop-rest-test.true
 
 pub returns : goal.returns
-returns c = let inv = c.loop-rest.invariant in (counting-end inv c.loop-rest-test.false, omega (arith, inv.spent))
+returns c = let inv = c.loop-rest.invariant in
+    record {
+      value = counting-end inv c.loop-rest-test.false;
+      upper_bound = omega (arith, inv.spent);
+    }

@@ -16,4 +16,8 @@ returns-then-part-parts-clause-upper_bound c = c.if-part-parts.true
 
 pub returns : goal.returns
 unfolding part_of
-returns c = let h = c.requires in (rw (le-ltb _ _ c.if-part-parts.false) refl, omega arith)
+returns c = let h = c.requires in
+    record {
+      value = rw (le-ltb _ _ c.if-part-parts.false) refl;
+      upper_bound = omega arith;
+    }

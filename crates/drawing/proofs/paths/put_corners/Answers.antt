@@ -10,4 +10,7 @@ returns c = let a = c.put_number-a.ensures in
     let b = c.put_number-b.ensures in
     let d = c.put_number-c.ensures in
     let e = c.put_number.ensures in
-    (both_stored (a.roomy (search rules)) (both_stored (b.roomy (search rules)) (both_stored (d.roomy (search rules)) (e.roomy (search rules)))), omega arith)
+    record {
+      stored = both_stored (a.roomy (search rules)) (both_stored (b.roomy (search rules)) (both_stored (d.roomy (search rules)) (e.roomy (search rules))));
+      upper_bound = omega arith;
+    }

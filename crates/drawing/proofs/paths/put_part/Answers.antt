@@ -10,4 +10,7 @@ pub returns : goal.returns
 unfolding label ascii
 returns c = let a = c.put_label-next.ensures in
     let b = c.put_label.ensures in
-    (both_stored (a.roomy (search rules)) (b.roomy (search rules)), search rules)
+    record {
+      stored = both_stored (a.roomy (search rules)) (b.roomy (search rules));
+      upper_bound = search rules;
+    }

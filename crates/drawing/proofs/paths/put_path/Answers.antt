@@ -16,4 +16,7 @@ returns c = let a = c.put_part-a.ensures in
       c.hi.ensures,
       c.hi-2.ensures,
     ) at c.put_sides.ensures in
-    (both_stored a.0 (both_stored (b.roomy (search rules)) sides.0), search rules)
+    record {
+      stored = both_stored a.0 (both_stored (b.roomy (search rules)) sides.0);
+      upper_bound = search rules;
+    }

@@ -11,4 +11,7 @@ unfolding refused_text part_text label ascii
 returns c = let a = c.put_part-a.ensures in
     let b = c.put_label-b.ensures in
     let d = c.put_text.ensures in
-    (both_stored a.0 (both_stored (b.roomy (search rules)) (d.roomy (search rules))), search rules)
+    record {
+      stored = both_stored a.0 (both_stored (b.roomy (search rules)) (d.roomy (search rules)));
+      upper_bound = search rules;
+    }

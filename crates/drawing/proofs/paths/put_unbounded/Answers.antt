@@ -10,4 +10,7 @@ pub returns : goal.returns
 unfolding unbounded_text part_text label ascii
 returns c = let a = c.put_part-a.ensures in
     let b = c.put_text.ensures in
-    (both_stored a.0 (b.roomy (search rules)), search rules)
+    record {
+      stored = both_stored a.0 (b.roomy (search rules));
+      upper_bound = search rules;
+    }

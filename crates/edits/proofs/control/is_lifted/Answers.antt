@@ -18,10 +18,10 @@ returns-then-not-is_finite-2 c = simp (sym c.is_finite.ensures ∙ c.if-not-is_f
 pub returns-then-not-is_finite-3 : goal.returns-then-not-is_finite-3
 unfolding is_lifted
 returns-then-not-is_finite-3 c = simp (
-      sym c.is_finite.ensures ∙ c.if-not-is_finite.false,
-      sym c.is_finite-2.ensures ∙ c.if-not-is_finite-2.false,
-      sym c.is_finite-3.ensures ∙ c.if-not-is_finite-3.true,
-    )
+  sym c.is_finite.ensures ∙ c.if-not-is_finite.false,
+  sym c.is_finite-2.ensures ∙ c.if-not-is_finite-2.false,
+  sym c.is_finite-3.ensures ∙ c.if-not-is_finite-3.true,
+)
 
 pub returns : goal.returns
 unfolding is_lifted of_bits

@@ -4,7 +4,11 @@ use Rattle.edits.proofs.IntoRun.{curve-in}
 use Rattle.edits.proofs.lay.lay_into.Goals as goal
 
 pub lay_rows-requires : goal.lay_rows-requires
-lay_rows-requires c = let q = c.requires.points_len_bound in let x = q.0 in let y = q.1 in (c.requires.points_in_bounds, omega arith)
+lay_rows-requires c = let q = c.requires.points_len_bound in let x = q.0 in let y = q.1 in
+    record {
+      points_in_bounds = c.requires.points_in_bounds;
+      points_in_bounds_2 = omega arith;
+    }
 
 pub lay_knots-requires : goal.lay_knots-requires
 lay_knots-requires c = let q = c.requires.points_len_bound in let y = q.1 in let w = c.work-1.given in omega arith

@@ -28,8 +28,9 @@ pub shape_of-weights : goal.shape_of-weights
 shape_of-weights c = c.loop-i.invariant.long-weights
 
 pub returns : goal.returns
-returns c = let a = c.args in
+returns c = let both = let a = c.args in
     let e = c.requires.points_len in
     let s = c.loop-i.invariant.long-points in
     let t = c.loop-i-test.false in
-    take-end a.rational a.n a.rows.now a.points.now a.weights.now _ _ c.loop-i.i c.loop-i.invariant (omega arith) e
+    take-end a.rational a.n a.rows.now a.points.now a.weights.now _ _ c.loop-i.i c.loop-i.invariant (omega arith) e in
+    record { points_after = both.0; weights_after = both.1 }

@@ -12,11 +12,18 @@ pub returns-then-n-work : goal.returns-then-n-work
 returns-then-n-work c = let a = c.args in
     let t = c.if-n-work.true in
     let e = lift-short a.scale a.n a.rational a.work.now (omega arith) in
-    (c.refuse.ensures ∙ e, lift-zeros a.scale a.n a.rational a.work.now _ e (λ z. omega arith) _ c.clear.ensures)
+    record {
+      value = c.refuse.ensures ∙ e;
+      work_after = lift-zeros a.scale a.n a.rational a.work.now _ e (λ z. omega arith) _ c.clear.ensures;
+    }
 
 pub returns-then-n-eq0 : goal.returns-then-n-eq0
 returns-then-n-eq0 c = let a = c.args in
-    let t = c.if-n-eq0.true in let o = lift-none-at a.scale a.n a.rational a.work.now t in (c.refuse-then-n-eq0.ensures ∙ o.0, o.1)
+    let t = c.if-n-eq0.true in let o = lift-none-at a.scale a.n a.rational a.work.now t in
+    record {
+      value = c.refuse-then-n-eq0.ensures ∙ o.0;
+      work_after = o.1;
+    }
 
 pub returns-then-not-lift_rows : goal.returns-then-not-lift_rows
 returns-then-not-lift_rows c = let a = c.args in
@@ -29,29 +36,31 @@ returns-then-not-lift_rows c = let a = c.args in
     (c.vector_of-o.ensures
     ∙ ap vector_of c.row_at.ensures)
     c.lift_rows.ensures)
-    c.if-not-lift_rows.true in (
-      c.refuse-then-not-lift_rows.ensures ∙ e,
-      lift-zeros
+    c.if-not-lift_rows.true in
+    record {
+      value = c.refuse-then-not-lift_rows.ensures ∙ e;
+      work_after = lift-zeros
           a.scale a.n a.rational a.work.now _ e (λ z. omega arith) _
-          (c.clear-then-not-lift_rows.ensures ∙ ap zeros c.work-2-1.given),
-    )
+          (c.clear-then-not-lift_rows.ensures ∙ ap zeros c.work-2-1.given);
+    }
 
 pub returns : goal.returns
 returns c = let a = c.args in
-    let t = c.if-n-work.false in (
-      c.refuse-2.ensures
+    let t = c.if-n-work.false in
+    record {
+      value = c.refuse-2.ensures
           ∙ lift-none
           a.scale a.n a.rational a.work.now (omega arith) _ _
           (lift-moved
           a.scale a.n a.rational a.work.now _ _ _ (positive c.if-n-eq0.false)
           (c.vector_of-o.ensures ∙ ap vector_of c.row_at.ensures)
           c.lift_rows.ensures)
-          c.if-not-lift_rows.false,
-      lift-run
+          c.if-not-lift_rows.false;
+      work_after = lift-run
           a.scale a.n a.rational a.work.now (omega arith) _ _
           (lift-moved
           a.scale a.n a.rational a.work.now _ _ _ (positive c.if-n-eq0.false)
           (c.vector_of-o.ensures ∙ ap vector_of c.row_at.ensures)
           c.lift_rows.ensures)
-          c.if-not-lift_rows.false c.work-2-1.given,
-    )
+          c.if-not-lift_rows.false c.work-2-1.given;
+    }

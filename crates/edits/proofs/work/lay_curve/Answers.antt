@@ -14,20 +14,21 @@ pub shape_of-work-then-short-ne0 : goal.shape_of-work-then-short-ne0
 shape_of-work-then-short-ne0 c = c.work-1.given
 
 pub returns-then-short-ne0 : goal.returns-then-short-ne0
-returns-then-short-ne0 c = let a = c.args in
+returns-then-short-ne0 c = let both = let a = c.args in
     ends-refused
     a.a a.rational a.work.now _ _ (lay_outcome a.knots.now a.points.now a.rational a.weights.now a.a (length a.work.now))
     (lay-short
     a.knots.now a.points.now a.rational a.weights.now a.a (length a.work.now) _
     (c.room_refusal-short.ensures ∙ ap (room_refusal (length a.weights.now))
     c.given_count.ensures) c.if-short-ne0.true)
-    c.clear.ensures
+    c.clear.ensures in
+    record { value = both.0; work_after = both.1 }
 
 pub shape_of-work-then-room-ne0 : goal.shape_of-work-then-room-ne0
 shape_of-work-then-room-ne0 c = c.work-then-room-ne0-1.given
 
 pub returns-then-room-ne0 : goal.returns-then-room-ne0
-returns-then-room-ne0 c = let a = c.args in
+returns-then-room-ne0 c = let both = let a = c.args in
     ends-refused
     a.a a.rational a.work.now _ _ (lay_outcome a.knots.now a.points.now a.rational a.weights.now a.a (length a.work.now))
     (lay-room
@@ -35,14 +36,16 @@ returns-then-room-ne0 c = let a = c.args in
     (c.room_refusal-short.ensures ∙ ap (room_refusal (length a.weights.now))
     c.given_count.ensures) c.if-short-ne0.false
     c.work_room-room.ensures c.if-room-ne0.true)
-    c.clear-then-room-ne0.ensures
+    c.clear-then-room-ne0.ensures in
+    record { value = both.0; work_after = both.1 }
 
 pub lay_into-requires : goal.lay_into-requires
 lay_into-requires c = let a = c.args in
     let o =
     work-open
-    (length a.points.now / 3) (length a.knots.now) a.a _ (sym (ap (λ (r : Refusal). r.number) c.work_room-room.ensures) ∙ c.if-room-ne0.false) in (
-      given-room
+    (length a.points.now / 3) (length a.knots.now) a.a _ (sym (ap (λ (r : Refusal). r.number) c.work_room-room.ensures) ∙ c.if-room-ne0.false) in
+    record {
+      points_in_bounds = given-room
           a.rational _ _
           (room_open
           _ _
@@ -51,15 +54,15 @@ lay_into-requires c = let a = c.args in
           (λ (r : Refusal). r.number)
           (c.room_refusal-short.ensures ∙ ap (room_refusal (length a.weights.now))
           c.given_count.ensures))
-          ∙ c.if-short-ne0.false)),
-      (o.0, o.1),
-    )
+          ∙ c.if-short-ne0.false));
+      points_len_bound = (o.0, o.1);
+    }
 
 pub shape_of-work : goal.shape_of-work
 shape_of-work c = c.work-2-1.given
 
 pub returns : goal.returns
-returns c = let a = c.args in
+returns c = let both = let a = c.args in
     let o =
     work-open
     (length a.points.now / 3) (length a.knots.now) a.a _
@@ -76,4 +79,5 @@ returns c = let a = c.args in
     c.refuse.ensures
     (laid-is
     a.a a.work.now a.knots.now a.points.now a.rational a.weights.now _ c.work-2-1.given o.0 o.1
-    c.lay_into.ensures)
+    c.lay_into.ensures) in
+    record { value = both.0; work_after = both.1 }

@@ -21,12 +21,12 @@ returns-then-r-ne0-clause-value c = c.take_refusal-r.ensures
 
 pub returns-then-r-ne0-clause-knots_after : goal.returns-then-r-ne0-clause-knots_after
 returns-then-r-ne0-clause-knots_after c = left-refused
-        _ _ _ _ c.if-r-ne0.true
-        c.clear.ensures
+    _ _ _ _ c.if-r-ne0.true
+    c.clear.ensures
 
 pub returns-then-r-ne0-clause-points_after : goal.returns-then-r-ne0-clause-points_after
 returns-then-r-ne0-clause-points_after c = left-refused
-          _ _ _ _ c.if-r-ne0.true c.clear-then-r-ne0.ensures
+    _ _ _ _ c.if-r-ne0.true c.clear-then-r-ne0.ensures
 
 pub returns-then-r-ne0-clause-weights_after : goal.returns-then-r-ne0-clause-weights_after
 returns-then-r-ne0-clause-weights_after c = left-refused _ _ _ _ c.if-r-ne0.true c.clear-then-r-ne0-2.ensures
@@ -39,7 +39,13 @@ store_curve-requires c = let a = c.args in
     (sym (ap (λ (r : Refusal). r.number) c.take_refusal-r.ensures) ∙ c.if-r-ne0.false) in
     let x = o.0 in
     let y = o.1.0 in
-    let q = out-open a.p a.m a.rational (length a.knots.now) (length a.points.now) (length a.weights.now) o.1.1 in ((x, omega arith), (q.knots, (q.points, q.weights)))
+    let q = out-open a.p a.m a.rational (length a.knots.now) (length a.points.now) (length a.weights.now) o.1.1 in
+    record {
+      m_bound = (x, omega arith);
+      p_in_bounds = q.knots;
+      m_in_bounds = q.points;
+      m_in_bounds_2 = q.weights;
+    }
 
 pub shape_of-knots : goal.shape_of-knots
 shape_of-knots c = c.knots-2-1.given
@@ -58,8 +64,8 @@ returns-clause-knots_after c = left-answered _ _ _ _ c.if-r-ne0.false c.store_cu
 
 pub returns-clause-points_after : goal.returns-clause-points_after
 returns-clause-points_after c = left-answered
-          _ _ _ _ c.if-r-ne0.false c.store_curve.ensures.points_after
+    _ _ _ _ c.if-r-ne0.false c.store_curve.ensures.points_after
 
 pub returns-clause-weights_after : goal.returns-clause-weights_after
 returns-clause-weights_after c = left-answered
-          _ _ _ _ c.if-r-ne0.false c.store_curve.ensures.weights_after
+    _ _ _ _ c.if-r-ne0.false c.store_curve.ensures.weights_after

@@ -31,10 +31,11 @@ returns-then-refusal-ne0 c = let a = c.args in
     c.out_points-2-1.given) (k.2 ∙ ap zeros c.out_weights-2-1.given) (k.3 ∙ ap zeros c.scratch-2-1.given)
 
 pub elevated_count-count-requires : goal.elevated_count-count-requires
-elevated_count-count-requires c = let a = c.args in
+elevated_count-count-requires c = let all = let a = c.args in
     counted_ready a.degree a.knots.now a.points.now a.rational a.weights.now a.raised (length a.out_knots.now) (length a.out_points.now)
     (length a.out_weights.now) (length a.scratch.now) _
-    c.elevate_start-early.ensures c.if-early-ne0.false
+    c.elevate_start-early.ensures c.if-early-ne0.false in
+    record { p_lt_n = all.0; e_bound = all.1 }
 
 pub returns : goal.returns
 returns c = let a = c.args in

@@ -7,10 +7,11 @@ use Rattle.elevation.proofs.Outcomes.{copy-ready, copied, raised-up, start-ready
 use Rattle.elevation.proofs.elevate.form.Goals as goal
 
 pub copy_curve-requires : goal.copy_curve-requires
-copy_curve-requires c = let a = c.args in
+copy_curve-requires c = let all = let a = c.args in
     copy-ready
     a.degree a.knots.now a.points.now a.rational a.weights.now a.raised (length a.out_knots.now) (length a.out_points.now) (length a.out_weights.now)
-    (length a.work.now) c.requires c.if-raised-degree.true
+    (length a.work.now) c.requires c.if-raised-degree.true in
+    record { knots_in_bounds = all.0; weights_in_bounds = all.1 }
 
 pub returns-then-raised-degree : goal.returns-then-raised-degree
 returns-then-raised-degree c = let a = c.args in
@@ -27,7 +28,11 @@ raise_into-requires c = let a = c.args in
     (length a.work.now) _ _ _ c.clear.ensures
     c.clear-2.ensures c.clear-3.ensures
     c.requires in
-    (s.0, (c.if-raised-degree.false, s.1))
+    record {
+      work_value = s.0;
+      fact = c.if-raised-degree.false;
+      out_knots_value = s.1;
+    }
 
 pub returns : goal.returns
 returns c = let a = c.args in

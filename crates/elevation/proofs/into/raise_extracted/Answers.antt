@@ -20,7 +20,11 @@ returns-then-lifted-ne0 c = let a = c.args in
 
 pub elevated_count-count-requires : goal.elevated_count-count-requires
 elevated_count-count-requires c = let q = c.requires in
-    let u = q.p_lt_n.4 in let l = q.p_lt_n.1 in ((q.p_lt_n.0, omega arith, q.p_lt_n.2), (λ h. u))
+    let u = q.p_lt_n.4 in let l = q.p_lt_n.1 in
+    record {
+      p_lt_n = (q.p_lt_n.0, omega arith, q.p_lt_n.2);
+      e_bound = (λ h. u);
+    }
 
 pub join-requires : goal.join-requires
 join-requires c = let a = c.args in
@@ -28,19 +32,15 @@ join-requires c = let a = c.args in
     let w = c.elevated_count-count.ensures ∙ elevated-is a.p a.e a.n a.knots.now q.p_lt_n.3 in
     let k = q.m_value.0 in
     let l = q.m_value.1 in
-    let d = q.p_lt_n.3 in (
-      (q.p_lt_n.0, q.p_lt_n.1, omega arith, q.p_lt_n.4),
-      (
-        w,
-        (
-          omega arith,
-          (
-            subst (λ (x : ℕ). x + a.e + 1 ≤ length a.out_knots.now) (sym w) q.e_in_bounds,
-            (subst (λ (x : ℕ). x * 3 ≤ length a.out_points.now) (sym w) q.knots_in_bounds, subst (λ (x : ℕ). given a.rational x ≤ length a.out_weights.now) (sym w) q.knots_in_bounds_2),
-          ),
-        ),
-      ),
-    )
+    let d = q.p_lt_n.3 in
+    record {
+      p_lt_n = (q.p_lt_n.0, q.p_lt_n.1, omega arith, q.p_lt_n.4);
+      count_value = w;
+      knots_in_bounds = omega arith;
+      e_in_bounds = subst (λ (x : ℕ). x + a.e + 1 ≤ length a.out_knots.now) (sym w) q.e_in_bounds;
+      count_in_bounds = subst (λ (x : ℕ). x * 3 ≤ length a.out_points.now) (sym w) q.knots_in_bounds;
+      count_in_bounds_2 = subst (λ (x : ℕ). given a.rational x ≤ length a.out_weights.now) (sym w) q.knots_in_bounds_2;
+    }
 
 pub returns : goal.returns
 returns c = let a = c.args in

@@ -62,7 +62,7 @@ returns-then-laid-ne0 c = let a = c.args in
     c.lay_curve-laid.ensures.value))
 
 pub extract-refusal-requires : goal.extract-refusal-requires
-extract-refusal-requires c = let a = c.args in
+extract-refusal-requires c = let all = let a = c.args in
     extract-ready
     a.degree a.knots.now a.points.now a.rational a.weights.now a.raised (length a.out_knots.now) (length a.out_points.now) (length a.out_weights.now)
     (length a.work.now) c.requires.work_value
@@ -70,7 +70,8 @@ extract-refusal-requires c = let a = c.args in
     c.count_breaks-met.ensures
     ((a.degree + 1) * (c.count_breaks-met.result.breaks + 1)) refl a.work.now refl _
     c.lay_curve-laid.ensures.work_after
-    _ (omega arith)
+    _ (omega arith) in
+    record { p_lt_n = all.0; valid_knots = all.1.0; knots_bound = all.1.1.0; p_in_bounds = all.1.1.1 }
 
 pub returns-then-refusal-ne0 : goal.returns-then-refusal-ne0
 returns-then-refusal-ne0 c = let a = c.args in
@@ -85,7 +86,7 @@ returns-then-refusal-ne0 c = let a = c.args in
     c.lay_curve-laid.ensures.work_after _ _ c.extract-refusal.ensures c.if-refusal-ne0.true _ _ _
 
 pub raise_extracted-requires : goal.raise_extracted-requires
-raise_extracted-requires c = let b = c.count_breaks-met in
+raise_extracted-requires c = let all = let b = c.count_breaks-met in
     let a = c.args in
     let q = c.requires in
     raise-ready
@@ -95,7 +96,8 @@ raise_extracted-requires c = let b = c.count_breaks-met in
     b.result.full
     b.ensures
     ((a.degree + 1) * (b.result.breaks + 1))
-    refl a.work.now refl _ c.lay_curve-laid.ensures.work_after q.fact _ (omega arith)
+    refl a.work.now refl _ c.lay_curve-laid.ensures.work_after q.fact _ (omega arith) in
+    record { p_lt_n = all.0; m_value = all.1.0; e_in_bounds = all.1.1.0; knots_in_bounds = all.1.1.1.0; knots_in_bounds_2 = all.1.1.1.1 }
 
 pub returns : goal.returns
 returns c = let a = c.args in

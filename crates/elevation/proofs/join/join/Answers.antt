@@ -14,16 +14,23 @@ use Rattle.elevation.proofs.join.join.Goals as goal
 pub put_knots-requires : goal.put_knots-requires
 put_knots-requires c = let a = c.args in
     let pr = c.requires in
-    let r = raised_long a.p a.e a.n a.knots.now (breaks_of a.p a.n a.knots.now) in let q = pr.count_value in let l = pr.e_in_bounds in ((pr.p_lt_n.0, pr.p_lt_n.1, pr.p_lt_n.3), omega arith)
+    let r = raised_long a.p a.e a.n a.knots.now (breaks_of a.p a.n a.knots.now) in let q = pr.count_value in let l = pr.e_in_bounds in
+    record {
+      p_lt_n = (pr.p_lt_n.0, pr.p_lt_n.1, pr.p_lt_n.3);
+      knots_in_bounds = omega arith;
+    }
 
 pub put_segments-requires : goal.put_segments-requires
 put_segments-requires c = let a = c.args in
     let pr = c.requires in
     let q = pr.count_value in
-    let l = pr.p_lt_n.1 in (
-      (pr.p_lt_n.0, omega arith, pr.p_lt_n.2, pr.p_lt_n.3),
-      (pr.knots_in_bounds, (subst (λ (x : ℕ). x * 3 ≤ length a.out_points.now) q pr.count_in_bounds, subst (λ (x : ℕ). given a.rational x ≤ length a.out_weights.now) q pr.count_in_bounds_2)),
-    )
+    let l = pr.p_lt_n.1 in
+    record {
+      p_lt_n = (pr.p_lt_n.0, omega arith, pr.p_lt_n.2, pr.p_lt_n.3);
+      knots_in_bounds = pr.knots_in_bounds;
+      knots_in_bounds_2 = subst (λ (x : ℕ). x * 3 ≤ length a.out_points.now) q pr.count_in_bounds;
+      knots_in_bounds_3 = subst (λ (x : ℕ). given a.rational x ≤ length a.out_weights.now) q pr.count_in_bounds_2;
+    }
 
 pub returns-then-not-put_segments : goal.returns-then-not-put_segments
 returns-then-not-put_segments c = let a = c.args in

@@ -12,7 +12,10 @@ fill-requires c = let a = c.args in
 pub put_breaks-at-requires : goal.put_breaks-at-requires
 put_breaks-at-requires c = let a = c.args in
     let q = c.requires in
-    ((q.p_lt_n.0, omega arith, q.p_lt_n.2), breaks-room a.p a.e a.n a.knots.now (breaks_of a.p a.n a.knots.now) a.out.now q.knots_in_bounds _ c.fill.ensures)
+    record {
+      p_lt_n = (q.p_lt_n.0, omega arith, q.p_lt_n.2);
+      knots_in_bounds = breaks-room a.p a.e a.n a.knots.now (breaks_of a.p a.n a.knots.now) a.out.now q.knots_in_bounds _ c.fill.ensures;
+    }
 
 pub fill-requires-2 : goal.fill-requires-2
 fill-requires-2 c = let a = c.args in

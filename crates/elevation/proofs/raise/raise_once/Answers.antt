@@ -9,7 +9,11 @@ loop-i-init c = raise-start c.args.d c.args.rows.now c.requires.d_in_bounds
 
 pub raise_at-q-requires : goal.raise_at-q-requires
 raise_at-q-requires c = let q = c.requires in
-    let U = c.loop-i.invariant.upto in let L = c.loop-i.invariant.long in let l = q.d_in_bounds in ((q.d_bound, omega arith, U), omega arith)
+    let U = c.loop-i.invariant.upto in let L = c.loop-i.invariant.long in let l = q.d_in_bounds in
+    record {
+      d_bound = (q.d_bound, omega arith, U);
+      i_in_bounds = omega arith;
+    }
 
 pub loop-i-preserved : goal.loop-i-preserved
 loop-i-preserved c = let a = c.args in

@@ -10,7 +10,11 @@ loop-d-init c = times-start c.args.p c.args.e c.args.rows.now c.requires.p_le_e.
 
 pub raise_once-requires : goal.raise_once-requires
 raise_once-requires c = let pr = c.requires in
-    let L = c.loop-d.invariant.holds.long in let q = pr.p_le_e.1 in let l = pr.e_in_bounds in (omega arith, omega arith)
+    let L = c.loop-d.invariant.holds.long in let q = pr.p_le_e.1 in let l = pr.e_in_bounds in
+    record {
+      d_bound = omega arith;
+      d_in_bounds = omega arith;
+    }
 
 pub loop-d-preserved : goal.loop-d-preserved
 loop-d-preserved c = let a = c.args in

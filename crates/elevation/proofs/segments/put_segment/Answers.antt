@@ -23,7 +23,12 @@ put_rows-requires c = let as₁ = c.args in
     let u = pr.p_le_e.1 in
     let a = c.bit_of-skipped.ensures in
     let m = c.bit_of.ensures in
-    let q = pr.full_in_bounds in (omega arith, (omega arith, subst (λ (x : ℕ). given as₁.rational (as₁.place + (as₁.e + x)) ≤ length as₁.weights.now) (sym m) pr.full_in_bounds_2))
+    let q = pr.full_in_bounds in
+    record {
+      m_in_bounds = omega arith;
+      m_in_bounds_2 = omega arith;
+      m_in_bounds_3 = subst (λ (x : ℕ). given as₁.rational (as₁.place + (as₁.e + x)) ≤ length as₁.weights.now) (sym m) pr.full_in_bounds_2;
+    }
 
 pub returns : goal.returns
 returns c = let a = c.args in

@@ -16,7 +16,13 @@ pub put_segment-requires : goal.put_segment-requires
 put_segment-requires c = let h = c.args in
     let w = c.requires in
     let q = first-room h.p h.e h.knots.now (breaks_of h.p h.n h.knots.now) h.rational in let a = q.0 in let b = q.1 in let d = q.2 in let x = w.knots_in_bounds in
-    let y = w.knots_in_bounds_2 in let z = w.knots_in_bounds_3 in ((w.p_lt_n.2, w.p_lt_n.3), (omega arith, (omega arith, omega arith)))
+    let y = w.knots_in_bounds_2 in let z = w.knots_in_bounds_3 in
+    record {
+      p_le_e = (w.p_lt_n.2, w.p_lt_n.3);
+      p_in_bounds = omega arith;
+      full_in_bounds = omega arith;
+      full_in_bounds_2 = omega arith;
+    }
 
 pub returns-then-not-put_segment : goal.returns-then-not-put_segment
 returns-then-not-put_segment c = let a = c.args in
@@ -61,23 +67,20 @@ put_segment-requires-in-loop-k c = let a = c.args in
     let d = c.loop-k in
     let h = c.put_segment in
     let z = c.points-1 in
-    let v = c.weights-1 in (
-      (b.p_lt_n.2, b.p_lt_n.3),
-      (
-        rest-rows a.p a.e a.n a.knots.now a.work.now a.o a.rational h.new.points
+    let v = c.weights-1 in
+    record {
+      p_le_e = (b.p_lt_n.2, b.p_lt_n.3);
+      p_in_bounds = rest-rows a.p a.e a.n a.knots.now a.work.now a.o a.rational h.new.points
             h.new.weights b.knots_in_bounds (let w = z.given in let y = b.knots_in_bounds_2 in omega arith) (let w = v.given in let y = b.knots_in_bounds_3 in omega arith) d.points
-            d.weights d.k d.j d.place d.invariant.1 d.invariant.0 c.loop-k-test.true _ c.is_full-full.ensures,
-        (
-          rest-points a.p a.e a.n a.knots.now a.work.now a.o a.rational h.new.points h.new.weights b.knots_in_bounds
+            d.weights d.k d.j d.place d.invariant.1 d.invariant.0 c.loop-k-test.true _ c.is_full-full.ensures;
+      full_in_bounds = rest-points a.p a.e a.n a.knots.now a.work.now a.o a.rational h.new.points h.new.weights b.knots_in_bounds
               (let w = z.given in let y = b.knots_in_bounds_2 in omega arith) (let w = v.given in let y = b.knots_in_bounds_3 in omega arith) d.points d.weights d.k d.j d.place d.invariant.1
-              d.invariant.0 c.loop-k-test.true _ c.is_full-full.ensures,
-          rest-weights a.p a.e a.n a.knots.now a.work.now a.o
+              d.invariant.0 c.loop-k-test.true _ c.is_full-full.ensures;
+      full_in_bounds_2 = rest-weights a.p a.e a.n a.knots.now a.work.now a.o
               a.rational h.new.points h.new.weights b.knots_in_bounds (let w = z.given in let y = b.knots_in_bounds_2 in omega arith) (let w = v.given in
               let y = b.knots_in_bounds_3 in omega arith) d.points d.weights d.k d.j d.place d.invariant.1 d.invariant.0 c.loop-k-test.true _
-              c.is_full-full.ensures,
-        ),
-      ),
-    )
+              c.is_full-full.ensures;
+    }
 
 pub returns-then-not-put_segment-2 : goal.returns-then-not-put_segment-2
 returns-then-not-put_segment-2 c = let a = c.args in

@@ -22,7 +22,10 @@ returns-then-is_high c = let a = c.args in
 pub elevated_count-count-requires : goal.elevated_count-count-requires
 elevated_count-count-requires c = let a = c.args in
     let q = c.requires in
-    ((q.0, q.1, q.2), (not-high a.p a.e (sym c.is_high.ensures ∙ c.if-is_high.false)))
+    record {
+      p_lt_n = (q.0, q.1, q.2);
+      e_bound = (not-high a.p a.e (sym c.is_high.ensures ∙ c.if-is_high.false));
+    }
 
 pub overflow_add-extracted-2 : goal.overflow_add-extracted-2
 overflow_add-extracted-2 c = let a = c.args in

@@ -7,7 +7,7 @@ use Rattle.doubles.specs.Run.{at}
 use Rattle.evaluate.proofs.controls.largest_in.Given as goal
 
 abbrev pub invariant-loop-j : goal.invariant-loop-j
-invariant-loop-j l = (l.j ≤ l.n) × (l.a ≡ largest_from l.m (λ l.j. at l.weights (l.first + l.j)) l.j)
+invariant-loop-j l = (l.j ≤ l.n) × (l.a ≡ largest_from l.m (λ k. at l.weights (l.first + k)) l.j)
 
 abbrev pub decreases-loop-j : goal.decreases-loop-j
 decreases-loop-j l = l.n - l.j

@@ -46,4 +46,7 @@ returns c = let a = c.args in
     let l = c.loop-j in
     let e : l.j ≡ a.p + 1 = omega arith in
     let row : ℕ → ℕ → Sums = λ k. row_sums false a.points.now a.rational a.weights.now a.scale a.first (cell a.width a.ders.now k) in
-    (subst (λ (i : ℕ). l.value ≡ row 0 i) e l.invariant.1, subst (λ (i : ℕ). l.slope ≡ row 1 i) e l.invariant.2)
+    record {
+      value_value = subst (λ (i : ℕ). l.value ≡ row 0 i) e l.invariant.1;
+      slope_value = subst (λ (i : ℕ). l.slope ≡ row 1 i) e l.invariant.2;
+    }

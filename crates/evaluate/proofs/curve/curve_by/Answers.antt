@@ -12,7 +12,11 @@ scale_at-scale-requires c = let q = c.requires in
 
 pub value_and_slope-s-requires : goal.value_and_slope-s-requires
 value_and_slope-s-requires c = let q = c.requires in
-    (omega arith, (omega arith, λ g. let h = q.span_in_bounds_2 g in omega arith))
+    record {
+      p_in_bounds = omega arith;
+      p_in_bounds_2 = omega arith;
+      p_in_bounds_3 = λ g. let h = q.span_in_bounds_2 g in omega arith;
+    }
 
 pub returns : goal.returns
 returns c = let a = c.args in

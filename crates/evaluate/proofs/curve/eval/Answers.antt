@@ -9,8 +9,9 @@ use Rattle.evaluate.proofs.curve.eval.Goals as goal
 
 pub eval_with-requires : goal.eval_with-requires
 unfolding eval_refusal parameter_refusal domain_refusal
-eval_with-requires c = let a = c.args in
-    eval-fits a.degree a.knots.now a.points.now a.rational a.weights.now refusing a.t _ c.eval_refusal-refusal.ensures
+eval_with-requires c = let all = let a = c.args in
+    eval-fits a.degree a.knots.now a.points.now a.rational a.weights.now refusing a.t _ c.eval_refusal-refusal.ensures in
+    record { degree_bound = all.0; weights_value = all.1 }
 
 pub returns : goal.returns
 unfolding eval_refusal parameter_refusal domain_refusal

@@ -12,15 +12,27 @@ scale_at-scale-requires c = let q = c.requires in
 
 pub row_sums-a-requires : goal.row_sums-a-requires
 row_sums-a-requires c = let q = c.requires in
-    (omega (arith, c.ders-1), (omega arith, λ g. let h = q.span_in_bounds_2 g in omega arith))
+    record {
+      p_in_bounds = omega (arith, c.ders-1);
+      p_in_bounds_2 = omega arith;
+      p_in_bounds_3 = λ g. let h = q.span_in_bounds_2 g in omega arith;
+    }
 
 pub row_sums-d-requires : goal.row_sums-d-requires
 row_sums-d-requires c = let q = c.requires in
-    (omega (arith, c.ders-1), (omega arith, λ g. let h = q.span_in_bounds_2 g in omega arith))
+    record {
+      p_in_bounds = omega (arith, c.ders-1);
+      p_in_bounds_2 = omega arith;
+      p_in_bounds_3 = λ g. let h = q.span_in_bounds_2 g in omega arith;
+    }
 
 pub row_sums-e-requires : goal.row_sums-e-requires
 row_sums-e-requires c = let q = c.requires in
-    (omega (arith, c.ders-1), (omega arith, λ g. let h = q.span_in_bounds_2 g in omega arith))
+    record {
+      p_in_bounds = omega (arith, c.ders-1);
+      p_in_bounds_2 = omega arith;
+      p_in_bounds_3 = λ g. let h = q.span_in_bounds_2 g in omega arith;
+    }
 
 pub shape_of-ders : goal.shape_of-ders
 shape_of-ders c = omega (arith, c.ders-1)

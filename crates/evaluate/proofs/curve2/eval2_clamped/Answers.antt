@@ -7,8 +7,9 @@ use Rattle.evaluate.proofs.Curves.{eval2-is}
 use Rattle.evaluate.proofs.curve2.eval2_clamped.Goals as goal
 
 pub eval2_with-requires : goal.eval2_with-requires
-eval2_with-requires c = let a = c.args in
-    eval-fits a.degree a.knots.now a.points.now a.rational a.weights.now clamping a.t _ c.eval_refusal-refusal.ensures
+eval2_with-requires c = let all = let a = c.args in
+    eval-fits a.degree a.knots.now a.points.now a.rational a.weights.now clamping a.t _ c.eval_refusal-refusal.ensures in
+    record { degree_bound = all.0; weights_value = all.1 }
 
 pub returns : goal.returns
 returns c = let a = c.args in

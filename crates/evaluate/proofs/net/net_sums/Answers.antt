@@ -35,7 +35,12 @@ pub net_row-s-requires : goal.net_row-s-requires
 net_row-s-requires c = let q = c.requires in
     let l = c.loop-k in
     let h = q.net_reach l.k (omega arith) in
-    (omega arith, (omega arith, (omega arith, (λ g. let w = q.net_reach_2 g l.k (omega arith) in omega arith))))
+    record {
+      j_bound = omega arith;
+      q_bound = omega arith;
+      q_in_bounds = omega arith;
+      q_in_bounds_2 = (λ g. let w = q.net_reach_2 g l.k (omega arith) in omega arith);
+    }
 
 pub loop-k-preserved : goal.loop-k-preserved
 loop-k-preserved c = let a = c.args in

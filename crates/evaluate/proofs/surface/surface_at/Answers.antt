@@ -12,7 +12,12 @@ use Rattle.evaluate.proofs.surface.surface_at.Goals as goal
 pub net_scale-scale-requires : goal.net_scale-scale-requires
 net_scale-scale-requires c = let q = c.requires in
     let f = c.ranges in
-    (q.p_bound, (q.q_bound, (q.net_reach_2, omega arith)))
+    record {
+      p_bound = q.p_bound;
+      q_bound = q.q_bound;
+      net_reach = q.net_reach_2;
+      p_bound_2 = omega arith;
+    }
 
 pub overflow_mul-corner : goal.overflow_mul-corner
 overflow_mul-corner c = let a = c.args in
@@ -35,17 +40,41 @@ point_at-o-requires c = let a = c.args in
 pub net_sums-c-requires : goal.net_sums-c-requires
 net_sums-c-requires c = let q = c.requires in
     let f = c.ranges in
-    (omega arith, (omega arith, (q.p_bound, (q.q_bound, (q.net_reach, (q.net_reach_2, omega arith))))))
+    record {
+      i_bound = omega arith;
+      j_bound = omega arith;
+      p_bound = q.p_bound;
+      q_bound = q.q_bound;
+      net_reach = q.net_reach;
+      net_reach_2 = q.net_reach_2;
+      p_bound_2 = omega arith;
+    }
 
 pub net_sums-d-requires : goal.net_sums-d-requires
 net_sums-d-requires c = let q = c.requires in
     let f = c.ranges in
-    (omega arith, (omega arith, (q.p_bound, (q.q_bound, (q.net_reach, (q.net_reach_2, omega arith))))))
+    record {
+      i_bound = omega arith;
+      j_bound = omega arith;
+      p_bound = q.p_bound;
+      q_bound = q.q_bound;
+      net_reach = q.net_reach;
+      net_reach_2 = q.net_reach_2;
+      p_bound_2 = omega arith;
+    }
 
 pub net_sums-e-requires : goal.net_sums-e-requires
 net_sums-e-requires c = let q = c.requires in
     let f = c.ranges in
-    (omega arith, (omega arith, (q.p_bound, (q.q_bound, (q.net_reach, (q.net_reach_2, omega arith))))))
+    record {
+      i_bound = omega arith;
+      j_bound = omega arith;
+      p_bound = q.p_bound;
+      q_bound = q.q_bound;
+      net_reach = q.net_reach;
+      net_reach_2 = q.net_reach_2;
+      p_bound_2 = omega arith;
+    }
 
 pub returns : goal.returns
 returns c = let a = c.args in

@@ -16,34 +16,19 @@ surface_at-requires c = let h = c.requires in
     let s =
     subst
     (Found a.p a.m a.uk.now) (sym c.span_of-s.ensures.found) (found a.p a.m a.uk.now o.u (clamped a.p a.m a.uk.now a.u)) in
-    let t = subst (Found a.q a.n a.vk.now) (sym c.span_of-t.ensures.found) (found a.q a.n a.vk.now o.v (clamped a.q a.n a.vk.now a.v)) in (
-      o.u.degree,
-      (
-        o.v.degree,
-        (
-          h.p_bound,
-          (
-            h.q_bound,
-            (
-              s.from,
-              (
-                t.from,
-                (
-                  s.reach,
-                  (
-                    t.reach,
-                    (
-                      points-net a.p a.q a.uk.now a.vk.now a.m a.n a.points.now a.rational a.weights.now o _ _ s t,
-                      weights-net a.p a.q a.uk.now a.vk.now a.m a.n a.points.now a.rational a.weights.now o _ _ s t,
-                    ),
-                  ),
-                ),
-              ),
-            ),
-          ),
-        ),
-      ),
-    )
+    let t = subst (Found a.q a.n a.vk.now) (sym c.span_of-t.ensures.found) (found a.q a.n a.vk.now o.v (clamped a.q a.n a.vk.now a.v)) in
+    record {
+      p_nonzero = o.u.degree;
+      q_nonzero = o.v.degree;
+      p_bound = h.p_bound;
+      q_bound = h.q_bound;
+      p_le_s = s.from;
+      q_le_t = t.from;
+      p_in_bounds = s.reach;
+      q_in_bounds = t.reach;
+      net_reach = points-net a.p a.q a.uk.now a.vk.now a.m a.n a.points.now a.rational a.weights.now o _ _ s t;
+      net_reach_2 = weights-net a.p a.q a.uk.now a.vk.now a.m a.n a.points.now a.rational a.weights.now o _ _ s t;
+    }
 
 pub returns : goal.returns
 unfolding surface_found

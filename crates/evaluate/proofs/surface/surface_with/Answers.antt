@@ -10,7 +10,11 @@ returns-then-refusal-ne0 c = rw (ne_eqb _ 0 c.if-refusal-ne0.true)
 
 pub surface_found-requires : goal.surface_found-requires
 surface_found-requires c = let h = c.requires in
-    (h.p_bound c.if-refusal-ne0.false, (h.q_bound c.if-refusal-ne0.false, h.weights_value c.if-refusal-ne0.false))
+    record {
+      p_bound = h.p_bound c.if-refusal-ne0.false;
+      q_bound = h.q_bound c.if-refusal-ne0.false;
+      weights_value = h.weights_value c.if-refusal-ne0.false;
+    }
 
 pub returns : goal.returns
 returns c = rw (eq-eqb _ 0 c.if-refusal-ne0.false) (ap At c.surface_found.ensures)

@@ -8,4 +8,5 @@ edit_number-requires c = let a = c.args in
     a.degree a.knots.now a.points.now a.rational a.weights.now a.inserted.now c.insert_knots.ensures
 
 pub returns : goal.returns
-returns c = settled-edit c.edit_number.ensures c.insert_knots.ensures
+returns c = let all = settled-edit c.edit_number.ensures c.insert_knots.ensures in
+    record { value = all.0; insert_meets = all.1 }

@@ -7,4 +7,5 @@ edit_number-requires c = let a = c.args in
     few-kept a.degree a.knots.now a.points.now a.rational a.weights.now a.lo a.hi c.trim.ensures
 
 pub returns : goal.returns
-returns c = settled-edit c.edit_number.ensures c.trim.ensures
+returns c = let all = settled-edit c.edit_number.ensures c.trim.ensures in
+    record { value = all.0; trim_meets = all.1 }

@@ -10,32 +10,36 @@ use Rattle.exports.proofs.intervals.tasulogi_interval_divide.Goals as goal
 
 pub returns-in-Is : goal.returns-in-Is
 unfolding packed_of divide_of
-returns-in-Is c = let a = c.args in
+returns-in-Is c = let all = let a = c.args in
     divided a.al a.ah a.bl a.bh
     (on_both-leaves
     (λ (a b : Interval). quotient_answer (divide_of a b))
     (sym c.pair-p.ensures ∙ c.in-Are.is)
-    (quotient-of (ap (times_by _) (sym c.reciprocal-q.ensures ∙ c.in-Is.is) ∙ ap Is (sym c.mul.ensures)) c.put.ensures))
+    (quotient-of (ap (times_by _) (sym c.reciprocal-q.ensures ∙ c.in-Is.is) ∙ ap Is (sym c.mul.ensures)) c.put.ensures)) in
+    record { leaves = all.0; not_idle = all.1 }
 
 pub returns-in-HoldsZero : goal.returns-in-HoldsZero
 unfolding packed_of divide_of
-returns-in-HoldsZero c = let a = c.args in
+returns-in-HoldsZero c = let all = let a = c.args in
     divided a.al a.ah a.bl a.bh
     (on_both-leaves
     (λ (a b : Interval). quotient_answer (divide_of a b))
     (sym c.pair-p.ensures ∙ c.in-Are.is)
-    (quotient-of (ap (times_by _) (sym c.reciprocal-q.ensures ∙ c.in-HoldsZero.is)) c.refuse.ensures))
+    (quotient-of (ap (times_by _) (sym c.reciprocal-q.ensures ∙ c.in-HoldsZero.is)) c.refuse.ensures)) in
+    record { leaves = all.0; not_idle = all.1 }
 
 pub returns-in-Unbounded : goal.returns-in-Unbounded
 unfolding packed_of divide_of
-returns-in-Unbounded c = let a = c.args in
+returns-in-Unbounded c = let all = let a = c.args in
     divided a.al a.ah a.bl a.bh
     (on_both-leaves
     (λ (a b : Interval). quotient_answer (divide_of a b))
     (sym c.pair-p.ensures ∙ c.in-Are.is)
-    (quotient-of (ap (times_by _) (sym c.reciprocal-q.ensures ∙ c.in-Unbounded.is)) c.refuse-in-Unbounded.ensures))
+    (quotient-of (ap (times_by _) (sym c.reciprocal-q.ensures ∙ c.in-Unbounded.is)) c.refuse-in-Unbounded.ensures)) in
+    record { leaves = all.0; not_idle = all.1 }
 
 pub returns-in-Nothing : goal.returns-in-Nothing
-returns-in-Nothing c = let a = c.args in
+returns-in-Nothing c = let all = let a = c.args in
     divided a.al a.ah a.bl a.bh
-    (no_both (λ (a b : Interval). quotient_answer (divide_of a b)) (sym c.pair-p.ensures ∙ c.in-Nothing.is) c.refuse-in-Nothing.ensures)
+    (no_both (λ (a b : Interval). quotient_answer (divide_of a b)) (sym c.pair-p.ensures ∙ c.in-Nothing.is) c.refuse-in-Nothing.ensures) in
+    record { leaves = all.0; not_idle = all.1 }

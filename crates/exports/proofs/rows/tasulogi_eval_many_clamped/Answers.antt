@@ -5,4 +5,5 @@ use Rattle.exports.specs.Rows.{rows_number}
 use Rattle.exports.proofs.rows.tasulogi_eval_many_clamped.Goals as goal
 
 pub returns : goal.returns
-returns c = settled-rows rows_number c.rows_number.ensures c.eval_many_clamped.ensures
+returns c = let all = settled-rows rows_number c.rows_number.ensures c.eval_many_clamped.ensures in
+    record { value = all.0; points_meet = all.1 }

@@ -22,10 +22,11 @@ insert_all-refusal-requires c = let a = c.args in
     let pr = c.requires in
     let q = pr.degree_in_bounds_2 in
     let w = c.work-1.given in
-    let l = c.lay_curve-laid.ensures in (
-      given-valid a.degree a.knots.now a.points.now a.rational a.weights.now a.inserted.now a.work.now pr.valid_curve pr.degree_in_bounds_2 _ _ l.0 l.1,
-      (omega arith, omega arith),
-    )
+    let l = c.lay_curve-laid.ensures in
+    record {
+      valid_knots = given-valid a.degree a.knots.now a.points.now a.rational a.weights.now a.inserted.now a.work.now pr.valid_curve pr.degree_in_bounds_2 _ _ l.0 l.1;
+      inserted_bound = (omega arith, omega arith);
+    }
 
 pub returns-then-refusal-ne0 : goal.returns-then-refusal-ne0
 returns-then-refusal-ne0 c = let a = c.args in

@@ -34,7 +34,13 @@ insert_into-refusal-requires c = let a = c.args in
     let i = o.out.points in
     let j = o.out.weights in
     let k = o.scratch in
-    (o.curve, (omega arith, (omega arith, (omega arith, omega arith))))
+    record {
+      valid_curve = o.curve;
+      degree_in_bounds = omega arith;
+      inserted_in_bounds = omega arith;
+      inserted_in_bounds_2 = omega arith;
+      degree_in_bounds_2 = omega arith;
+    }
 
 pub returns-then-refusal-ne0 : goal.returns-then-refusal-ne0
 returns-then-refusal-ne0 c = let k = c.clear_all-then-refusal-ne0.ensures in

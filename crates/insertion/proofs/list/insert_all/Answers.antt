@@ -35,7 +35,12 @@ insert_one-refusal-requires c = let a = c.args in
     turns-room
     a.a a.p a.rational a.n (length a.inserted.now) a.inserted.now (λ k. drop k a.inserted.now) a.work.now _ l.i l.invariant
     c.loop-i-test.true q.inserted_bound.0 q.inserted_bound.1 in
-    let x = r.1.0 in let y = r.1.1 in (r.0, (r.1, c.scale_in-scale.ensures ∙ scale-fits (a.n + l.i) a.rational l.work (omega arith)))
+    let x = r.1.0 in let y = r.1.1 in
+    record {
+      valid_knots = r.0;
+      n_bound = r.1;
+      scale_value = c.scale_in-scale.ensures ∙ scale-fits (a.n + l.i) a.rational l.work (omega arith);
+    }
 
 pub shape_of-work-then-refusal-ne0 : goal.shape_of-work-then-refusal-ne0
 shape_of-work-then-refusal-ne0 c = c.work-1.given ∙ c.loop-i.invariant.long

@@ -30,7 +30,12 @@ insert_one-refusal-requires c = let a = c.args in
     turns-room
     a.a a.p a.rational a.n a.m (replicate a.m a.t) (λ k. replicate (a.m - k) a.t) a.work.now _ l.j l.invariant c.loop-j-test.true q.m_bound.0
     q.m_bound.1 in
-    let x = r.1.0 in let y = r.1.1 in (r.0, (r.1, c.scale_in-scale.ensures ∙ scale-fits (a.n + l.j) a.rational l.work (omega arith)))
+    let x = r.1.0 in let y = r.1.1 in
+    record {
+      valid_knots = r.0;
+      n_bound = r.1;
+      scale_value = c.scale_in-scale.ensures ∙ scale-fits (a.n + l.j) a.rational l.work (omega arith);
+    }
 
 pub shape_of-work-then-refusal-ne0 : goal.shape_of-work-then-refusal-ne0
 shape_of-work-then-refusal-ne0 c = c.work-1.given ∙ c.loop-j.invariant.long

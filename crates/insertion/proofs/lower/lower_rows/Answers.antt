@@ -16,7 +16,11 @@ loop-i-init c = let a = c.args in lower-start a.spot.p a.spot.k a.spot.s a.spot.
 
 pub blend_at-q-requires : goal.blend_at-q-requires
 blend_at-q-requires c = let p = c.requires in let q = p.k_lt_n.0 in let r = p.p_in_bounds in
-    let l = c.loop-i.invariant.done.long in (p.s_le_p, omega arith)
+    let l = c.loop-i.invariant.done.long in
+    record {
+      s_le_p = p.s_le_p;
+      p_in_bounds = omega arith;
+    }
 
 pub shape_of-rows-then-not-is_blended : goal.shape_of-rows-then-not-is_blended
 shape_of-rows-then-not-is_blended c = c.loop-i.invariant.done.long

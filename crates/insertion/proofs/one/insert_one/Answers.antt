@@ -42,7 +42,12 @@ insert_at-requires c = let a = c.args in
     a.p a.n (knots_from a.a a.p a.n a.work.now) (points_from a.n a.work.now) a.rational (weights_from a.rational a.n a.work.now) a.t _ _
     (c.multiplicity-s.ensures ∙ ap (λ (ks : List Float). multiplicity_of ks a.t) (slice_is a.a (a.n + a.p + 1) a.work.now))
     q.valid_knots o (moved-span (slice_is a.a (a.n + a.p + 1) a.work.now) c.span_of-k.ensures) in
-    ((o.room, s.0.from, s.0.below), (q.n_bound, (s.2, q.scale_value)))
+    record {
+      s_le_p = (o.room, s.0.from, s.0.below);
+      n_bound = q.n_bound;
+      valid_knots = s.2;
+      scale_value = q.scale_value;
+    }
 
 pub returns : goal.returns
 returns c = let a = c.args in

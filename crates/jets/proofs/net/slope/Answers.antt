@@ -14,11 +14,11 @@ returns-then-all_symmetric c = rw (c.sum_of_products.ensures, c.hi-then-all_symm
 pub returns : goal.returns
 unfolding slope_of
 returns c = rw (
-      c.add.ensures,
-      c.add-y.ensures,
-      c.times-2.ensures,
-      c.mul-2.ensures,
-      c.add-x.ensures,
-      c.times.ensures,
-      c.mul.ensures,
-    )
+  c.add.ensures,
+  c.add-y.ensures,
+  c.times-2.ensures,
+  c.mul-2.ensures,
+  c.add-x.ensures,
+  c.times.ensures,
+  c.mul.ensures,
+)

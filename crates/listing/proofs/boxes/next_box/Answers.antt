@@ -16,18 +16,20 @@ use Rattle.listing.proofs.boxes.next_box.Goals as goal
 
 pub returns-in-Range : goal.returns-in-Range
 unfolding box_of
-returns-in-Range c = let a = c.args in
+returns-in-Range c = let all = let a = c.args in
     let s = c.in-Range.span in
     let text : Float → Float → List ℕ = λ lower upper. box_line s lower upper
     (asked a.speeds (bound_at a.degree s a.knots.now a.points.now a.rational a.weights.now lower upper)) in
     let shown = rw c.bound_asked-answer.ensures at c.box_line-length.ensures in
     next-shown (box_of a.speeds a.degree a.knots.now a.points.now a.rational a.weights.now) a.knots.now
     (next_span a.degree (count_of a.points.now) a.knots.now a.«from») 2304 text
-    (sym c.in-Range.is ∙ c.next_range.ensures) refl shown
+    (sym c.in-Range.is ∙ c.next_range.ensures) refl shown in
+    record { value = all.0; shown = all.1 }
 
 pub returns-in-Nothing : goal.returns-in-Nothing
-returns-in-Nothing c = let a = c.args in
+returns-in-Nothing c = let all = let a = c.args in
     let long : length a.out.now ≡ 2304 = search rules in
     end-shown (box_of a.speeds a.degree a.knots.now a.points.now a.rational a.weights.now) a.knots.now
     (next_span a.degree (count_of a.points.now) a.knots.now a.«from») 2304
-    (sym c.in-Nothing.is ∙ c.next_range.ensures) c.clear_bytes.ensures long
+    (sym c.in-Nothing.is ∙ c.next_range.ensures) c.clear_bytes.ensures long in
+    record { value = all.0; shown = all.1 }

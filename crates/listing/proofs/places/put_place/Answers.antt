@@ -11,7 +11,10 @@ use Rattle.listing.proofs.places.put_place.Goals as goal
 pub returns-then-says_place : goal.returns-then-says_place
 unfolding place_text
 returns-then-says_place c = let a = c.put_label.ensures in
-    (rw (sym c.says_place.ensures ∙ c.if-says_place.true) (a.roomy (search rules)), a.within)
+    record {
+      stored = rw (sym c.says_place.ensures ∙ c.if-says_place.true) (a.roomy (search rules));
+      upper_bound = a.within;
+    }
 
 pub returns-clause-stored : goal.returns-clause-stored
 unfolding place_text

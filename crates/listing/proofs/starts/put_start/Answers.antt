@@ -9,4 +9,7 @@ pub returns : goal.returns
 returns c = let a = c.put_label-a.ensures in
     let b = c.put_bits-b.ensures in
     let d = c.put_bits.ensures in
-    (both_stored (a.roomy (search rules)) (both_stored (b.roomy (search rules)) (d.roomy (search rules))), omega arith)
+    record {
+      stored = both_stored (a.roomy (search rules)) (both_stored (b.roomy (search rules)) (d.roomy (search rules)));
+      upper_bound = omega arith;
+    }

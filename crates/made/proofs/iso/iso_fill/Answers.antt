@@ -19,7 +19,12 @@ loop-k-init c = let a = c.args in
 pub iso_sums-h-requires : goal.iso_sums-h-requires
 iso_sums-h-requires c = let l = c.loop-k in
     let q = c.requires in
-    (q.p_bound, (q.p_bound_2, (q.by_index l.k c.loop-k-test.true, (λ g. q.iso_reach g l.k c.loop-k-test.true))))
+    record {
+      p_bound = q.p_bound;
+      p_bound_2 = q.p_bound_2;
+      iso_reach = q.by_index l.k c.loop-k-test.true;
+      iso_reach_2 = (λ g. q.iso_reach g l.k c.loop-k-test.true);
+    }
 
 pub shape_of-out_points-then-not-is_weight : goal.shape_of-out_points-then-not-is_weight
 shape_of-out_points-then-not-is_weight c = c.loop-k.invariant.long-points

@@ -29,22 +29,19 @@ iso_fill-good-requires c = let a = c.args in
     let f = s.0.from in
     let b = s.0.below in
     let l = q.valid_knots.long in
-    let g = c.well_formed in (
-      q.degree_bound,
-      (
-        omega arith,
-        (
-          strip-in
+    let g = c.well_formed in
+    record {
+      p_bound = q.degree_bound;
+      p_bound_2 = omega arith;
+      by_index = strip-in
               a.points.now a.rational a.weights.now a.held.constant_u a.held.columns (length a.points.now / 3) a.held.degree
-              c.span_of-span.result a.held.count a.held.other_count f b q.by_index,
-          (
-            (λ e. strip-in a.points.now a.rational a.weights.now a.held.constant_u a.held.columns (length a.weights.now) a.held.degree
-                c.span_of-span.result a.held.count a.held.other_count f b (q.k_in_bounds e)),
-            (q.other_count_in_bounds, (q.other_count_in_bounds_2, q.other_count_bound)),
-          ),
-        ),
-      ),
-    )
+              c.span_of-span.result a.held.count a.held.other_count f b q.by_index;
+      iso_reach = (λ e. strip-in a.points.now a.rational a.weights.now a.held.constant_u a.held.columns (length a.weights.now) a.held.degree
+                c.span_of-span.result a.held.count a.held.other_count f b (q.k_in_bounds e));
+      count_in_bounds = q.other_count_in_bounds;
+      count_in_bounds_2 = q.other_count_in_bounds_2;
+      count_bound = q.other_count_bound;
+    }
 
 pub returns-then-not-good : goal.returns-then-not-good
 returns-then-not-good c = let d = c.span_of-span in
@@ -88,7 +85,11 @@ made_refusal-requires c = let q = c.requires in
     let y = c.out_weights-1.given in
     let c = q.other_count_in_bounds in
     let d = q.other_count_in_bounds_2 in
-    (omega arith, (omega arith, omega arith))
+    record {
+      a_in_bounds = omega arith;
+      b_in_bounds = omega arith;
+      c_in_bounds = omega arith;
+    }
 
 pub returns : goal.returns
 returns c = let d = c.span_of-span in

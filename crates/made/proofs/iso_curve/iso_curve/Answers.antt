@@ -31,13 +31,12 @@ iso_into-formed-requires c = let b = c.clear_two in
     (λ (i j : ℕ). (iso_start a.u_degree a.v_degree a.u_knots.now a.v_knots.now a.u_count a.v_count a.points.now a.rational a.weights.now a.constant_u
     a.t i j).number)
     x y
-    ∙ none in (
-      m,
-      (
-        cleared _ (length a.out_points.now) b.ensures.0,
-        cleared _ (length a.out_weights.now) b.ensures.1,
-      ),
-    )
+    ∙ none in
+    record {
+      out_weights_value = m;
+      out_points_value = cleared _ (length a.out_points.now) b.ensures.0;
+      out_weights_value_2 = cleared _ (length a.out_weights.now) b.ensures.1;
+    }
 
 pub returns-then-formed-ne0 : goal.returns-then-formed-ne0
 returns-then-formed-ne0 c = let a = c.args in

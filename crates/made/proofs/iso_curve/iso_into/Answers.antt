@@ -18,7 +18,18 @@ iso_along-requires c = let a = c.args in
     a.form.u_degree a.form.v_degree a.us.now a.vs.now a.form.u_count a.form.v_count a.points.now a.form.rational a.weights.now a.t
     (length a.out_points.now) (length a.out_weights.now) a.constant_u q.out_weights_value)
     in
-    (o.high, (o.knots, (o.inside, (o.places, (o.weights, (o.points-room, (o.weights-room, (o.few, (q.out_points_value, q.out_weights_value_2)))))))))
+    record {
+      degree_bound = o.high;
+      valid_knots = o.knots;
+      t_value = o.inside;
+      by_index = o.places;
+      k_in_bounds = o.weights;
+      other_count_in_bounds = o.points-room;
+      other_count_in_bounds_2 = o.weights-room;
+      other_count_bound = o.few;
+      out_points_value = q.out_points_value;
+      out_weights_value = q.out_weights_value_2;
+    }
 
 pub returns-then-constant_u : goal.returns-then-constant_u
 returns-then-constant_u c = let a = c.args in
@@ -39,7 +50,18 @@ iso_along-requires-2 c = let a = c.args in
     a.form.u_degree a.form.v_degree a.us.now a.vs.now a.form.u_count a.form.v_count a.points.now a.form.rational a.weights.now a.t
     (length a.out_points.now) (length a.out_weights.now) a.constant_u q.out_weights_value)
     in
-    (o.high, (o.knots, (o.inside, (o.places, (o.weights, (o.points-room, (o.weights-room, (o.few, (q.out_points_value, q.out_weights_value_2)))))))))
+    record {
+      degree_bound = o.high;
+      valid_knots = o.knots;
+      t_value = o.inside;
+      by_index = o.places;
+      k_in_bounds = o.weights;
+      other_count_in_bounds = o.points-room;
+      other_count_in_bounds_2 = o.weights-room;
+      other_count_bound = o.few;
+      out_points_value = q.out_points_value;
+      out_weights_value = q.out_weights_value_2;
+    }
 
 pub returns : goal.returns
 returns c = let a = c.args in

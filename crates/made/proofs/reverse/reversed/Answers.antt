@@ -31,25 +31,16 @@ reverse_into-formed-requires c = let b = c.clear_three in
     let z = cleared-length _ (length a.out_weights.now) b.ensures.2 in
     let h = o.knots-room in
     let i = o.points-room in
-    let j = o.weights-room in (
-      o.curve,
-      (
-        omega arith,
-        (
-          omega arith,
-          (
-            omega arith,
-            (
-              cleared _ (length a.out_knots.now) b.ensures.0,
-              (
-                cleared _ (length a.out_points.now) b.ensures.1,
-                cleared _ (length a.out_weights.now) b.ensures.2,
-              ),
-            ),
-          ),
-        ),
-      ),
-    )
+    let j = o.weights-room in
+    record {
+      valid_curve = o.curve;
+      knots_in_bounds = omega arith;
+      points_in_bounds = omega arith;
+      weights_in_bounds = omega arith;
+      out_knots_value = cleared _ (length a.out_knots.now) b.ensures.0;
+      out_points_value = cleared _ (length a.out_points.now) b.ensures.1;
+      out_weights_value = cleared _ (length a.out_weights.now) b.ensures.2;
+    }
 
 pub shape_of-out_knots-then-formed-ne0 : goal.shape_of-out_knots-then-formed-ne0
 shape_of-out_knots-then-formed-ne0 c = c.out_knots-then-formed-ne0-1.given

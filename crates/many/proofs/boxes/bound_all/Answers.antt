@@ -28,7 +28,10 @@ pub span_count-n-requires : goal.span_count-n-requires
 span_count-n-requires c = let a = c.args in
     let t = c.table_refusal-table in
     let v = table-open a.degree a.knots.now a.points.now a.rational a.weights.now (sym (ap (λ (x : Refusal). x.number) t.ensures) ∙ c.if-table-ne0.false) in
-    (omega (arith, v.knots.count), omega (arith, v.knots.count, v.knots.long))
+    record {
+      degree_le_count = omega (arith, v.knots.count);
+      count_in_bounds = omega (arith, v.knots.count, v.knots.long);
+    }
 
 pub overflow_mul-n : goal.overflow_mul-n
 overflow_mul-n c = let a = c.args in
@@ -65,7 +68,11 @@ pub bound_each-requires : goal.bound_each-requires
 bound_each-requires c = let a = c.args in
     let t = c.table_refusal-table in
     let f = spans-fits a.degree a.knots.now a.points.now a.rational a.weights.now c.box_width-w.result _ _ _ c.span_count-n.ensures _ c.rooms_refusal-room.ensures c.if-room-ne0.false in
-    (table-open a.degree a.knots.now a.points.now a.rational a.weights.now (sym (ap (λ (x : Refusal). x.number) t.ensures) ∙ c.if-table-ne0.false), (f.0, rw (← c.box_width-w.ensures) f.1))
+    record {
+      valid_curve = table-open a.degree a.knots.now a.points.now a.rational a.weights.now (sym (ap (λ (x : Refusal). x.number) t.ensures) ∙ c.if-table-ne0.false);
+      points_in_bounds = f.0;
+      alone_in_bounds = rw (← c.box_width-w.ensures) f.1;
+    }
 
 pub shape_of-marks : goal.shape_of-marks
 shape_of-marks c = c.marks-2-1.given ∙ c.marks-1.given

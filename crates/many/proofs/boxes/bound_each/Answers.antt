@@ -22,7 +22,11 @@ put_row-requires c = let a = c.args in
     let e = spans_fit a.alone a.degree a.knots.now a.points.now a.rational a.weights.now
     q.valid_curve a.marks.now a.boxes.now l.marks l.boxes l.i l.s l.invariant.1
     (omega (arith, c.loop-s-test, l.invariant.0)) c.if-lo-hi.true q.points_in_bounds in
-    (e.0, (e.1, e.2))
+    record {
+      i_in_bounds = e.0;
+      i_bound = e.1;
+      s_bound = e.2;
+    }
 
 pub overflow_add-i : goal.overflow_add-i
 overflow_add-i c = let a = c.args in
@@ -79,4 +83,7 @@ returns c = let a = c.args in
     let q = c.requires in
     let e = spans-end a.alone a.degree a.knots.now a.points.now a.rational a.weights.now q.valid_curve a.marks.now a.boxes.now l.marks l.boxes l.i l.s l.invariant.1
     (omega (arith, c.loop-s-test, l.invariant.0)) in
-    (e.0.front, e.1.front)
+    record {
+      marks_after = e.0.front;
+      boxes_after = e.1.front;
+    }

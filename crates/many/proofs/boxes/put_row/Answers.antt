@@ -15,10 +15,11 @@ overflow_mul-at c = let a = c.args in
 
 pub returns-then-alone : goal.returns-then-alone
 returns-then-alone c = let a = c.args in
-    let w = c.box_width in (
-      stored-two a.marks.now (a.i * 2) a.s a.row.number,
-      box-short a.alone a.row a.boxes.now a.i w.result _ w.ensures c.store_triple.ensures c.if-alone.true,
-    )
+    let w = c.box_width in
+    record {
+      marks_after = stored-two a.marks.now (a.i * 2) a.s a.row.number;
+      boxes_after = box-short a.alone a.row a.boxes.now a.i w.result _ w.ensures c.store_triple.ensures c.if-alone.true;
+    }
 
 pub overflow_add-at : goal.overflow_add-at
 overflow_add-at c = let a = c.args in
@@ -34,7 +35,8 @@ overflow_add-at-2 c = let a = c.args in
 
 pub returns : goal.returns
 returns c = let a = c.args in
-    let w = c.box_width in (
-      stored-two a.marks.now (a.i * 2) a.s a.row.number,
-      box-long a.alone a.row a.boxes.now a.i w.result _ w.ensures c.store_triple.ensures c.if-alone.false _ _ c.store_triple-2.ensures c.store_triple-3.ensures,
-    )
+    let w = c.box_width in
+    record {
+      marks_after = stored-two a.marks.now (a.i * 2) a.s a.row.number;
+      boxes_after = box-long a.alone a.row a.boxes.now a.i w.result _ w.ensures c.store_triple.ensures c.if-alone.false _ _ c.store_triple-2.ensures c.store_triple-3.ensures;
+    }

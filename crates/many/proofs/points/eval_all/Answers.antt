@@ -38,7 +38,12 @@ eval_each-requires c = let a = c.args in
     points-open
     a.degree a.knots.now a.points.now a.rational a.weights.now a.ts.now c.width-w.result _ _
     (sym (ap (λ (r : Refusal). r.number) c.points_start-refusal.ensures) ∙ c.if-refusal-ne0.false) in
-    (o.curve, (o.few, (o.numbers, rw (← c.width-w.ensures) o.rows)))
+    record {
+      valid_curve = o.curve;
+      ts_len_bound = o.few;
+      ts_in_bounds = o.numbers;
+      two_in_bounds = rw (← c.width-w.ensures) o.rows;
+    }
 
 pub returns : goal.returns
 returns c = let b = c.clear_numbers in

@@ -28,7 +28,10 @@ put_row-requires c = let l = c.loop-i in
     (numbers_at a.clamps a.degree a.knots.now a.points.now a.rational a.weights.now a.two) (width a.two)
     (λ t. (row-says a.clamps a.degree a.knots.now a.points.now a.rational a.weights.now a.two t).count) a.ts.now a.numbers.now a.rows.now q.ts_in_bounds q.two_in_bounds
     l.numbers l.rows l.i l.invariant c.loop-i-test.true in
-    (e.0, omega (arith, q.ts_len_bound, c.loop-i-test.true))
+    record {
+      i_in_bounds = e.0;
+      i_bound = omega (arith, q.ts_len_bound, c.loop-i-test.true);
+    }
 
 pub overflow_add-i : goal.overflow_add-i
 overflow_add-i c = omega (
@@ -65,4 +68,7 @@ returns c = let a = c.args in
     (numbers_at a.clamps a.degree a.knots.now a.points.now a.rational a.weights.now a.two) (width a.two)
     (λ t. (row-says a.clamps a.degree a.knots.now a.points.now a.rational a.weights.now a.two t).count) a.ts.now a.numbers.now a.rows.now c.loop-i.numbers
     c.loop-i.rows c.loop-i.i c.loop-i.invariant c.loop-i-test.false in
-    (e.0.front, e.1.front)
+    record {
+      numbers_after = e.0.front;
+      rows_after = e.1.front;
+    }

@@ -28,20 +28,22 @@ overflow_add-at-then-two c = let b = c.width in
     )
 
 pub returns-then-two : goal.returns-then-two
-returns-then-two c = let a = c.args in (
-      refl,
-      row-long
+returns-then-two c = let a = c.args in
+    record {
+      numbers_after = refl;
+      rows_after = row-long
           a.two a.row a.rows.now a.i c.width.result _ _
           c.width.ensures
           c.store_vector.ensures
-          c.store_vector-2.ensures c.if-two.true _ c.store_vector-then-two.ensures,
-    )
+          c.store_vector-2.ensures c.if-two.true _ c.store_vector-then-two.ensures;
+    }
 
 pub returns-else-two : goal.returns-else-two
-returns-else-two c = let a = c.args in (
-      refl,
-      row-short
+returns-else-two c = let a = c.args in
+    record {
+      numbers_after = refl;
+      rows_after = row-short
           a.two a.row a.rows.now a.i c.width.result _ _
           c.width.ensures c.store_vector.ensures
-          c.store_vector-2.ensures c.if-two.false,
-    )
+          c.store_vector-2.ensures c.if-two.false;
+    }

@@ -4,53 +4,53 @@ use Rattle.ranges.proofs.range.range_refusal.Goals as goal
 
 pub returns-then-degree-gt64 : goal.returns-then-degree-gt64
 unfolding range_refusal
-returns-then-degree-gt64 c = rw (lt-ltb _ _ c.if-degree-gt64.taken) c.refuse.ensures
+returns-then-degree-gt64 c = rw (lt-ltb _ _ c.if-degree-gt64.true) c.refuse.ensures
 
 pub returns-then-not-is_finite : goal.returns-then-not-is_finite
 unfolding range_refusal
-returns-then-not-is_finite c = rw (le-ltb _ _ c.if-degree-gt64.left, ← c.is_finite.ensures, c.if-not-is_finite.taken) c.refuse-then-not-is_finite.ensures
+returns-then-not-is_finite c = rw (le-ltb _ _ c.if-degree-gt64.false, ← c.is_finite.ensures, c.if-not-is_finite.true) c.refuse-then-not-is_finite.ensures
 
 pub returns-then-not-is_finite-2 : goal.returns-then-not-is_finite-2
 unfolding range_refusal
 returns-then-not-is_finite-2 c = rw (
-      le-ltb _ _ c.if-degree-gt64.left,
-      ← c.is_finite.ensures,
-      c.if-not-is_finite.left,
-      ← c.is_finite-2.ensures,
-      c.if-not-is_finite-2.taken,
-    ) c.refuse-then-not-is_finite-2.ensures
+  le-ltb _ _ c.if-degree-gt64.false,
+  ← c.is_finite.ensures,
+  c.if-not-is_finite.false,
+  ← c.is_finite-2.ensures,
+  c.if-not-is_finite-2.true,
+) c.refuse-then-not-is_finite-2.ensures
 
 pub returns-then-lo-hi : goal.returns-then-lo-hi
 unfolding range_refusal
 returns-then-lo-hi c = rw (
-      le-ltb _ _ c.if-degree-gt64.left,
-      ← c.is_finite.ensures,
-      c.if-not-is_finite.left,
-      ← c.is_finite-2.ensures,
-      c.if-not-is_finite-2.left,
-      c.if-lo-hi.taken,
-    ) c.refuse-then-lo-hi.ensures
+  le-ltb _ _ c.if-degree-gt64.false,
+  ← c.is_finite.ensures,
+  c.if-not-is_finite.false,
+  ← c.is_finite-2.ensures,
+  c.if-not-is_finite-2.false,
+  c.if-lo-hi.true,
+) c.refuse-then-lo-hi.ensures
 
 pub returns-then-span-count : goal.returns-then-span-count
 unfolding range_refusal
 returns-then-span-count c = rw (
-      le-ltb _ _ c.if-degree-gt64.left,
-      ← c.is_finite.ensures,
-      c.if-not-is_finite.left,
-      ← c.is_finite-2.ensures,
-      c.if-not-is_finite-2.left,
-      c.if-lo-hi.left,
-      eq-eqb _ _ c.if-span-count.taken,
-    ) c.refuse-then-span-count.ensures
+  le-ltb _ _ c.if-degree-gt64.false,
+  ← c.is_finite.ensures,
+  c.if-not-is_finite.false,
+  ← c.is_finite-2.ensures,
+  c.if-not-is_finite-2.false,
+  c.if-lo-hi.false,
+  eq-eqb _ _ c.if-span-count.true,
+) c.refuse-then-span-count.ensures
 
 pub returns : goal.returns
 unfolding range_refusal
 returns c = rw (
-      le-ltb _ _ c.if-degree-gt64.left,
-      ← c.is_finite.ensures,
-      c.if-not-is_finite.left,
-      ← c.is_finite-2.ensures,
-      c.if-not-is_finite-2.left,
-      c.if-lo-hi.left,
-      ne_eqb _ _ c.if-span-count.left,
-    ) c.refuse-2.ensures
+  le-ltb _ _ c.if-degree-gt64.false,
+  ← c.is_finite.ensures,
+  c.if-not-is_finite.false,
+  ← c.is_finite-2.ensures,
+  c.if-not-is_finite-2.false,
+  c.if-lo-hi.false,
+  ne_eqb _ _ c.if-span-count.false,
+) c.refuse-2.ensures

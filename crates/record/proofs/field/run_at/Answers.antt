@@ -14,14 +14,20 @@ pub returns-in_default : goal.returns-in_default
 unfolding run_of
 returns-in_default c = let a = c.args in
     let e : field_of (drop a.i a.s.now) a.tag ≡ Bad = sym c.field_at-got.ensures.value ∙ c.in_default.is in
-    (rw e, tt)
+    record {
+      value = rw e;
+      below = tt;
+    }
 
 pub returns-then-n-ne0 : goal.returns-then-n-ne0
 unfolding run_of
 returns-then-n-ne0 c = let a = c.args in
     let n = c.in-Is.n in
     let e : field_of (drop a.i a.s.now) a.tag ≡ Is c.in-Is.n = sym c.field_at-got.ensures.value ∙ c.in-Is.is in
-    (rw (e, ne_eqb (n % 8) 0 (λ z. omega arith)), tt)
+    record {
+      value = rw (e, ne_eqb (n % 8) 0 (λ z. omega arith));
+      below = tt;
+    }
 
 pub returns : goal.returns
 unfolding run_of
@@ -29,4 +35,7 @@ returns c = let a = c.args in
     let n = c.in-Is.n in
     let e : field_of (drop a.i a.s.now) a.tag ≡ Is c.in-Is.n = sym c.field_at-got.ensures.value ∙ c.in-Is.is in
     let small = is_below 65536 _ _ c.in-Is.is c.field_at-got.ensures.below in
-    (rw (e, eq-eqb (n % 8) 0 (omega arith)), omega arith)
+    record {
+      value = rw (e, eq-eqb (n % 8) 0 (omega arith));
+      below = omega arith;
+    }

@@ -16,7 +16,11 @@ layout_refusal-refusal-requires c = let a = c.args in
     let l = c.in-Fields.layout in
     let r : ReadsNumbers s k p w _ _ _ (Fields l) = rw c.in-Fields.is at read.ensures in
     let fits = fits-runs l _ _ _ (room s k p w _ _ _ l r) in
-    (rw read.auto.1.0 fits.0, (rw read.auto.1.1.0 fits.1, rw read.auto.1.1.1.0 fits.2))
+    record {
+      knots_in_bounds = rw read.auto.1.0 fits.0;
+      points_in_bounds = rw read.auto.1.1.0 fits.1;
+      weights_in_bounds = rw read.auto.1.1.1.0 fits.2;
+    }
 
 pub returns-then-refusal-ne0 : goal.returns-then-refusal-ne0
 returns-then-refusal-ne0 c = let b = c.read-in-Fields-1 in

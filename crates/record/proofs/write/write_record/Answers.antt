@@ -11,7 +11,7 @@ use Rattle.record.proofs.Written.{length-table, size_none, size-some, writes-non
 use Rattle.record.proofs.write.write_record.Goals as goal
 
 pub returns-in_default : goal.returns-in_default
-returns-in_default c = let a = c.args in
+returns-in_default c = let all = let a = c.args in
     let ks = a.knots.now in
     let ps = a.points.now in
     let ws = a.weights.now in
@@ -27,10 +27,11 @@ returns-in_default c = let a = c.args in
           a.degree ks ps a.rational ws (λ i. c.shared_slice_known-1.given i)
           (λ i. c.shared_slice_known-2-1.given i)
           (λ i. c.shared_slice_known-3-1.given i) out _ _ w,
-    )
+    ) in
+    record { writes = all.0; reads_back = all.1 }
 
 pub returns-then-out-n : goal.returns-then-out-n
-returns-then-out-n c = let b = c.clear_bytes in
+returns-then-out-n c = let all = let b = c.clear_bytes in
     let a = c.args in
     let ks = a.knots.now in
     let ps = a.points.now in
@@ -51,7 +52,8 @@ returns-then-out-n c = let b = c.clear_bytes in
           a.degree ks ps a.rational ws (λ i. c.shared_slice_known-1.given i)
           (λ i. c.shared_slice_known-2-1.given i)
           (λ i. c.shared_slice_known-3-1.given i) out _ _ w,
-    )
+    ) in
+    record { writes = all.0; reads_back = all.1 }
 
 pub put_table-requires : goal.put_table-requires
 put_table-requires c = let a = c.args in
@@ -84,11 +86,12 @@ returns c = let b = c.clear_bytes in
     let w : Writes t out c.put_table.new.out (Written c.in-Is.n) =
     rw
     (c.put_table.ensures, b.ensures, ← size.1)
-    (writes-all t out size.0 (omega arith)) in (
-      w,
-      reads-back
+    (writes-all t out size.0 (omega arith)) in
+    record {
+      writes = w;
+      reads_back = reads-back
           a.degree ks ps a.rational ws
           (λ i. c.shared_slice_known-1.given i)
           (λ i. c.shared_slice_known-2-1.given i)
-          (λ i. c.shared_slice_known-3-1.given i) out _ _ w,
-    )
+          (λ i. c.shared_slice_known-3-1.given i) out _ _ w;
+    }

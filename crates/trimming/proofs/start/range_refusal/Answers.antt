@@ -23,7 +23,12 @@ kept-requires c = let a = c.args in
     let q = c.requires in
     let v = q.valid_knots in
     let l = v.long in
-    let k = v.count in let s = q.knots_len_bound in (omega arith, (q.knots_len_bound, range-order a.p a.n a.knots.now q.valid_knots a.lo a.hi (sym c.is_range.ensures ∙ c.if-not-is_range.false)))
+    let k = v.count in let s = q.knots_len_bound in
+    record {
+      p_bound = omega arith;
+      knots_len_bound = q.knots_len_bound;
+      lo_bound = range-order a.p a.n a.knots.now q.valid_knots a.lo a.hi (sym c.is_range.ensures ∙ c.if-not-is_range.false);
+    }
 
 pub returns-then-out-ne0 : goal.returns-then-out-ne0
 returns-then-out-ne0 c = let a = c.args in

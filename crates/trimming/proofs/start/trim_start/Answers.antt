@@ -15,7 +15,10 @@ range_refusal-requires c = let a = c.args in
     let o =
     (edit-open
     a.degree a.knots.now a.points.now a.rational a.weights.now (sym (ap (λ (r : Refusal). r.number) c.edit_start-early.ensures) ∙ omega arith)).0 in
-    (o.knots, o.short.knots)
+    record {
+      valid_knots = o.knots;
+      knots_len_bound = o.short.knots;
+    }
 
 pub returns : goal.returns
 unfolding trim_start

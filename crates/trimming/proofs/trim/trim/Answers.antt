@@ -26,7 +26,15 @@ trim_into-refusal-requires c = let a = c.args in
     let v = o.curve in
     let l = v.knots.long in
     let k = v.knots.count in
-    let s = v.short.knots in let b = range-order a.degree _ a.knots.now v.knots a.lo a.hi o.range in (v, (b, (o.out.knots, (o.out.points, (o.out.weights, o.scratch)))))
+    let s = v.short.knots in let b = range-order a.degree _ a.knots.now v.knots a.lo a.hi o.range in
+    record {
+      valid_curve = v;
+      lo_bound = b;
+      degree_in_bounds = o.out.knots;
+      hi_in_bounds = o.out.points;
+      hi_in_bounds_2 = o.out.weights;
+      degree_in_bounds_2 = o.scratch;
+    }
 
 pub returns-then-refusal-ne0 : goal.returns-then-refusal-ne0
 returns-then-refusal-ne0 c = let a = c.args in
@@ -59,7 +67,12 @@ kept-count-requires c = let a = c.args in
     c.trim_start-early.ensures)
     ∙ c.if-early-ne0.false) in
     let v = o.curve in
-    let l = v.knots.long in let k = v.knots.count in let s = v.short.knots in let b = range-order a.degree _ a.knots.now v.knots a.lo a.hi o.range in (omega arith, (s, b))
+    let l = v.knots.long in let k = v.knots.count in let s = v.short.knots in let b = range-order a.degree _ a.knots.now v.knots a.lo a.hi o.range in
+    record {
+      p_bound = omega arith;
+      knots_len_bound = s;
+      lo_bound = b;
+    }
 
 pub returns : goal.returns
 returns c = let cleared = c.clear.ensures in

@@ -63,7 +63,11 @@ insert_ends-late-requires c = let pr = c.requires in
     let q = pr.degree_in_bounds_2 in
     let g = c.well_formed in
     let f = c.ranges in
-    let x = c.missing-x.ensures in let y = c.missing-y.ensures in (pr.valid_curve, (omega arith, omega arith))
+    let x = c.missing-x.ensures in let y = c.missing-y.ensures in
+    record {
+      valid_curve = pr.valid_curve;
+      hi_bound = (omega arith, omega arith);
+    }
 
 pub shape_of-work-then-late-ne0 : goal.shape_of-work-then-late-ne0
 shape_of-work-then-late-ne0 c = c.work-1.given
@@ -83,7 +87,12 @@ kept-m-requires c = let pr = c.requires in
     let s = v.short.knots in
     let q = pr.degree_in_bounds_2 in
     let g = c.well_formed in
-    let f = c.ranges in (omega arith, (s, pr.lo_bound))
+    let f = c.ranges in
+    record {
+      p_bound = omega arith;
+      knots_len_bound = s;
+      lo_bound = pr.lo_bound;
+    }
 
 pub cut-requires : goal.cut-requires
 cut-requires c = let a = c.args in
@@ -104,7 +113,13 @@ cut-requires c = let a = c.args in
     (kept-fits
     a.degree (length a.points.now / 3) a.knots.now pr.valid_curve.knots a.lo a.hi pr.lo_bound
     (multiplicity-most a.degree (length a.points.now / 3) a.knots.now pr.valid_curve.knots a.hi)) in
-    let o = pr.?.1.1 in let i = o.0 in let j = o.1.0 in ((omega arith, omega arith), (omega arith, (omega arith, rw M o.1.1.0)))
+    let o = pr.?.1.1 in let i = o.0 in let j = o.1.0 in
+    record {
+      m_bound = (omega arith, omega arith);
+      p_in_bounds = omega arith;
+      m_in_bounds = omega arith;
+      m_in_bounds_2 = rw M o.1.1.0;
+    }
 
 pub shape_of-out_knots : goal.shape_of-out_knots
 shape_of-out_knots c = c.out_knots-1.given
