@@ -16,5 +16,5 @@ returns c = let long : length c.args.out.now ≡ 2304 = search rules in
     let v = c.args.view in
     let a = c.put_corners-a.ensures in
     let d = c.put_text.ensures in
-    let all = parts-stored (number opening false v.x) (number " " false v.y) (number " " true v.width) (number " " true v.height) a.0 (d.roomy (search rules)) in
+    let all = parts-stored (number opening false v.x) (number " " false v.y) (number " " true v.width) (number " " true v.height) a.stored (d.roomy (search rules)) in
     front-shown 2304 _ c.clear_bytes.ensures long all (search rules)

@@ -15,4 +15,4 @@ returns c = let long : length c.args.out.now ≡ 2304 = search rules in
     let a = c.put_label-a.ensures in
     let b = c.put_place-b.ensures in
     front-shown 2304 _ c.clear_bytes.ensures long
-    (both_stored (a.roomy (search rules)) (both_stored b.0 (one-stored _ _ 10))) (omega arith)
+    (both_stored (a.roomy (search rules)) (both_stored b.stored (one-stored _ _ 10))) (omega arith)

@@ -14,4 +14,4 @@ pub returns : goal.returns
 unfolding span_line
 returns c = let long : length c.args.out.now ≡ 2304 = search rules in
     let a = c.put_start-a.ensures in
-    simp append_assoc at (front-shown 2304 _ c.clear_bytes.ensures long (both_stored a.0 (one-stored _ _ 10)) (omega arith))
+    simp append_assoc at (front-shown 2304 _ c.clear_bytes.ensures long (both_stored a.stored (one-stored _ _ 10)) (omega arith))

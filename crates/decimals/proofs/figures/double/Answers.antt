@@ -16,9 +16,9 @@ raise-requires c = let i = c.loop-left.invariant in
     let t = c.taken-some.ensures in
     record {
       figures = i.0;
-      f_bound = rw c.power.ensures (pow_mono t.1.0);
+      f_bound = rw c.power.ensures (pow_mono t.upper_bound_2);
       c_bound = omega arith;
-      c_bound_2 = rw (c.power.ensures, i.1) (doubling-fits _ _ _ _ t.0 (rw i.2 c.requires.k_bound));
+      c_bound_2 = rw (c.power.ensures, i.1) (doubling-fits _ _ _ _ t.upper_bound (rw i.2 c.requires.k_bound));
     }
 
 pub loop-left-smaller : goal.loop-left-smaller
@@ -27,7 +27,7 @@ loop-left-smaller c = omega (arith, c.taken-some.ensures.result_nonzero c.loop-l
 pub loop-left-preserved : goal.loop-left-preserved
 loop-left-preserved c = let i = c.loop-left.invariant in (
       c.raise.ensures.figures_2,
-      c.raise.auto.0 ∙ i.1,
+      c.raise.auto.run ∙ i.1,
       rw (c.raise.ensures.run_after, c.power.ensures) (doubling-step _ _ _ c.taken-some.ensures.upper_bound ∙ i.2),
     )
 

@@ -17,7 +17,7 @@ divide-requires c = let i = c.loop-left.invariant in
     record {
       figures = i.0;
       g_nonzero = rw c.power.ensures (pow_pos _);
-      g_bound = rw c.power.ensures (pow_mono t.1.0);
+      g_bound = rw c.power.ensures (pow_mono t.upper_bound_2);
       run_bound = rw i.1 (omega (arith, c.requires.run_bound));
     }
 
@@ -27,7 +27,7 @@ loop-left-smaller c = omega (arith, c.taken-some.ensures.result_nonzero c.loop-l
 pub loop-left-preserved : goal.loop-left-preserved
 loop-left-preserved c = let i = c.loop-left.invariant in (
       c.divide.ensures.figures_2,
-      c.divide.auto.0 ∙ i.1,
+      c.divide.auto.run ∙ i.1,
       rw (c.divide.ensures.run_after, c.power.ensures) (le_trans (whole_le _ _ _ (pow_pos _)) i.2),
       rw (c.divide.ensures.run_after, c.power.ensures) (halving-step _ _ _ _ c.taken-some.ensures.upper_bound ∙ i.3),
     )

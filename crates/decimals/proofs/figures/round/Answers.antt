@@ -18,20 +18,20 @@ pub raise-requires-2 : goal.raise-requires-2
 raise-requires-2 c = let p = c.requires in
     let r = c.raise.ensures in
     record {
-      figures = r.0;
+      figures = r.figures_2;
       f_bound = omega arith;
       c_bound = omega arith;
-      c_bound_2 = room-billion _ _ _ _ p.run_value r.1 (c.raise.auto.0 ∙ p.run_len) p.q_bound;
+      c_bound_2 = room-billion _ _ _ _ p.run_value r.run_after (c.raise.auto.run ∙ p.run_len) p.q_bound;
     }
 
 pub returns : goal.returns
 returns c = let s = c.scale.ensures in
     record {
-      figures_2 = s.0;
-      run_after = s.1.0
+      figures_2 = s.figures_2;
+      run_after = s.run_after
             ∙ rw
             (billions
             _ _ _ _ _ c.requires.run_value
             c.raise.ensures.run_after c.raise-2.ensures.run_after);
-      run_bound = s.1.1;
+      run_bound = s.run_bound_2;
     }

@@ -15,9 +15,9 @@ halve-requires-clause-run_bound c = room-down _ _ c.requires.run_len c.requires.
 pub returns-then-j-lt1074 : goal.returns-then-j-lt1074
 returns-then-j-lt1074 c = let h = c.halve.ensures in
     record {
-      figures_2 = h.0;
-      run_after = h.1 ∙ scaled-down 1074 _ _ _ (omega arith);
-      run_bound_2 = rw h.1 (small-down _ _ (whole_le _ _ _ (pow_pos _)) c.requires.run_bound);
+      figures_2 = h.figures_2;
+      run_after = h.run_after ∙ scaled-down 1074 _ _ _ (omega arith);
+      run_bound_2 = rw h.run_after (small-down _ _ (whole_le _ _ _ (pow_pos _)) c.requires.run_bound);
     }
 
 pub double-requires-clause-figures : goal.double-requires-clause-figures
@@ -29,7 +29,7 @@ double-requires-clause-k_bound c = room-up _ _ c.requires.run_len (small-up _ _ 
 pub returns : goal.returns
 returns c = let d = c.double.ensures in
     record {
-      figures_2 = d.0;
-      run_after = d.1 ∙ scaled-up 1074 _ _ _ (omega arith);
-      run_bound_2 = rw d.1 (small-up _ _ c.requires.run_bound (omega arith));
+      figures_2 = d.figures_2;
+      run_after = d.run_after ∙ scaled-up 1074 _ _ _ (omega arith);
+      run_bound_2 = rw d.run_after (small-up _ _ c.requires.run_bound (omega arith));
     }

@@ -18,7 +18,7 @@ pub returns : goal.returns
 returns c = let p = c.put_billionths.ensures in
     let e = c.round.ensures.run_after in
     record {
-      out_after = p.0 ∙ rw e;
-      value = p.1.0 ∙ rw e;
-      upper_bound = p.1.1;
+      out_after = p.out_after ∙ rw e;
+      value = p.value ∙ rw e;
+      upper_bound = p.upper_bound;
     }

@@ -14,7 +14,7 @@ returns-then-size-gt9218868437227405312 c = let all = let a = c.args in
     let fit : T (fits binary64 a.x) = subst T (sym good.1.1.1.0.1) tt in
     let f = nan_is a.up a.x fit _ c.bits_of-bits.ensures c.if-size-gt9218868437227405312.true in
     let w = c.put_word.ensures in
-    rw f (w.0, (w.1, omega arith)) in
+    rw f (w.out_after, (w.value, omega arith)) in
     record { out_after = all.0; value = all.1.0; upper_bound = all.1.1 }
 
 pub returns-then-size-eq9218868437227405312 : goal.returns-then-size-eq9218868437227405312
@@ -29,7 +29,7 @@ returns-then-size-eq9218868437227405312 c = let all = let a = c.args in
     let w = c.put_word-then-size-eq9218868437227405312.ensures in
     let r =
     inf-stored
-    a.out.now a.at (leb 0x8000000000000000 c.bits_of-bits.result) m.0 m.1.0 m.1.1 w.0 w.1 in
+    a.out.now a.at (leb 0x8000000000000000 c.bits_of-bits.result) m.out_after m.value m.upper_bound w.out_after w.value in
     rw f (r.0, (r.1, r.2)) in
     record { out_after = all.0; value = all.1.0; upper_bound = all.1.1 }
 

@@ -31,7 +31,7 @@ overflow_add-result c = let room = (let has' : c.args.at + 17 ≤ length c.args.
     search rules
 
 pub shape_of-out-then-has_room : goal.shape_of-out-then-has_room
-shape_of-out-then-has_room c = c.put_digits.auto.0 ∙ simp length-set
+shape_of-out-then-has_room c = c.put_digits.auto.out ∙ simp length-set
 
 pub returns-then-has_room : goal.returns-then-has_room
 unfolding spaced_bits

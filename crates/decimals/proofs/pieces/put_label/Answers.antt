@@ -21,8 +21,8 @@ pub returns-then-has_room : goal.returns-then-has_room
 returns-then-has_room c = let room = (let has' : c.args.at + (length c.args.lead.now + 20) ≤ length c.args.out.now = leb-true _ _ (sym c.has_room.ensures ∙ c.if-has_room.true) in has') in
     let s = c.store-next.ensures in
     let n = c.put_decimal.ensures in
-    put-stored _ room (both_stored s.0
-    (text-stored (decimal c.args.n) n.0 n.1.0)) (omega arith)
+    put-stored _ room (both_stored s.stored
+    (text-stored (decimal c.args.n) n.out_after n.value)) (omega arith)
 
 pub returns : goal.returns
 returns c = put-nothing _ _ _ _ (leb-false _ _ (sym c.has_room.ensures ∙ c.if-has_room.false))

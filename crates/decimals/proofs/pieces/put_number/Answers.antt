@@ -22,7 +22,7 @@ returns-then-has_room c = let a = c.args in
     let room = (let has' : c.args.at + (length c.args.lead.now + 330) ≤ length c.args.out.now = leb-true _ _ (sym c.has_room.ensures ∙ c.if-has_room.true) in has') in
     let s = c.store-next.ensures in
     let n = c.put_fixed.ensures in
-    put-stored _ room (both_stored s.0 (text-stored (fixed a.up a.x) n.0 n.1.0)) (omega arith)
+    put-stored _ room (both_stored s.stored (text-stored (fixed a.up a.x) n.out_after n.value)) (omega arith)
 
 pub returns : goal.returns
 returns c = put-nothing _ _ _ _ (leb-false _ _ (sym c.has_room.ensures ∙ c.if-has_room.false))

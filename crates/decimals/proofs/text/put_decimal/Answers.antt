@@ -13,7 +13,7 @@ returns c = let a = c.args in
     let w = c.width-w.ensures in
     let long : length (digits 10 (width 19 a.n) a.n) ≡ width 19 a.n = length_digits 10 _ _ in
     record {
-      out_after = c.put_digits.ensures ∙ rw w.0;
+      out_after = c.put_digits.ensures ∙ rw w.value;
       value = omega arith;
       upper_bound = omega arith;
     }

@@ -12,6 +12,6 @@ returns c = let a = c.put_part-a.ensures in
     let b = c.put_label-b.ensures in
     let d = c.put_text.ensures in
     record {
-      stored = both_stored a.0 (both_stored (b.roomy (search rules)) (d.roomy (search rules)));
+      stored = both_stored a.stored (both_stored (b.roomy (search rules)) (d.roomy (search rules)));
       upper_bound = search rules;
     }

@@ -16,6 +16,6 @@ returns c = let v = c.args in
     let d = c.put_text.ensures in
     let four = parts-stored (number " d=\"M" false v.left) (number " " false v.bottom) (number "H" true v.right) (number "V" true v.top) in
     record {
-      stored = four a.0 (both_stored (b.roomy (search rules)) (d.roomy (search rules)));
+      stored = four a.stored (both_stored (b.roomy (search rules)) (d.roomy (search rules)));
       upper_bound = omega arith;
     }

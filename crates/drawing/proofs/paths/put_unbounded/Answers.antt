@@ -11,6 +11,6 @@ unfolding unbounded_text part_text label ascii
 returns c = let a = c.put_part-a.ensures in
     let b = c.put_text.ensures in
     record {
-      stored = both_stored a.0 (b.roomy (search rules));
+      stored = both_stored a.stored (b.roomy (search rules));
       upper_bound = search rules;
     }

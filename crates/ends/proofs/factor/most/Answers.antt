@@ -1,4 +1,3 @@
-
 use Rattle.ends.proofs.factor.most.Goals as goal
 
 pub returns-then-a-b : goal.returns-then-a-b

@@ -12,12 +12,12 @@ use Rattle.evaluate.proofs.net.net_sums.Goals as goal
 pub loop-k-init : goal.loop-k-init
 unfolding of_bits
 loop-k-init c = let a = c.args in (
-      omega arith,
-      refl,
-      net-none
-          a.points.now a.rational a.weights.now a.scale a.o a.net.columns a.net.a a.net.b (a.net.q + 1) (cell 65 a.u_ders.now a.i)
-          (cell 65 a.v_ders.now a.j),
-    )
+  omega arith,
+  refl,
+  net-none
+      a.points.now a.rational a.weights.now a.scale a.o a.net.columns a.net.a a.net.b (a.net.q + 1) (cell 65 a.u_ders.now a.i)
+      (cell 65 a.v_ders.now a.j),
+)
 
 pub overflow_add-h : goal.overflow_add-h
 overflow_add-h c = let h = c.requires.net_reach c.loop-k.k (omega arith) in

@@ -17,7 +17,7 @@ returns-then-refusal-ne0-2 c = simp
 pub returns : goal.returns
 unfolding parameters_refusal
 returns c = simp (
-      skip c.degrees_refusal-refusal.ensures c.if-refusal-ne0.false,
-      skip c.domain_refusal-refusal.ensures c.if-refusal-ne0-2.false,
-    )
+  skip c.degrees_refusal-refusal.ensures c.if-refusal-ne0.false,
+  skip c.domain_refusal-refusal.ensures c.if-refusal-ne0-2.false,
+)
     c.domain_refusal.ensures

@@ -19,7 +19,7 @@ pub returns-in-Are : goal.returns-in-Are
 unfolding outcome ends_room
 returns-in-Are c = let all = let a = c.put_all_ends-next.ensures in
     let b = c.put_all_ends.ensures in
-    rw c.in-Are.is (both_stored a.0 b.0, omega arith) in
+    rw c.in-Are.is (both_stored a.stored b.stored, omega arith) in
     record { stored = all.0; upper_bound = all.1 }
 
 pub returns-in-Refused : goal.returns-in-Refused

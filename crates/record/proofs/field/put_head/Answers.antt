@@ -11,7 +11,7 @@ pub put_u16-requires : goal.put_u16-requires
 put_u16-requires c = rw length-set (omega arith)
 
 pub shape_of-out : goal.shape_of-out
-shape_of-out c = c.put_u16.auto.0 ∙ simp length-set
+shape_of-out c = c.put_u16.auto.out ∙ simp length-set
 
 pub returns : goal.returns
 unfolding head

@@ -31,7 +31,7 @@ loop-j-preserved c = let xs = c.args.xs.now in
     )
 
 pub shape_of-out : goal.shape_of-out
-shape_of-out c = c.loop-j.invariant.1 ∙ c.put_head.auto.0
+shape_of-out c = c.loop-j.invariant.1 ∙ c.put_head.auto.out
 
 pub returns : goal.returns
 returns c = let xs = c.args.xs.now in

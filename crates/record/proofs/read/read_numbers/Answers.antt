@@ -47,9 +47,9 @@ returns-then-not-has_room c = let a = c.args in
     (no_room
     s l (length k) (length p) (length w) e
     (rw (
-      ← c.clear.auto.0,
-      ← c.clear-2.auto.0,
-      ← c.clear-3.auto.0,
+      ← c.clear.auto.xs,
+      ← c.clear-2.auto.xs,
+      ← c.clear-3.auto.xs,
     )
     none-for)))
 
@@ -140,9 +140,9 @@ returns c = let b = c.clear-3 in
     s l k p w m e
     (rw (
       ←
-          c.clear.auto.0,
+          c.clear.auto.xs,
       ←
-          c.clear-2.auto.0,
-      ← b.auto.0,
+          c.clear-2.auto.xs,
+      ← b.auto.xs,
     )
     fits))

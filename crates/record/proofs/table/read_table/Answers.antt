@@ -17,8 +17,8 @@ layout_refusal-refusal-requires c = let a = c.args in
     let r : ReadsNumbers s k p w _ _ _ (Fields l) = rw c.in-Fields.is at read.ensures in
     let fits = fits-runs l _ _ _ (room s k p w _ _ _ l r) in
     record {
-      knots_in_bounds = rw read.auto.1.0 fits.0;
-      points_in_bounds = rw read.auto.1.1.0 fits.1;
+      knots_in_bounds = rw read.auto.points fits.0;
+      points_in_bounds = rw read.auto.weights fits.1;
       weights_in_bounds = rw read.auto.1.1.1.0 fits.2;
     }
 
@@ -69,4 +69,4 @@ returns-else-refusal-ne0 c = let a = c.args in
     let r : ReadsNumbers s k p w _ _ _ (Fields l) = rw c.in-Fields.is at read.ensures in
     rw
     c.is_rational.ensures
-    (curve-read s k p w _ _ _ l r _ c.layout_refusal-refusal.ensures read.auto.1.0 read.auto.1.1.0 read.auto.1.1.1.0 c.if-refusal-ne0.false)
+    (curve-read s k p w _ _ _ l r _ c.layout_refusal-refusal.ensures read.auto.points read.auto.weights read.auto.1.1.1.0 c.if-refusal-ne0.false)

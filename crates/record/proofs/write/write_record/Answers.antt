@@ -42,7 +42,7 @@ returns-then-out-n c = let all = let b = c.clear_bytes in
     size-some
     a.degree ks ps a.rational ws c.in-Is.n
     (sym c.record_size-size.ensures ∙ c.in-Is.is) in
-    let long : length b.new.bytes ≡ length out = b.auto.0 in
+    let long : length b.new.bytes ≡ length out = b.auto.bytes in
     let w : Writes t out b.new.bytes (Refused (refuse length-bad)) =
     rw b.ensures (writes_short t out size.0 (omega arith)) in
     rw
@@ -66,7 +66,7 @@ put_table-requires c = let a = c.args in
     a.degree ks ps a.rational ws c.in-Is.n
     (sym c.record_size-size.ensures ∙ c.in-Is.is) in
     let long : length c.clear_bytes.new.bytes ≡ length out =
-    c.clear_bytes.auto.0 in
+    c.clear_bytes.auto.bytes in
     let table = length-table a.degree ks ps a.rational ws in
     omega arith
 
@@ -82,7 +82,7 @@ returns c = let b = c.clear_bytes in
     size-some
     a.degree ks ps a.rational ws c.in-Is.n
     (sym c.record_size-size.ensures ∙ c.in-Is.is) in
-    let long : length b.new.bytes ≡ length out = b.auto.0 in
+    let long : length b.new.bytes ≡ length out = b.auto.bytes in
     let w : Writes t out c.put_table.new.out (Written c.in-Is.n) =
     rw
     (c.put_table.ensures, b.ensures, ← size.1)
