@@ -16,31 +16,31 @@ row_of-net-requires-clause-degree_in_bounds c = c.requires.degree_in_bounds
 
 pub row_of-net-requires-clause-degree_bound_2 : goal.row_of-net-requires-clause-degree_bound_2
 row_of-net-requires-clause-degree_bound_2 c = omega (
-        arith,
-        c.requires.degree_le_s,
-        c.requires.s_bound,
-      )
+  arith,
+  c.requires.degree_le_s,
+  c.requires.s_bound,
+)
 
 pub returns-in-Made : goal.returns-in-Made
 unfolding span_bound
 returns-in-Made c = rw (
-      ← c.weights_of.ensures,
-      c.in-Are.is,
-      ← c.new.ensures,
-      c.in-Made.is,
-      ← c.parameter-t.ensures,
-      ← c.point_at-o.ensures,
-      ← c.row_of-net.ensures,
-    ) c.cartesian_of.ensures
+  ← c.weights_of.ensures,
+  c.in-Are.is,
+  ← c.new.ensures,
+  c.in-Made.is,
+  ← c.parameter-t.ensures,
+  ← c.point_at-o.ensures,
+  ← c.row_of-net.ensures,
+) c.cartesian_of.ensures
 
 pub returns-in-Nothing : goal.returns-in-Nothing
 unfolding span_bound
 returns-in-Nothing c = rw (
-      ← c.weights_of.ensures,
-      c.in-Are.is,
-      ← c.new.ensures,
-      c.in-Nothing.is,
-    )
+  ← c.weights_of.ensures,
+  c.in-Are.is,
+  ← c.new.ensures,
+  c.in-Nothing.is,
+)
 
 pub returns-in-Refused : goal.returns-in-Refused
 unfolding span_bound

@@ -35,12 +35,12 @@ loop-m-smaller c = omega (arith, c.requires.few, c.loop-m-test.true)
 
 pub loop-m-preserved : goal.loop-m-preserved
 loop-m-preserved c = let a = c.args in (
-      omega (arith, c.loop-m-test.true),
-      c.extreme_weights-found.ensures ∙ ap
-          (λ (x : Extremes). extremes_of x (λ (j : ℕ). weight_at a.rational a.weights.now
-          ((a.row + c.loop-m.m) * a.nv + a.col + j)) a.cols) c.loop-m.invariant.1 ∙ net-more
-          (λ (i : ℕ) (j : ℕ). weight_at a.rational a.weights.now ((a.row + i) * a.nv + a.col + j)) a.cols c.loop-m.m,
-    )
+  omega (arith, c.loop-m-test.true),
+  c.extreme_weights-found.ensures ∙ ap
+      (λ (x : Extremes). extremes_of x (λ (j : ℕ). weight_at a.rational a.weights.now
+      ((a.row + c.loop-m.m) * a.nv + a.col + j)) a.cols) c.loop-m.invariant.1 ∙ net-more
+      (λ (i : ℕ) (j : ℕ). weight_at a.rational a.weights.now ((a.row + i) * a.nv + a.col + j)) a.cols c.loop-m.m,
+)
 
 pub returns : goal.returns
 returns c = let e : c.loop-m.m ≡ c.args.rows = omega (arith, c.loop-m.invariant.0, c.loop-m-test.false) in

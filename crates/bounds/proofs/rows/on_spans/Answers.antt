@@ -38,37 +38,37 @@ rows_of-net-requires c = let q = c.requires in
 pub returns-in-Made-new : goal.returns-in-Made-new
 unfolding spans_bound row_at
 returns-in-Made-new c = rw (
-      ← c.weights_in.ensures,
-      c.in-Are.is,
-      ← c.new.ensures,
-      c.in-Made.is,
-      ← c.new-in-Made.ensures,
-      c.in-Made-new.is,
-      ← c.point_at-o.ensures,
-      ← c.second.ensures,
-      ← c.parameter.ensures,
-      ← c.rows_of-net.ensures,
-    ) c.cartesian_of.ensures
+  ← c.weights_in.ensures,
+  c.in-Are.is,
+  ← c.new.ensures,
+  c.in-Made.is,
+  ← c.new-in-Made.ensures,
+  c.in-Made-new.is,
+  ← c.point_at-o.ensures,
+  ← c.second.ensures,
+  ← c.parameter.ensures,
+  ← c.rows_of-net.ensures,
+) c.cartesian_of.ensures
 
 pub returns-in-Nothing-new : goal.returns-in-Nothing-new
 unfolding spans_bound row_at
 returns-in-Nothing-new c = rw (
-      ← c.weights_in.ensures,
-      c.in-Are.is,
-      ← c.new.ensures,
-      c.in-Made.is,
-      ← c.new-in-Made.ensures,
-      c.in-Nothing-new.is,
-    )
+  ← c.weights_in.ensures,
+  c.in-Are.is,
+  ← c.new.ensures,
+  c.in-Made.is,
+  ← c.new-in-Made.ensures,
+  c.in-Nothing-new.is,
+)
 
 pub returns-in-Nothing : goal.returns-in-Nothing
 unfolding spans_bound row_at
 returns-in-Nothing c = rw (
-      ← c.weights_in.ensures,
-      c.in-Are.is,
-      ← c.new.ensures,
-      c.in-Nothing.is,
-    )
+  ← c.weights_in.ensures,
+  c.in-Are.is,
+  ← c.new.ensures,
+  c.in-Nothing.is,
+)
 
 pub returns-in-Refused : goal.returns-in-Refused
 unfolding spans_bound row_at

@@ -35,23 +35,23 @@ row_of-requires-clause-degree_in_bounds c = c.requires.degree_in_bounds_2
 
 pub row_of-requires-clause-degree_bound_2 : goal.row_of-requires-clause-degree_bound_2
 row_of-requires-clause-degree_bound_2 c = omega
-          (arith, c.requires.rows_fit.small c.loop-m.m (omega (arith, c.loop-m-test.true)))
+    (arith, c.requires.rows_fit.small c.loop-m.m (omega (arith, c.loop-m-test.true)))
 
 pub offset_bounds-net-m : goal.offset_bounds-net-m
 offset_bounds-net-m c = omega (
-      arith,
-      c.loop-m-test.true,
-      c.loop-m.invariant.long,
-      c.requires.degree_bound,
-    )
+  arith,
+  c.loop-m-test.true,
+  c.loop-m.invariant.long,
+  c.requires.degree_bound,
+)
 
 pub bounds-net-m : goal.bounds-net-m
 bounds-net-m c = omega (
-      arith,
-      c.loop-m-test.true,
-      c.loop-m.invariant.long,
-      c.requires.degree_bound,
-    )
+  arith,
+  c.loop-m-test.true,
+  c.loop-m.invariant.long,
+  c.requires.degree_bound,
+)
 
 pub returns-in-Refused : goal.returns-in-Refused
 returns-in-Refused c = let a = c.args in
@@ -63,19 +63,19 @@ returns-in-Refused c = let a = c.args in
 
 pub overflow_add-m : goal.overflow_add-m
 overflow_add-m c = omega (
-      arith,
-      c.loop-m-test.true,
-      c.loop-m.invariant.long,
-      c.requires.degree_bound,
-    )
+  arith,
+  c.loop-m-test.true,
+  c.loop-m.invariant.long,
+  c.requires.degree_bound,
+)
 
 pub loop-m-smaller : goal.loop-m-smaller
 loop-m-smaller c = omega (
-      arith,
-      c.loop-m-test.true,
-      c.loop-m.invariant.long,
-      c.requires.degree_bound,
-    )
+  arith,
+  c.loop-m-test.true,
+  c.loop-m.invariant.long,
+  c.requires.degree_bound,
+)
 
 pub loop-m-preserved : goal.loop-m-preserved
 loop-m-preserved c = let a = c.args in
@@ -100,19 +100,19 @@ bounds-net-k c = omega (arith, c.loop-at.invariant.long, turn c.loop-at.at (plac
 
 pub offset_bounds-net-j : goal.offset_bounds-net-j
 offset_bounds-net-j c = omega (
-      arith,
-      c.loop-at.invariant.long,
-      turn c.loop-at.at (place c.loop-at.invariant) c.loop-at-test.true
-          c.requires.degree_bound,
-    )
+  arith,
+  c.loop-at.invariant.long,
+  turn c.loop-at.at (place c.loop-at.invariant) c.loop-at-test.true
+      c.requires.degree_bound,
+)
 
 pub bounds-net-j : goal.bounds-net-j
 bounds-net-j c = omega (
-      arith,
-      c.loop-at.invariant.long,
-      turn c.loop-at.at (place c.loop-at.invariant) c.loop-at-test.true
-          c.requires.degree_bound,
-    )
+  arith,
+  c.loop-at.invariant.long,
+  turn c.loop-at.at (place c.loop-at.invariant) c.loop-at-test.true
+      c.requires.degree_bound,
+)
 
 pub step_at-requires-clause-degree_le_span : goal.step_at-requires-clause-degree_le_span
 step_at-requires-clause-degree_le_span c = c.requires.degree_le_span
@@ -131,21 +131,21 @@ step_at-requires-clause-j_le_degree c = (place c.loop-at.invariant).top
 
 pub offset_bounds-net-j-in-Is-step_at : goal.offset_bounds-net-j-in-Is-step_at
 offset_bounds-net-j-in-Is-step_at c = omega (
-      arith,
-      c.loop-at.invariant.long,
-      turn c.loop-at.at (place c.loop-at.invariant)
-          c.loop-at-test.true
-          c.requires.degree_bound,
-    )
+  arith,
+  c.loop-at.invariant.long,
+  turn c.loop-at.at (place c.loop-at.invariant)
+      c.loop-at-test.true
+      c.requires.degree_bound,
+)
 
 pub bounds-net-j-in-Is-step_at : goal.bounds-net-j-in-Is-step_at
 bounds-net-j-in-Is-step_at c = omega (
-      arith,
-      c.loop-at.invariant.long,
-      turn c.loop-at.at (place c.loop-at.invariant)
-          c.loop-at-test.true
-          c.requires.degree_bound,
-    )
+  arith,
+  c.loop-at.invariant.long,
+  turn c.loop-at.at (place c.loop-at.invariant)
+      c.loop-at-test.true
+      c.requires.degree_bound,
+)
 
 pub returns-in-Refused-step_at : goal.returns-in-Refused-step_at
 returns-in-Refused-step_at c = let a = c.args in

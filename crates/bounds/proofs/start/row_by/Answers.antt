@@ -18,45 +18,45 @@ loop-m-init c = fill_start (λ (i : ℕ). N.Is ((start_at c.args.points.now c.ar
 
 pub overflow_add-i : goal.overflow_add-i
 overflow_add-i c = omega (
-      arith,
-      c.loop-m.invariant.high,
-      c.loop-m-test.true,
-      c.loop-m.invariant.long,
-      c.requires.degree_bound,
-      c.requires.degree_bound_2,
-    )
+  arith,
+  c.loop-m.invariant.high,
+  c.loop-m-test.true,
+  c.loop-m.invariant.long,
+  c.requires.degree_bound,
+  c.requires.degree_bound_2,
+)
 
 pub offset_bounds-net-m : goal.offset_bounds-net-m
 offset_bounds-net-m c = omega (
-      arith,
-      c.loop-m-test.true,
-      c.loop-m.invariant.long,
-      c.requires.degree_bound,
-    )
+  arith,
+  c.loop-m-test.true,
+  c.loop-m.invariant.long,
+  c.requires.degree_bound,
+)
 
 pub bounds-net-m : goal.bounds-net-m
 bounds-net-m c = omega (
-      arith,
-      c.loop-m-test.true,
-      c.loop-m.invariant.long,
-      c.requires.degree_bound,
-    )
+  arith,
+  c.loop-m-test.true,
+  c.loop-m.invariant.long,
+  c.requires.degree_bound,
+)
 
 pub overflow_add-m : goal.overflow_add-m
 overflow_add-m c = omega (
-      arith,
-      c.loop-m-test.true,
-      c.loop-m.invariant.long,
-      c.requires.degree_bound,
-    )
+  arith,
+  c.loop-m-test.true,
+  c.loop-m.invariant.long,
+  c.requires.degree_bound,
+)
 
 pub loop-m-smaller : goal.loop-m-smaller
 loop-m-smaller c = omega (
-      arith,
-      c.loop-m-test.true,
-      c.loop-m.invariant.long,
-      c.requires.degree_bound,
-    )
+  arith,
+  c.loop-m-test.true,
+  c.loop-m.invariant.long,
+  c.requires.degree_bound,
+)
 
 pub loop-m-preserved : goal.loop-m-preserved
 unfolding start_at
@@ -85,19 +85,19 @@ bounds-net-k c = omega (arith, c.loop-at.invariant.long, turn c.loop-at.at (plac
 
 pub offset_bounds-net-j : goal.offset_bounds-net-j
 offset_bounds-net-j c = omega (
-      arith,
-      c.loop-at.invariant.long,
-      turn c.loop-at.at (place c.loop-at.invariant) c.loop-at-test.true
-          c.requires.degree_bound,
-    )
+  arith,
+  c.loop-at.invariant.long,
+  turn c.loop-at.at (place c.loop-at.invariant) c.loop-at-test.true
+      c.requires.degree_bound,
+)
 
 pub bounds-net-j : goal.bounds-net-j
 bounds-net-j c = omega (
-      arith,
-      c.loop-at.invariant.long,
-      turn c.loop-at.at (place c.loop-at.invariant) c.loop-at-test.true
-          c.requires.degree_bound,
-    )
+  arith,
+  c.loop-at.invariant.long,
+  turn c.loop-at.at (place c.loop-at.invariant) c.loop-at-test.true
+      c.requires.degree_bound,
+)
 
 pub step_at-requires-clause-degree_le_span : goal.step_at-requires-clause-degree_le_span
 step_at-requires-clause-degree_le_span c = c.requires.degree_le_span
@@ -116,21 +116,21 @@ step_at-requires-clause-j_le_degree c = (place c.loop-at.invariant).top
 
 pub offset_bounds-net-j-in-Is : goal.offset_bounds-net-j-in-Is
 offset_bounds-net-j-in-Is c = omega (
-      arith,
-      c.loop-at.invariant.long,
-      turn c.loop-at.at (place c.loop-at.invariant)
-          c.loop-at-test.true
-          c.requires.degree_bound,
-    )
+  arith,
+  c.loop-at.invariant.long,
+  turn c.loop-at.at (place c.loop-at.invariant)
+      c.loop-at-test.true
+      c.requires.degree_bound,
+)
 
 pub bounds-net-j-in-Is : goal.bounds-net-j-in-Is
 bounds-net-j-in-Is c = omega (
-      arith,
-      c.loop-at.invariant.long,
-      turn c.loop-at.at (place c.loop-at.invariant)
-          c.loop-at-test.true
-          c.requires.degree_bound,
-    )
+  arith,
+  c.loop-at.invariant.long,
+  turn c.loop-at.at (place c.loop-at.invariant)
+      c.loop-at-test.true
+      c.requires.degree_bound,
+)
 
 pub returns-in-Refused : goal.returns-in-Refused
 returns-in-Refused c = steps-refused c.args.knots.now

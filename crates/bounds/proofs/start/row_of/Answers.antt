@@ -2,8 +2,7 @@ use Rattle.bounds.specs.Start.{row_of}
 use Rattle.bounds.proofs.start.row_of.Goals as goal
 
 pub row_by-requires : goal.row_by-requires
-row_by-requires c = let all = c.requires in
-    record { degree_bound = all.0; degree_le_span = all.1.0; degree_in_bounds = all.1.1.0; degree_bound_2 = all.1.1.1 }
+row_by-requires c = record { degree_bound = c.requires.degree_bound; degree_le_span = c.requires.degree_le_span; degree_in_bounds = c.requires.degree_in_bounds; degree_bound_2 = c.requires.degree_bound_2 }
 
 pub returns-in-Is : goal.returns-in-Is
 unfolding row_of

@@ -30,4 +30,4 @@ returns-clause-figures_2 c = c.lower.ensures.figures_2
 
 pub returns-clause-run_after : goal.returns-clause-run_after
 returns-clause-run_after c = c.lower.ensures.run_after
-      ∙ rw (c.raise.ensures.run_after, c.extra.ensures) (extra-whole _ _ _)
+    ∙ rw (c.raise.ensures.run_after, c.extra.ensures) (extra-whole _ _ _)

@@ -26,16 +26,16 @@ loop-left-smaller c = omega (arith, c.taken-some.ensures.result_nonzero c.loop-l
 
 pub loop-left-preserved : goal.loop-left-preserved
 loop-left-preserved c = let i = c.loop-left.invariant in (
-      c.raise.ensures.figures_2,
-      c.raise.auto.run ∙ i.1,
-      rw (c.raise.ensures.run_after, c.power.ensures) (doubling-step _ _ _ c.taken-some.ensures.upper_bound ∙ i.2),
-    )
+  c.raise.ensures.figures_2,
+  c.raise.auto.run ∙ i.1,
+  rw (c.raise.ensures.run_after, c.power.ensures) (doubling-step _ _ _ c.taken-some.ensures.upper_bound ∙ i.2),
+)
 
 pub shape_of-run : goal.shape_of-run
 shape_of-run c = c.loop-left.invariant.1
 
 pub returns : goal.returns
-returns c = let e : c.loop-left.false ≡ 0 = omega (arith, c.loop-left-test.false) in
+returns c = let e : c.loop-left.left ≡ 0 = omega (arith, c.loop-left-test.false) in
     record {
       figures_2 = c.loop-left.invariant.0;
       run_after = sym (mul-one _) ∙ rw e at c.loop-left.invariant.2;

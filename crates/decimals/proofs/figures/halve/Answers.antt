@@ -26,17 +26,17 @@ loop-left-smaller c = omega (arith, c.taken-some.ensures.result_nonzero c.loop-l
 
 pub loop-left-preserved : goal.loop-left-preserved
 loop-left-preserved c = let i = c.loop-left.invariant in (
-      c.divide.ensures.figures_2,
-      c.divide.auto.run ∙ i.1,
-      rw (c.divide.ensures.run_after, c.power.ensures) (le_trans (whole_le _ _ _ (pow_pos _)) i.2),
-      rw (c.divide.ensures.run_after, c.power.ensures) (halving-step _ _ _ _ c.taken-some.ensures.upper_bound ∙ i.3),
-    )
+  c.divide.ensures.figures_2,
+  c.divide.auto.run ∙ i.1,
+  rw (c.divide.ensures.run_after, c.power.ensures) (le_trans (whole_le _ _ _ (pow_pos _)) i.2),
+  rw (c.divide.ensures.run_after, c.power.ensures) (halving-step _ _ _ _ c.taken-some.ensures.upper_bound ∙ i.3),
+)
 
 pub shape_of-run : goal.shape_of-run
 shape_of-run c = c.loop-left.invariant.1
 
 pub returns : goal.returns
-returns c = let e : c.loop-left.false ≡ 0 = omega (arith, c.loop-left-test.false) in
+returns c = let e : c.loop-left.left ≡ 0 = omega (arith, c.loop-left-test.false) in
     record {
       figures_2 = c.loop-left.invariant.0;
       run_after = sym (whole-one _ _) ∙ rw e at c.loop-left.invariant.3;

@@ -29,9 +29,9 @@ returns c = let s = c.scale.ensures in
     record {
       figures_2 = s.figures_2;
       run_after = s.run_after
-            ∙ rw
-            (billions
-            _ _ _ _ _ c.requires.run_value
-            c.raise.ensures.run_after c.raise-2.ensures.run_after);
+          ∙ rw
+          (billions
+          _ _ _ _ _ c.requires.run_value
+          c.raise.ensures.run_after c.raise-2.ensures.run_after);
       run_bound = s.run_bound_2;
     }

@@ -9,16 +9,19 @@ use Rattle.decimals.proofs.Patterns.{nan_is, inf-is, small_is, large_is}
 use Rattle.decimals.proofs.fixed.put_fixed.Goals as goal
 
 pub returns-then-size-gt9218868437227405312 : goal.returns-then-size-gt9218868437227405312
-returns-then-size-gt9218868437227405312 c = let all = let a = c.args in
+returns-then-size-gt9218868437227405312 c = let a = c.args in
     let good = c.well_formed in
     let fit : T (fits binary64 a.x) = subst T (sym good.1.1.1.0.1) tt in
     let f = nan_is a.up a.x fit _ c.bits_of-bits.ensures c.if-size-gt9218868437227405312.true in
     let w = c.put_word.ensures in
-    rw f (w.out_after, (w.value, omega arith)) in
-    record { out_after = all.0; value = all.1.0; upper_bound = all.1.1 }
+    rw f (record {
+      out_after = w.out_after;
+      value = w.value;
+      upper_bound = omega arith;
+    })
 
 pub returns-then-size-eq9218868437227405312 : goal.returns-then-size-eq9218868437227405312
-returns-then-size-eq9218868437227405312 c = let all = let a = c.args in
+returns-then-size-eq9218868437227405312 c = let a = c.args in
     let good = c.well_formed in
     let fit : T (fits binary64 a.x) = subst T (sym good.1.1.1.0.1) tt in
     let f =
@@ -30,8 +33,11 @@ returns-then-size-eq9218868437227405312 c = let all = let a = c.args in
     let r =
     inf-stored
     a.out.now a.at (leb 0x8000000000000000 c.bits_of-bits.result) m.out_after m.value m.upper_bound w.out_after w.value in
-    rw f (r.0, (r.1, r.2)) in
-    record { out_after = all.0; value = all.1.0; upper_bound = all.1.1 }
+    rw f (record {
+      out_after = r.0;
+      value = r.1;
+      upper_bound = r.2;
+    })
 
 pub returns-then-field-eq0 : goal.returns-then-field-eq0
 returns-then-field-eq0 c = let all = let a = c.args in

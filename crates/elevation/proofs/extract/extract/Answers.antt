@@ -18,16 +18,16 @@ next_break-k-requires c = (omega arith, omega arith, c.requires.p_lt_n.1)
 
 pub loop-k-init : goal.loop-k-init
 loop-k-init c = let a = c.args in (
-      c.next_break-k.ensures.place,
-      extract-start
-          a.p a.rational
-          (insert_all
-          a.p a.rational a.n (knots_from a.a a.p a.n a.work.now) (points_from a.n a.work.now) (weights_from a.rational a.n a.work.now)
-          (missing_all a.p a.knots.now (breaks_of a.p a.n a.knots.now)))
-          (a.n + length (missing_all a.p a.knots.now (breaks_of a.p a.n a.knots.now))) a.a a.knots.now a.work.now a.n c.requires.valid_knots
-          (breaks_of a.p a.n a.knots.now) refl refl (left a.knots.now a.n c.next_break-k.result)
-          (walk-all a.p a.n a.knots.now c.next_break-k.result c.next_break-k.ensures),
-    )
+  c.next_break-k.ensures.place,
+  extract-start
+      a.p a.rational
+      (insert_all
+      a.p a.rational a.n (knots_from a.a a.p a.n a.work.now) (points_from a.n a.work.now) (weights_from a.rational a.n a.work.now)
+      (missing_all a.p a.knots.now (breaks_of a.p a.n a.knots.now)))
+      (a.n + length (missing_all a.p a.knots.now (breaks_of a.p a.n a.knots.now))) a.a a.knots.now a.work.now a.n c.requires.valid_knots
+      (breaks_of a.p a.n a.knots.now) refl refl (left a.knots.now a.n c.next_break-k.result)
+      (walk-all a.p a.n a.knots.now c.next_break-k.result c.next_break-k.ensures),
+)
 
 pub returns-then-refusal-ne0 : goal.returns-then-refusal-ne0
 returns-then-refusal-ne0 c = let a = c.args in

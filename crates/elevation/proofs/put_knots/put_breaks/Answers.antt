@@ -17,11 +17,11 @@ next_break-k-requires c = (omega arith, omega arith, c.requires.p_lt_n.1)
 
 pub loop-k-init : goal.loop-k-init
 loop-k-init c = let a = c.args in (
-      c.next_break-k.ensures.place,
-      knots-start
-          a.p a.e a.knots.now (breaks_of a.p a.n a.knots.now) a.from a.out.now (left a.knots.now a.n c.next_break-k.result)
-          (walk-all a.p a.n a.knots.now c.next_break-k.result c.next_break-k.ensures),
-    )
+  c.next_break-k.ensures.place,
+  knots-start
+      a.p a.e a.knots.now (breaks_of a.p a.n a.knots.now) a.from a.out.now (left a.knots.now a.n c.next_break-k.result)
+      (walk-all a.p a.n a.knots.now c.next_break-k.result c.next_break-k.ensures),
+)
 
 pub overflow_add-m : goal.overflow_add-m
 overflow_add-m c = let q = c.requires.p_lt_n.2 in let b = bit_le c.is_full.result in let r = c.bit_of.ensures in search rules

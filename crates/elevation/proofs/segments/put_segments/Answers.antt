@@ -41,12 +41,12 @@ next_break-k-requires c = let q = c.requires.p_lt_n.0 in
 
 pub loop-k-init : goal.loop-k-init
 loop-k-init c = let a = c.args in (
-      c.next_break-k.ensures.place,
-      rest-start a.p a.e a.n a.knots.now a.work.now a.o a.rational
-          c.put_segment.new.points
-          c.put_segment.new.weights (left a.knots.now a.n c.next_break-k.result)
-          (walk-all a.p a.n a.knots.now c.next_break-k.result c.next_break-k.ensures),
-    )
+  c.next_break-k.ensures.place,
+  rest-start a.p a.e a.n a.knots.now a.work.now a.o a.rational
+      c.put_segment.new.points
+      c.put_segment.new.weights (left a.knots.now a.n c.next_break-k.result)
+      (walk-all a.p a.n a.knots.now c.next_break-k.result c.next_break-k.ensures),
+)
 
 pub overflow_mul-first : goal.overflow_mul-first
 overflow_mul-first c = let r =
@@ -71,15 +71,15 @@ put_segment-requires-in-loop-k c = let a = c.args in
     record {
       p_le_e = (b.p_lt_n.2, b.p_lt_n.3);
       p_in_bounds = rest-rows a.p a.e a.n a.knots.now a.work.now a.o a.rational h.new.points
-            h.new.weights b.knots_in_bounds (let w = z.given in let y = b.knots_in_bounds_2 in omega arith) (let w = v.given in let y = b.knots_in_bounds_3 in omega arith) d.points
-            d.weights d.k d.j d.place d.invariant.1 d.invariant.0 c.loop-k-test.true _ c.is_full-full.ensures;
+          h.new.weights b.knots_in_bounds (let w = z.given in let y = b.knots_in_bounds_2 in omega arith) (let w = v.given in let y = b.knots_in_bounds_3 in omega arith) d.points
+          d.weights d.k d.j d.place d.invariant.1 d.invariant.0 c.loop-k-test.true _ c.is_full-full.ensures;
       full_in_bounds = rest-points a.p a.e a.n a.knots.now a.work.now a.o a.rational h.new.points h.new.weights b.knots_in_bounds
-              (let w = z.given in let y = b.knots_in_bounds_2 in omega arith) (let w = v.given in let y = b.knots_in_bounds_3 in omega arith) d.points d.weights d.k d.j d.place d.invariant.1
-              d.invariant.0 c.loop-k-test.true _ c.is_full-full.ensures;
+          (let w = z.given in let y = b.knots_in_bounds_2 in omega arith) (let w = v.given in let y = b.knots_in_bounds_3 in omega arith) d.points d.weights d.k d.j d.place d.invariant.1
+          d.invariant.0 c.loop-k-test.true _ c.is_full-full.ensures;
       full_in_bounds_2 = rest-weights a.p a.e a.n a.knots.now a.work.now a.o
-              a.rational h.new.points h.new.weights b.knots_in_bounds (let w = z.given in let y = b.knots_in_bounds_2 in omega arith) (let w = v.given in
-              let y = b.knots_in_bounds_3 in omega arith) d.points d.weights d.k d.j d.place d.invariant.1 d.invariant.0 c.loop-k-test.true _
-              c.is_full-full.ensures;
+          a.rational h.new.points h.new.weights b.knots_in_bounds (let w = z.given in let y = b.knots_in_bounds_2 in omega arith) (let w = v.given in
+          let y = b.knots_in_bounds_3 in omega arith) d.points d.weights d.k d.j d.place d.invariant.1 d.invariant.0 c.loop-k-test.true _
+          c.is_full-full.ensures;
     }
 
 pub returns-then-not-put_segment-2 : goal.returns-then-not-put_segment-2

@@ -16,17 +16,17 @@ returns-then-early-ne0 c = simp
 pub returns-then-room-ne0 : goal.returns-then-room-ne0
 unfolding insert_start
 returns-then-room-ne0 c = simp (
-      sym c.over_long.ensures ∙ c.if-over_long.false,
-      skip c.edit_start-early.ensures c.if-early-ne0.false,
-      stop c.out_room-room.ensures c.if-room-ne0.true,
-    )
+  sym c.over_long.ensures ∙ c.if-over_long.false,
+  skip c.edit_start-early.ensures c.if-early-ne0.false,
+  stop c.out_room-room.ensures c.if-room-ne0.true,
+)
     c.out_room-room.ensures
 
 pub returns : goal.returns
 unfolding insert_start
 returns c = simp (
-      sym c.over_long.ensures ∙ c.if-over_long.false,
-      skip c.edit_start-early.ensures c.if-early-ne0.false,
-      skip c.out_room-room.ensures c.if-room-ne0.false,
-    )
+  sym c.over_long.ensures ∙ c.if-over_long.false,
+  skip c.edit_start-early.ensures c.if-early-ne0.false,
+  skip c.out_room-room.ensures c.if-room-ne0.false,
+)
     c.scratch_room.ensures

@@ -9,7 +9,7 @@ use Rattle.listing.proofs.boxes.put_ends.Goals as goal
 
 pub returns-then-rounded : goal.returns-then-rounded
 unfolding spaced_decimals ends_room
-returns-then-rounded c = let all = let room = rw c.if-rounded.true at
+returns-then-rounded c = let room = rw c.if-rounded.true at
     c.requires in
     let a = c.put_number-next.ensures in
     let b = c.put_number.ensures in
@@ -18,12 +18,14 @@ returns-then-rounded c = let all = let room = rw c.if-rounded.true at
       ← c.lo.ensures,
       ← c.hi.ensures,
     )
-    (both_stored (a.roomy (omega arith)) (b.roomy (search rules)), omega arith) in
-    record { stored = all.0; upper_bound = all.1 }
+    (record {
+      stored = both_stored (a.roomy (omega arith)) (b.roomy (search rules));
+      upper_bound = omega arith;
+    })
 
 pub returns : goal.returns
 unfolding spaced_ends ends_room
-returns c = let all = let room = rw c.if-rounded.false at
+returns c = let room = rw c.if-rounded.false at
     c.requires in
     let a = c.put_bits-next.ensures in
     let b = c.put_bits.ensures in
@@ -31,5 +33,7 @@ returns c = let all = let room = rw c.if-rounded.false at
       c.if-rounded.false,
       ← c.lo-2.ensures,
       ← c.hi-2.ensures,
-    ) (both_stored (a.roomy (omega arith)) (b.roomy (search rules)), omega arith) in
-    record { stored = all.0; upper_bound = all.1 }
+    ) (record {
+      stored = both_stored (a.roomy (omega arith)) (b.roomy (search rules));
+      upper_bound = omega arith;
+    })

@@ -17,13 +17,17 @@ put_all_ends-requires c = search rules
 
 pub returns-in-Are : goal.returns-in-Are
 unfolding outcome ends_room
-returns-in-Are c = let all = let a = c.put_all_ends-next.ensures in
+returns-in-Are c = let a = c.put_all_ends-next.ensures in
     let b = c.put_all_ends.ensures in
-    rw c.in-Are.is (both_stored a.stored b.stored, omega arith) in
-    record { stored = all.0; upper_bound = all.1 }
+    rw c.in-Are.is (record {
+      stored = both_stored a.stored b.stored;
+      upper_bound = omega arith;
+    })
 
 pub returns-in-Refused : goal.returns-in-Refused
 unfolding outcome
-returns-in-Refused c = let all = let a = c.put_label.ensures in
-    rw c.in-Refused.is (a.roomy (search rules), omega arith) in
-    record { stored = all.0; upper_bound = all.1 }
+returns-in-Refused c = let a = c.put_label.ensures in
+    rw c.in-Refused.is (record {
+      stored = a.roomy (search rules);
+      upper_bound = omega arith;
+    })

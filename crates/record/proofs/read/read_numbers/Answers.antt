@@ -16,15 +16,14 @@ returns-in_default c = let a = c.args in
     let k = a.knots.now in
     let p = a.points.now in
     let w = a.weights.now in
-    let told = c.enum_told-1.given in
     let read = c.read_record-read.ensures in
     rw (
-      told.1,
+      c.in_default.is,
       c.clear.ensures,
       c.clear-2.ensures,
       c.clear-3.ensures,
     )
-    (numbers-refused s k p w told.0.0 read.means (no_record s (length k) (length p) (length w) told.0.0 (sym told.1 ∙ read.answer)))
+    (numbers-refused s k p w c.in_default.field-0 read.means (no_record s (length k) (length p) (length w) c.in_default.field-0 (sym c.in_default.is ∙ read.answer)))
 
 pub returns-then-not-has_room : goal.returns-then-not-has_room
 returns-then-not-has_room c = let a = c.args in
@@ -107,8 +106,8 @@ fill-requires-3-clause-n_in_bounds c = (let room_at' : Room c.args.s.now c.in-Fi
 
 pub fill-requires-3-clause-n_in_bounds_2 : goal.fill-requires-3-clause-n_in_bounds_2
 fill-requires-3-clause-n_in_bounds_2 c = (fits-runs
-      c.in-Fields.l _ _ _
-      (let fits-at' : room_for c.in-Fields.l
+    c.in-Fields.l _ _ _
+    (let fits-at' : room_for c.in-Fields.l
     (length c.clear.new.xs)
     (length c.clear-2.new.xs)
     (length c.clear-3.new.xs) ≡ true = sym c.has_room.ensures ∙ c.if-not-has_room.false in fits-at')).2

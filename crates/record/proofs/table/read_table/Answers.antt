@@ -17,31 +17,31 @@ layout_refusal-refusal-requires c = let a = c.args in
     let r : ReadsNumbers s k p w _ _ _ (Fields l) = rw c.in-Fields.is at read.ensures in
     let fits = fits-runs l _ _ _ (room s k p w _ _ _ l r) in
     record {
-      knots_in_bounds = rw read.auto.points fits.0;
-      points_in_bounds = rw read.auto.weights fits.1;
-      weights_in_bounds = rw read.auto.1.1.1.0 fits.2;
+      knots_in_bounds = rw read.auto.knots fits.0;
+      points_in_bounds = rw read.auto.points fits.1;
+      weights_in_bounds = rw read.auto.weights fits.2;
     }
 
 pub returns-then-refusal-ne0 : goal.returns-then-refusal-ne0
-returns-then-refusal-ne0 c = let b = c.read-in-Fields-1 in
+returns-then-refusal-ne0 c =
     let a = c.args in
     let s = a.s.now in
     let k = a.knots.now in
     let p = a.points.now in
     let w = a.weights.now in
     let read = c.read_numbers-read in
-    let l = b.given.0.0 in
+    let l = c.in-Fields.layout in
     let r : ReadsNumbers s k p w _ _ _ (Fields l) =
     rw
-    b.given.1 at read.ensures
+    c.in-Fields.is at read.ensures
     in
     rw (
       c.clear.ensures,
       c.clear-then-refusal-ne0.ensures,
       c.clear-then-refusal-ne0-2.ensures,
-      read.kept.1.0,
-      read.kept.1.1.0,
-      read.kept.1.1.1.0,
+      read.auto.knots,
+      read.auto.points,
+      read.auto.weights,
     )
     (refused-curve
     s k p w _ _ _ l r _ c.layout_refusal-refusal.ensures
@@ -69,4 +69,4 @@ returns-else-refusal-ne0 c = let a = c.args in
     let r : ReadsNumbers s k p w _ _ _ (Fields l) = rw c.in-Fields.is at read.ensures in
     rw
     c.is_rational.ensures
-    (curve-read s k p w _ _ _ l r _ c.layout_refusal-refusal.ensures read.auto.points read.auto.weights read.auto.1.1.1.0 c.if-refusal-ne0.false)
+    (curve-read s k p w _ _ _ l r _ c.layout_refusal-refusal.ensures read.auto.knots read.auto.points read.auto.weights c.if-refusal-ne0.false)

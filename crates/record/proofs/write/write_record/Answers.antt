@@ -11,7 +11,7 @@ use Rattle.record.proofs.Written.{length-table, size_none, size-some, writes-non
 use Rattle.record.proofs.write.write_record.Goals as goal
 
 pub returns-in_default : goal.returns-in_default
-returns-in_default c = let all = let a = c.args in
+returns-in_default c = let a = c.args in
     let ks = a.knots.now in
     let ps = a.points.now in
     let ws = a.weights.now in
@@ -21,17 +21,16 @@ returns-in_default c = let all = let a = c.args in
     let w : Writes t out c.clear_bytes.new.bytes (Refused (refuse length-bad)) =
     rw c.clear_bytes.ensures (writes-none t out none-held) in
     rw
-    c.refuse.ensures (
-      w,
-      reads-back
+    c.refuse.ensures (record {
+      writes = w;
+      reads_back = reads-back
           a.degree ks ps a.rational ws (λ i. c.shared_slice_known-1.given i)
           (λ i. c.shared_slice_known-2-1.given i)
-          (λ i. c.shared_slice_known-3-1.given i) out _ _ w,
-    ) in
-    record { writes = all.0; reads_back = all.1 }
+          (λ i. c.shared_slice_known-3-1.given i) out _ _ w;
+    })
 
 pub returns-then-out-n : goal.returns-then-out-n
-returns-then-out-n c = let all = let b = c.clear_bytes in
+returns-then-out-n c = let b = c.clear_bytes in
     let a = c.args in
     let ks = a.knots.now in
     let ps = a.points.now in
@@ -46,14 +45,13 @@ returns-then-out-n c = let all = let b = c.clear_bytes in
     let w : Writes t out b.new.bytes (Refused (refuse length-bad)) =
     rw b.ensures (writes_short t out size.0 (omega arith)) in
     rw
-    c.refuse-then-out-n.ensures (
-      w,
-      reads-back
+    c.refuse-then-out-n.ensures (record {
+      writes = w;
+      reads_back = reads-back
           a.degree ks ps a.rational ws (λ i. c.shared_slice_known-1.given i)
           (λ i. c.shared_slice_known-2-1.given i)
-          (λ i. c.shared_slice_known-3-1.given i) out _ _ w,
-    ) in
-    record { writes = all.0; reads_back = all.1 }
+          (λ i. c.shared_slice_known-3-1.given i) out _ _ w;
+    })
 
 pub put_table-requires : goal.put_table-requires
 put_table-requires c = let a = c.args in

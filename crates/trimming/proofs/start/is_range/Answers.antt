@@ -14,25 +14,25 @@ returns-then-not-is_finite-2 c = simp (sym c.is_finite.ensures ∙ c.if-not-is_f
 pub returns-then-lo-hi : goal.returns-then-lo-hi
 unfolding in_range
 returns-then-lo-hi c = simp (
-      sym c.is_finite.ensures ∙ c.if-not-is_finite.false,
-      sym c.is_finite-2.ensures ∙ c.if-not-is_finite-2.false,
-      c.if-lo-hi.true,
-    )
+  sym c.is_finite.ensures ∙ c.if-not-is_finite.false,
+  sym c.is_finite-2.ensures ∙ c.if-not-is_finite-2.false,
+  c.if-lo-hi.true,
+)
 
 pub returns-then-lo-a : goal.returns-then-lo-a
 unfolding in_range
 returns-then-lo-a c = simp (
-      sym c.is_finite.ensures ∙ c.if-not-is_finite.false,
-      sym c.is_finite-2.ensures ∙ c.if-not-is_finite-2.false,
-      c.if-lo-hi.false,
-      c.if-lo-a.true,
-    )
+  sym c.is_finite.ensures ∙ c.if-not-is_finite.false,
+  sym c.is_finite-2.ensures ∙ c.if-not-is_finite-2.false,
+  c.if-lo-hi.false,
+  c.if-lo-a.true,
+)
 
 pub returns : goal.returns
 unfolding in_range
 returns c = simp (
-      sym c.is_finite.ensures ∙ c.if-not-is_finite.false,
-      sym c.is_finite-2.ensures ∙ c.if-not-is_finite-2.false,
-      c.if-lo-hi.false,
-      c.if-lo-a.false,
-    )
+  sym c.is_finite.ensures ∙ c.if-not-is_finite.false,
+  sym c.is_finite-2.ensures ∙ c.if-not-is_finite-2.false,
+  c.if-lo-hi.false,
+  c.if-lo-a.false,
+)
