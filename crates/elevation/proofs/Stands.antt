@@ -26,14 +26,14 @@ module _ (p e : ℕ) (ks : List Float) (h : ℕ → Control) where
   controls-part j i zero = refl
   controls-part j i (suc m) = ap (λ (l : List Control). segment_of p e h j i ∷ l) (controls-part j (i + 1) m)
 
-  kept_from : (j : ℕ) (bs : List Float) → kept_from p e ks h j bs ≡ joined_from p e ks (segment_of p e h) j bs
+  kept_from-joined : (j : ℕ) (bs : List Float) → kept_from p e ks h j bs ≡ joined_from p e ks (segment_of p e h) j bs
   unfolding kept_from joined_from added_by
-  kept_from j [] = refl
-  kept_from j (t ∷ bs) = rw (controls-part j (bit (not (is_full p ks t))) (e + bit (is_full p ks t)), kept_from (j + 1) bs)
+  kept_from-joined j [] = refl
+  kept_from-joined j (t ∷ bs) = rw (controls-part j (bit (not (is_full p ks t))) (e + bit (is_full p ks t)), kept_from-joined (j + 1) bs)
 
   pub kept-joined : (bs : List Float) → kept_all p e ks h bs ≡ joined_all p e ks (segment_of p e h) bs
   unfolding kept_all joined_all added_by
-  kept-joined bs = rw (controls-part 0 0 (e + 1), kept_from 1 bs)
+  kept-joined bs = rw (controls-part 0 0 (e + 1), kept_from-joined 1 bs)
 
 -- ---- the controls
 module _ {X : Type 0} (p e : ℕ) (ks : List Float) (seg : ℕ → ℕ → X) (d : X) (L : List X) where

@@ -40,23 +40,23 @@ returns-then-size-eq9218868437227405312 c = let a = c.args in
     })
 
 pub returns-then-field-eq0 : goal.returns-then-field-eq0
-returns-then-field-eq0 c = let all = let a = c.args in
+returns-then-field-eq0 c = let a = c.args in
     let good = c.well_formed in
     let fit : T (fits binary64 a.x) = subst T (sym good.1.1.1.0.1) tt in
     let f =
     small_is
     a.up a.x fit _ c.bits_of-bits.ensures c.if-size-gt9218868437227405312.false
     c.if-size-eq9218868437227405312.false c.if-field-eq0.true in
-    rw f c.put_finite.ensures in
-    record { out_after = all.0; value = all.1.0; upper_bound = all.1.1 }
+    let w = c.put_finite.ensures in
+    rw f (record { out_after = w.out_after; value = w.value; upper_bound = w.upper_bound })
 
 pub returns : goal.returns
-returns c = let all = let a = c.args in
+returns c = let a = c.args in
     let good = c.well_formed in
     let fit : T (fits binary64 a.x) = subst T (sym good.1.1.1.0.1) tt in
     let f =
     large_is
     a.up a.x fit _ c.bits_of-bits.ensures c.if-size-gt9218868437227405312.false
     c.if-size-eq9218868437227405312.false c.if-field-eq0.false in
-    rw f c.put_finite-2.ensures in
-    record { out_after = all.0; value = all.1.0; upper_bound = all.1.1 }
+    let w = c.put_finite-2.ensures in
+    rw f (record { out_after = w.out_after; value = w.value; upper_bound = w.upper_bound })

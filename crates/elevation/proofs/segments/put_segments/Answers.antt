@@ -114,11 +114,29 @@ overflow_add-place-in-loop-k-2 c = let r = (let within' : (c.loop-k.place +
     let b = c.bit_of.ensures in
     let u = c.points-1.given in
     let l = c.loop-k.invariant.1.going.long-points in
-    let g = c.good in
-    let f = c.fits in search rules
+    let g = c.well_formed in
+    let f = c.ranges in search rules
 
 pub overflow_add-place-in-loop-k : goal.overflow_add-place-in-loop-k
-overflow_add-place-in-loop-k c = let h = add-place-3 c in search rules
+overflow_add-place-in-loop-k c = let r = (let within' : (c.loop-k.place +
+    (c.args.e
+    + bit c.is_full-full.result)) * 3 ≤ length
+    c.loop-k.points = let a = c.args in
+    let d = c.loop-k in
+    let h = c.requires in
+    let z = c.put_segment in
+    let v = c.points-1 in
+    rest-points a.p a.e a.n a.knots.now a.work.now a.o a.rational z.new.points z.new.weights h.knots_in_bounds
+    (let w = v.given in let y = h.knots_in_bounds_2 in omega arith)
+    (let w = c.weights-1.given in let y = h.knots_in_bounds_3 in
+    omega arith) d.points d.weights d.k d.j d.place d.invariant.1 d.invariant.0
+    c.loop-k-test.true _
+    c.is_full-full.ensures in within') in
+    let b = c.bit_of.ensures in
+    let u = c.points-1.given in
+    let l = c.loop-k.invariant.1.going.long-points in
+    let g = c.well_formed in
+    let f = c.ranges in search rules
 
 pub overflow_add-j : goal.overflow_add-j
 overflow_add-j c = let a = c.args in

@@ -11,7 +11,7 @@ pub overflow_mul-at : goal.overflow_mul-at
 overflow_mul-at c = let a = c.args in
     let b = c.box_width in
     let w : b.result ≤ 18 = rw b.ensures (box-width-small a.alone) in
-    omega (arith, small_product a.i b.result (omega (arith, c.requires.?.1)) w)
+    omega (arith, small_product a.i b.result (omega (arith, c.requires.i_bound)) w)
 
 pub returns-then-alone : goal.returns-then-alone
 returns-then-alone c = let a = c.args in
@@ -25,13 +25,13 @@ pub overflow_add-at : goal.overflow_add-at
 overflow_add-at c = let a = c.args in
     let b = c.box_width in
     let w : b.result ≤ 18 = rw b.ensures (box-width-small a.alone) in
-    omega (arith, small_product a.i b.result (omega (arith, c.requires.?.1)) w)
+    omega (arith, small_product a.i b.result (omega (arith, c.requires.i_bound)) w)
 
 pub overflow_add-at-2 : goal.overflow_add-at-2
 overflow_add-at-2 c = let a = c.args in
     let b = c.box_width in
     let w : b.result ≤ 18 = rw b.ensures (box-width-small a.alone) in
-    omega (arith, small_product a.i b.result (omega (arith, c.requires.?.1)) w)
+    omega (arith, small_product a.i b.result (omega (arith, c.requires.i_bound)) w)
 
 pub returns : goal.returns
 returns c = let a = c.args in

@@ -35,10 +35,10 @@ put_row-requires c = let l = c.loop-i in
 
 pub overflow_add-i : goal.overflow_add-i
 overflow_add-i c = omega (
-      arith,
-      c.requires.ts_len_bound,
-      c.loop-i-test.true,
-    )
+  arith,
+  c.requires.ts_len_bound,
+  c.loop-i-test.true,
+)
 
 pub loop-i-preserved : goal.loop-i-preserved
 loop-i-preserved c = let l = c.loop-i in

@@ -17,14 +17,14 @@ pub shape_of-work-then-laid-ne0 : goal.shape_of-work-then-laid-ne0
 shape_of-work-then-laid-ne0 c = c.work-1.given
 
 pub returns-then-laid-ne0 : goal.returns-then-laid-ne0
-returns-then-laid-ne0 c = let all = let a = c.args in
+returns-then-laid-ne0 c = let a = c.args in
     let q = c.requires in
-    absurd
-    (c.if-laid-ne0.true
+    let no : ⊥ =
+    c.if-laid-ne0.true
     (laid_none
     a.a a.degree a.knots.now a.points.now a.rational a.weights.now q.valid_curve a.lo a.hi a.work.now q.hi_bound.0 q.hi_bound.1 _
-    c.lay_curve-laid.ensures.value)) in
-    record { value = all.0; work_after = all.1 }
+    c.lay_curve-laid.ensures.value) in
+    record { value = absurd no; work_after = absurd no }
 
 pub shape_of-work-then-first-ne0 : goal.shape_of-work-then-first-ne0
 shape_of-work-then-first-ne0 c = c.work-2-1.given ∙ c.work-1.given

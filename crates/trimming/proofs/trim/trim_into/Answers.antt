@@ -113,12 +113,13 @@ cut-requires c = let a = c.args in
     (kept-fits
     a.degree (length a.points.now / 3) a.knots.now pr.valid_curve.knots a.lo a.hi pr.lo_bound
     (multiplicity-most a.degree (length a.points.now / 3) a.knots.now pr.valid_curve.knots a.hi)) in
-    let o = pr.?.1.1 in let i = o.0 in let j = o.1.0 in
+    let i = pr.degree_in_bounds in
+    let j = pr.hi_in_bounds in
     record {
       m_bound = (omega arith, omega arith);
       p_in_bounds = omega arith;
       m_in_bounds = omega arith;
-      m_in_bounds_2 = rw M o.1.1.0;
+      m_in_bounds_2 = rw M pr.hi_in_bounds_2;
     }
 
 pub shape_of-out_knots : goal.shape_of-out_knots
