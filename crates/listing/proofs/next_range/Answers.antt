@@ -14,12 +14,18 @@ offset_bounds-knots-span c = let second = (let inside' : c.in-At.span + 1 < leng
     search rules
 
 pub bounds-knots-span : goal.bounds-knots-span
-bounds-knots-span c = omega (arith, (let inside' : c.in-At.span + 1 < length c.args.knots.now = let a = c.args in
-    span-in a.degree a.count a.knots.now a.«from» c.in-At.span (sym c.next_span.ensures ∙ c.in-At.is) in inside'))
+bounds-knots-span c = omega (
+  arith,
+  (let inside' : c.in-At.span + 1 < length c.args.knots.now = let a = c.args in
+      span-in a.degree a.count a.knots.now a.«from» c.in-At.span (sym c.next_span.ensures ∙ c.in-At.is) in inside'),
+)
 
 pub overflow_add-result : goal.overflow_add-result
-overflow_add-result c = omega (arith, (let inside' : c.in-At.span + 1 < length c.args.knots.now = let a = c.args in
-    span-in a.degree a.count a.knots.now a.«from» c.in-At.span (sym c.next_span.ensures ∙ c.in-At.is) in inside'))
+overflow_add-result c = omega (
+  arith,
+  (let inside' : c.in-At.span + 1 < length c.args.knots.now = let a = c.args in
+      span-in a.degree a.count a.knots.now a.«from» c.in-At.span (sym c.next_span.ensures ∙ c.in-At.is) in inside'),
+)
 
 pub offset_bounds-knots-span-in-At : goal.offset_bounds-knots-span-in-At
 offset_bounds-knots-span-in-At c = let second = (let inside' : c.in-At.span + 1 < length c.args.knots.now = let a = c.args in

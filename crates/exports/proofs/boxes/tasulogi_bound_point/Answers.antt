@@ -7,7 +7,9 @@ use Rattle.exports.proofs.Box.{put-promised}
 use Rattle.exports.proofs.boxes.tasulogi_bound_point.Goals as goal
 
 pub returns : goal.returns
-returns c = let all = let a = c.args in
+returns c = let a = c.args in
+    let e = c.bound_point.ensures in
+    let all =
     put-promised point_bounded_answer point_refusal (PointHolds a.degree a.knots.now a.points.now a.rational a.weights.now a.lo a.hi)
-    c.bound_point.ensures c.put_point.ensures in
+    (e.value, (e.point_holds, e.not_idle)) c.put_point.ensures in
     record { leaves = all.0; point_holds = all.1.0; not_idle = all.1.1 }

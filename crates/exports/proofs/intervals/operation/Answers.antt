@@ -24,9 +24,9 @@ returns-in_default c = let k = c.args.code in
     c.mul.ensures
     ∙ sym
     (simp (
-      ne_eqb k 0 (λ e. c.in_default.rest.0.0.0.0.1 e),
-      ne_eqb k 1 (λ e. c.in_default.rest.0.0.0.1 e),
-      ne_eqb k 2 (λ e. c.in_default.rest.0.0.1 e),
-      ne_eqb k 3 (λ e. c.in_default.rest.0.1 e),
-      ne_eqb k 4 (λ e. c.in_default.rest.1 e),
+      ne_eqb k 0 (λ e. c.in_default.in_default-own.rest.0.0.0.0.1 e),
+      ne_eqb k 1 (λ e. c.in_default.in_default-own.rest.0.0.0.1 e),
+      ne_eqb k 2 (λ e. c.in_default.in_default-own.rest.0.0.1 e),
+      ne_eqb k 3 (λ e. c.in_default.in_default-own.rest.0.1 e),
+      ne_eqb k 4 (λ e. c.in_default.in_default-own.rest.1 e),
     ))

@@ -1,3 +1,0 @@
--- What the proofs of the methods share.
-pub mod Method
-pub mod Walk
