@@ -60,8 +60,7 @@ fn put_point(out: &mut [f64], a: PointBounded) -> u64
 }
 
 // The bounds of a curve on the closed range [lo, hi]: they hold the exact point and derivative, dv holds 0, and 28 and 29 are never given.
-#[unsafe(no_mangle)]
-pub extern "C" fn tasulogi_bound_curve(
+pub fn tasulogi_bound_curve(
     degree: usize,
     knots: &[f64],
     points: &[f64],
@@ -82,8 +81,7 @@ pub extern "C" fn tasulogi_bound_curve(
 }
 
 // The point's part of tasulogi_bound_curve: six numbers, to the bit and with its refusals; 30 where the run has fewer than six.
-#[unsafe(no_mangle)]
-pub extern "C" fn tasulogi_bound_point(
+pub fn tasulogi_bound_point(
     degree: usize,
     knots: &[f64],
     points: &[f64],
@@ -104,8 +102,7 @@ pub extern "C" fn tasulogi_bound_point(
 }
 
 // The bounds of a surface on a closed rectangle: they hold the exact point and both its first derivatives at every pair of fractions, and 28 and 29 are never given.
-#[unsafe(no_mangle)]
-pub extern "C" fn tasulogi_bound_surface(
+pub fn tasulogi_bound_surface(
     p: usize,
     q: usize,
     uk: &[f64],

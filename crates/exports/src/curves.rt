@@ -9,8 +9,7 @@ use made::iso_curve::iso_curve;
 use made::reverse::reversed;
 
 // A curve run backwards over the same domain.
-#[unsafe(no_mangle)]
-pub extern "C" fn tasulogi_reversed(
+pub fn tasulogi_reversed(
     degree: usize,
     knots: &[f64],
     points: &[f64],
@@ -36,8 +35,7 @@ pub extern "C" fn tasulogi_reversed(
 }
 
 // The curve of a surface at a fixed u, where constant_u, or a fixed v. Its knots are the surface's of the other direction.
-#[unsafe(no_mangle)]
-pub extern "C" fn tasulogi_iso_curve(
+pub fn tasulogi_iso_curve(
     p: usize,
     q: usize,
     uk: &[f64],

@@ -24,8 +24,7 @@ fn edit_number(a: EditAnswer) -> u64
 }
 
 // Knots inserted into a curve, one after the other.
-#[unsafe(no_mangle)]
-pub extern "C" fn tasulogi_insert_knots(
+pub fn tasulogi_insert_knots(
     degree: usize,
     knots: &[f64],
     points: &[f64],
@@ -55,8 +54,7 @@ pub extern "C" fn tasulogi_insert_knots(
 }
 
 // A curve cut to the part from lo to hi.
-#[unsafe(no_mangle)]
-pub extern "C" fn tasulogi_trim(
+pub fn tasulogi_trim(
     degree: usize,
     knots: &[f64],
     points: &[f64],
@@ -88,8 +86,7 @@ pub extern "C" fn tasulogi_trim(
 }
 
 // A curve of a higher degree, or a copy.
-#[unsafe(no_mangle)]
-pub extern "C" fn tasulogi_elevate_degree(
+pub fn tasulogi_elevate_degree(
     degree: usize,
     knots: &[f64],
     points: &[f64],

@@ -57,15 +57,13 @@ fn unary(code: u32, lo: f64, hi: f64, out: &mut [f64]) -> u32
 }
 
 // The whole line.
-#[unsafe(no_mangle)]
-pub extern "C" fn tasulogi_interval_entire(out: &mut [f64]) -> u32
+pub fn tasulogi_interval_entire(out: &mut [f64]) -> u32
     ensures { Leaves (ends entire) out.old out.new result }
 {
     put(out, Interval::entire())
 }
 
-#[unsafe(no_mangle)]
-pub extern "C" fn tasulogi_interval_new(lo: f64, hi: f64, out: &mut [f64]) -> u32
+pub fn tasulogi_interval_new(lo: f64, hi: f64, out: &mut [f64]) -> u32
     ensures { Leaves (new_answer (new_of lo hi)) out.old out.new result }
 {
     let n = Interval::new(lo, hi);
@@ -76,16 +74,14 @@ pub extern "C" fn tasulogi_interval_new(lo: f64, hi: f64, out: &mut [f64]) -> u3
 }
 
 // The interval of one double; of NaN the whole line.
-#[unsafe(no_mangle)]
-pub extern "C" fn tasulogi_interval_point(x: f64, out: &mut [f64]) -> u32
+pub fn tasulogi_interval_point(x: f64, out: &mut [f64]) -> u32
     ensures { Leaves (ends (point_of x)) out.old out.new result }
 {
     put(out, Interval::point(x))
 }
 
 // The width, rounded up.
-#[unsafe(no_mangle)]
-pub extern "C" fn tasulogi_interval_width(lo: f64, hi: f64, out: &mut [f64]) -> u32
+pub fn tasulogi_interval_width(lo: f64, hi: f64, out: &mut [f64]) -> u32
     ensures { Leaves (on_new (new_of lo hi) (λ a. values (width_of a ∷ []))) out.old out.new result }
 {
     let n = Interval::new(lo, hi);
@@ -96,8 +92,7 @@ pub extern "C" fn tasulogi_interval_width(lo: f64, hi: f64, out: &mut [f64]) -> 
 }
 
 // 1 inside, 0 outside, 99 no interval.
-#[unsafe(no_mangle)]
-pub extern "C" fn tasulogi_interval_contains(lo: f64, hi: f64, x: f64) -> u32
+pub fn tasulogi_interval_contains(lo: f64, hi: f64, x: f64) -> u32
     ensures { result ≡ inside_number (new_of lo hi) x }
 {
     let n = Interval::new(lo, hi);
@@ -108,8 +103,7 @@ pub extern "C" fn tasulogi_interval_contains(lo: f64, hi: f64, x: f64) -> u32
 }
 
 // 1 positive, 2 negative, 3 zero, 0 unknown, 99 no interval.
-#[unsafe(no_mangle)]
-pub extern "C" fn tasulogi_interval_sign(lo: f64, hi: f64) -> u32
+pub fn tasulogi_interval_sign(lo: f64, hi: f64) -> u32
     ensures { result ≡ sign_number (new_of lo hi) }
 {
     let n = Interval::new(lo, hi);
@@ -128,58 +122,45 @@ pub extern "C" fn tasulogi_interval_sign(lo: f64, hi: f64) -> u32
 }
 
 // The square, which unlike a product is never negative.
-#[unsafe(no_mangle)]
-pub extern "C" fn tasulogi_interval_sqr(lo: f64, hi: f64, out: &mut [f64]) -> u32
+pub fn tasulogi_interval_sqr(lo: f64, hi: f64, out: &mut [f64]) -> u32
     ensures { Leaves (on_new (new_of lo hi) (λ a. ends (sqr_of a))) out.old out.new result }
 {
     unary(SQR, lo, hi, out)
 }
 
-#[unsafe(no_mangle)]
-pub extern "C" fn tasulogi_interval_neg(lo: f64, hi: f64, out: &mut [f64]) -> u32
+pub fn tasulogi_interval_neg(lo: f64, hi: f64, out: &mut [f64]) -> u32
     ensures { Leaves (on_new (new_of lo hi) (λ a. ends (neg_of a))) out.old out.new result }
 {
     unary(NEG, lo, hi, out)
 }
 
 // The least interval with both in it.
-#[unsafe(no_mangle)]
-pub extern "C" fn tasulogi_interval_hull(al: f64, ah: f64, bl: f64, bh: f64, out: &mut [f64]) -> u32
+pub fn tasulogi_interval_hull(al: f64, ah: f64, bl: f64, bh: f64, out: &mut [f64]) -> u32
     ensures { Leaves (on_both (both_of (new_of al ah) (new_of bl bh)) (λ a b. ends (hull_of a b))) out.old out.new result }
 {
     binary(HULL, al, ah, bl, bh, out)
 }
 
-#[unsafe(no_mangle)]
-pub extern "C" fn tasulogi_interval_add(al: f64, ah: f64, bl: f64, bh: f64, out: &mut [f64]) -> u32
+pub fn tasulogi_interval_add(al: f64, ah: f64, bl: f64, bh: f64, out: &mut [f64]) -> u32
     ensures { Leaves (on_both (both_of (new_of al ah) (new_of bl bh)) (λ a b. ends (add_of a b))) out.old out.new result }
 {
     binary(ADD, al, ah, bl, bh, out)
 }
 
-#[unsafe(no_mangle)]
-pub extern "C" fn tasulogi_interval_sub(al: f64, ah: f64, bl: f64, bh: f64, out: &mut [f64]) -> u32
+pub fn tasulogi_interval_sub(al: f64, ah: f64, bl: f64, bh: f64, out: &mut [f64]) -> u32
     ensures { Leaves (on_both (both_of (new_of al ah) (new_of bl bh)) (λ a b. ends (sub_of a b))) out.old out.new result }
 {
     binary(SUB, al, ah, bl, bh, out)
 }
 
-#[unsafe(no_mangle)]
-pub extern "C" fn tasulogi_interval_mul(al: f64, ah: f64, bl: f64, bh: f64, out: &mut [f64]) -> u32
+pub fn tasulogi_interval_mul(al: f64, ah: f64, bl: f64, bh: f64, out: &mut [f64]) -> u32
     ensures { Leaves (on_both (both_of (new_of al ah) (new_of bl bh)) (λ a b. ends (mul_of a b))) out.old out.new result }
 {
     binary(MUL, al, ah, bl, bh, out)
 }
 
 // By the steps of `divide`, which the compiler then joins. 26 where the divisor contains 0. 28 is never given.
-#[unsafe(no_mangle)]
-pub extern "C" fn tasulogi_interval_divide(
-    al: f64,
-    ah: f64,
-    bl: f64,
-    bh: f64,
-    out: &mut [f64],
-) -> u32
+pub fn tasulogi_interval_divide(al: f64, ah: f64, bl: f64, bh: f64, out: &mut [f64]) -> u32
     ensures leaves { Leaves (on_both (both_of (new_of al ah) (new_of bl bh)) (λ a b. quotient_answer (divide_of a b))) out.old out.new result }
     ensures not_idle { NotIdle result }
 {

@@ -1,4 +1,4 @@
-// The C face of the libraries: numbers and lent runs in, a number and filled runs out.
+// The C face of the libraries: numbers and lent runs in, a number and filled runs out. `exports_c` hands each call to C.
 #![tactic(auto)]
 
 mod answer;

@@ -74,8 +74,7 @@ fn put_surface(out: &mut [f64], a: SurfaceAnswer) -> u64
 }
 
 // The point and the first derivative of a curve.
-#[unsafe(no_mangle)]
-pub extern "C" fn tasulogi_eval(
+pub fn tasulogi_eval(
     degree: usize,
     knots: &[f64],
     points: &[f64],
@@ -90,8 +89,7 @@ pub extern "C" fn tasulogi_eval(
 }
 
 // The same, where a finite parameter outside the domain becomes the nearer end.
-#[unsafe(no_mangle)]
-pub extern "C" fn tasulogi_eval_clamped(
+pub fn tasulogi_eval_clamped(
     degree: usize,
     knots: &[f64],
     points: &[f64],
@@ -109,8 +107,7 @@ pub extern "C" fn tasulogi_eval_clamped(
 }
 
 // The point and two derivatives of a curve.
-#[unsafe(no_mangle)]
-pub extern "C" fn tasulogi_eval2(
+pub fn tasulogi_eval2(
     degree: usize,
     knots: &[f64],
     points: &[f64],
@@ -125,8 +122,7 @@ pub extern "C" fn tasulogi_eval2(
 }
 
 // The same, where a finite parameter outside the domain becomes the nearer end.
-#[unsafe(no_mangle)]
-pub extern "C" fn tasulogi_eval2_clamped(
+pub fn tasulogi_eval2_clamped(
     degree: usize,
     knots: &[f64],
     points: &[f64],
@@ -144,8 +140,7 @@ pub extern "C" fn tasulogi_eval2_clamped(
 }
 
 // The point of a surface and its derivatives along u and v.
-#[unsafe(no_mangle)]
-pub extern "C" fn tasulogi_eval_surface(
+pub fn tasulogi_eval_surface(
     p: usize,
     q: usize,
     uk: &[f64],
@@ -168,8 +163,7 @@ pub extern "C" fn tasulogi_eval_surface(
 }
 
 // The same, where finite parameters outside the domain become the nearer ends.
-#[unsafe(no_mangle)]
-pub extern "C" fn tasulogi_eval_surface_clamped(
+pub fn tasulogi_eval_surface_clamped(
     p: usize,
     q: usize,
     uk: &[f64],

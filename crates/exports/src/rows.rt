@@ -33,8 +33,7 @@ fn rows_count(a: ManyAnswer) -> u64
 }
 
 // The point and the first derivative at each parameter.
-#[unsafe(no_mangle)]
-pub extern "C" fn tasulogi_eval_many(
+pub fn tasulogi_eval_many(
     degree: usize,
     knots: &[f64],
     points: &[f64],
@@ -51,8 +50,7 @@ pub extern "C" fn tasulogi_eval_many(
 }
 
 // The same, where a finite parameter outside the domain becomes the nearer end.
-#[unsafe(no_mangle)]
-pub extern "C" fn tasulogi_eval_many_clamped(
+pub fn tasulogi_eval_many_clamped(
     degree: usize,
     knots: &[f64],
     points: &[f64],
@@ -69,8 +67,7 @@ pub extern "C" fn tasulogi_eval_many_clamped(
 }
 
 // The point and two derivatives at each parameter.
-#[unsafe(no_mangle)]
-pub extern "C" fn tasulogi_eval2_many(
+pub fn tasulogi_eval2_many(
     degree: usize,
     knots: &[f64],
     points: &[f64],
@@ -87,8 +84,7 @@ pub extern "C" fn tasulogi_eval2_many(
 }
 
 // The same, where a finite parameter outside the domain becomes the nearer end.
-#[unsafe(no_mangle)]
-pub extern "C" fn tasulogi_eval2_many_clamped(
+pub fn tasulogi_eval2_many_clamped(
     degree: usize,
     knots: &[f64],
     points: &[f64],
@@ -105,8 +101,7 @@ pub extern "C" fn tasulogi_eval2_many_clamped(
 }
 
 // The bounds on each nonempty span: each row whose number is 0 holds the exact point and derivative; 28 and 29 are never given.
-#[unsafe(no_mangle)]
-pub extern "C" fn tasulogi_bound_spans(
+pub fn tasulogi_bound_spans(
     degree: usize,
     knots: &[f64],
     points: &[f64],
@@ -123,8 +118,7 @@ pub extern "C" fn tasulogi_bound_spans(
 }
 
 // The same of the point alone, six numbers a row.
-#[unsafe(no_mangle)]
-pub extern "C" fn tasulogi_bound_points(
+pub fn tasulogi_bound_points(
     degree: usize,
     knots: &[f64],
     points: &[f64],

@@ -19,34 +19,21 @@ fn span_number(a: SpanAnswer) -> u64
 }
 
 // The span of a parameter, or a refusal.
-#[unsafe(no_mangle)]
-pub extern "C" fn tasulogi_find_span(degree: usize, count: usize, knots: &[f64], u: f64) -> u64
+pub fn tasulogi_find_span(degree: usize, count: usize, knots: &[f64], u: f64) -> u64
     ensures { result ≡ span_number (span_answer refusing degree count knots.now u) }
 {
     span_number(find_span(degree, count, knots, u))
 }
 
 // The same, where a finite parameter outside the domain becomes the nearer end.
-#[unsafe(no_mangle)]
-pub extern "C" fn tasulogi_find_span_clamped(
-    degree: usize,
-    count: usize,
-    knots: &[f64],
-    u: f64,
-) -> u64
+pub fn tasulogi_find_span_clamped(degree: usize, count: usize, knots: &[f64], u: f64) -> u64
     ensures { result ≡ span_number (span_answer clamping degree count knots.now u) }
 {
     span_number(find_span_clamped(degree, count, knots, u))
 }
 
 // The first nonempty span from a place on, or the count where there is none.
-#[unsafe(no_mangle)]
-pub extern "C" fn tasulogi_next_span(
-    degree: usize,
-    count: usize,
-    knots: &[f64],
-    from: usize,
-) -> usize
+pub fn tasulogi_next_span(degree: usize, count: usize, knots: &[f64], from: usize) -> usize
     ensures { result ≡ next_number count (next_span degree count knots.now from) }
 {
     let a = next_span(degree, count, knots, from);
@@ -57,8 +44,7 @@ pub extern "C" fn tasulogi_next_span(
 }
 
 // The clamped parameter: u, or the nearer end of the domain.
-#[unsafe(no_mangle)]
-pub extern "C" fn tasulogi_clamp(degree: usize, count: usize, u: f64, knots: &[f64]) -> f64
+pub fn tasulogi_clamp(degree: usize, count: usize, u: f64, knots: &[f64]) -> f64
     ensures { result ≡ clamped degree count knots.now u }
 {
     clamp(degree, count, u, knots)

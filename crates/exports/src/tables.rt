@@ -52,16 +52,14 @@ pub fn high(r: Refusal) -> u64
 }
 
 // Invalid 0, degenerate 1, unimplemented 2, capacity 3, internal 4; 5 for what is no refusal number.
-#[unsafe(no_mangle)]
-pub extern "C" fn tasulogi_class_of(number: u32) -> u8
+pub fn tasulogi_class_of(number: u32) -> u8
     ensures { result ≡ class_of number }
 {
     class_of(number)
 }
 
 // 0 for a valid curve, before anything is packed; else its refusal, packed.
-#[unsafe(no_mangle)]
-pub extern "C" fn tasulogi_curve_refusal(
+pub fn tasulogi_curve_refusal(
     degree: usize,
     knots: &[f64],
     points: &[f64],
@@ -78,8 +76,7 @@ pub extern "C" fn tasulogi_curve_refusal(
 }
 
 // 0 for a valid surface, else its refusal, packed.
-#[unsafe(no_mangle)]
-pub extern "C" fn tasulogi_surface_refusal(
+pub fn tasulogi_surface_refusal(
     p: usize,
     q: usize,
     uk: &[f64],

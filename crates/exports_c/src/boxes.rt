@@ -1,0 +1,73 @@
+// Bounds of curves and surfaces. A box is 18 numbers: point, du and dv, three coordinates each, low before high; of the point alone it is the first six.
+ghost use Rattle.bounds.specs.Curve.{bound_of};
+ghost use Rattle.bounds.specs.Holds.{Holds, PointHolds, SurfaceHolds, NotIdle};
+ghost use Rattle.bounds.specs.Numbers.{bounded_refusal, point_refusal};
+ghost use Rattle.bounds.specs.Point.{point_only};
+ghost use Rattle.bounds.specs.Surface.{surface_of};
+ghost use Rattle.exports.specs.Answer.{Leaves};
+ghost use Rattle.exports.specs.Boxes.{bounded_answer, point_bounded_answer};
+
+// The bounds of a curve on the closed range [lo, hi]: they hold the exact point and derivative, dv holds 0, and 28 and 29 are never given.
+#[unsafe(no_mangle)]
+pub extern "C" fn tasulogi_bound_curve(
+    degree: usize,
+    knots: &[f64],
+    points: &[f64],
+    rational: bool,
+    weights: &[f64],
+    lo: f64,
+    hi: f64,
+    out: &mut [f64],
+) -> u64
+    ensures leaves { Leaves (bounded_answer (bound_of degree knots.now points.now rational weights.now lo hi)) out.old out.new result }
+    ensures holds { Holds degree knots.now points.now rational weights.now lo hi (bound_of degree knots.now points.now rational weights.now lo hi) }
+    ensures not_idle { NotIdle (bounded_refusal (bound_of degree knots.now points.now rational weights.now lo hi)).number }
+{
+    exports::boxes::tasulogi_bound_curve(degree, knots, points, rational, weights, lo, hi, out)
+}
+
+// The point's part of tasulogi_bound_curve: six numbers, to the bit and with its refusals; 30 where the run has fewer than six.
+#[unsafe(no_mangle)]
+pub extern "C" fn tasulogi_bound_point(
+    degree: usize,
+    knots: &[f64],
+    points: &[f64],
+    rational: bool,
+    weights: &[f64],
+    lo: f64,
+    hi: f64,
+    out: &mut [f64],
+) -> u64
+    ensures leaves { Leaves (point_bounded_answer (point_only (bound_of degree knots.now points.now rational weights.now lo hi))) out.old out.new result }
+    ensures point_holds { PointHolds degree knots.now points.now rational weights.now lo hi (point_only (bound_of degree knots.now points.now rational weights.now lo hi)) }
+    ensures not_idle { NotIdle (point_refusal (point_only (bound_of degree knots.now points.now rational weights.now lo hi))).number }
+{
+    exports::boxes::tasulogi_bound_point(degree, knots, points, rational, weights, lo, hi, out)
+}
+
+// The bounds of a surface on a closed rectangle: they hold the exact point and both its first derivatives at every pair of fractions, and 28 and 29 are never given.
+#[unsafe(no_mangle)]
+pub extern "C" fn tasulogi_bound_surface(
+    p: usize,
+    q: usize,
+    uk: &[f64],
+    vk: &[f64],
+    un: usize,
+    vn: usize,
+    points: &[f64],
+    rational: bool,
+    weights: &[f64],
+    u_lo: f64,
+    u_hi: f64,
+    v_lo: f64,
+    v_hi: f64,
+    out: &mut [f64],
+) -> u64
+    ensures leaves { Leaves (bounded_answer (surface_of p q uk.now vk.now un vn points.now rational weights.now u_lo u_hi v_lo v_hi)) out.old out.new result }
+    ensures surface_holds { SurfaceHolds p q uk.now vk.now un vn points.now rational weights.now u_lo u_hi v_lo v_hi (surface_of p q uk.now vk.now un vn points.now rational weights.now u_lo u_hi v_lo v_hi) }
+    ensures not_idle { NotIdle (bounded_refusal (surface_of p q uk.now vk.now un vn points.now rational weights.now u_lo u_hi v_lo v_hi)).number }
+{
+    exports::boxes::tasulogi_bound_surface(
+        p, q, uk, vk, un, vn, points, rational, weights, u_lo, u_hi, v_lo, v_hi, out,
+    )
+}
