@@ -8,7 +8,7 @@ use lib.IntN.{ℤ, pos, negsuc, neg_ℤ, nat_abs, sub_ℕ, ◌-ℤ◌}
 use lib.Signed.{lt_z}
 use lib.Dec.{T, ltb, nltb→le, lit<}
 use lib.Arith.{le→nltb}
-use lib.Ieee.{Float, nan, inf, fin, Format, binary64, fits, is_nan, lt, le, to_bits, top}
+use lib.Ieee.{Float, nan, inf, fin, Format, binary64, fits, is_nan, le, to_bits, top}
 use lib.Ieee.Bits.{is_false}
 use Rattle.doubles.specs.Value.{signed, Number}
 use Rattle.doubles.specs.Place.{sign_bit, inf_pat, mag, place, wrapped}

@@ -1,7 +1,6 @@
 -- Ends of intervals and comparisons: an end further out still limits, and an interval that does not hold 0 lies on one side of it. Assumes nothing.
 use mathlib.Core.Path.{subst}
 use mathlib.Core.Logic.{◌⊎◌, inl, inr}
-use Prim.Native.Nat.{zero}
 use mathlib.Core.Bool.{Bool, true, false, not, ◌&&◌}
 use lib.Dec.{T}
 use lib.Ieee.{Float, nan, inf, fin, is_nan, lt, le}

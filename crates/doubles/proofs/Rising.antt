@@ -1,20 +1,19 @@
 -- Rounded sums and products rise with their operands: a rounding keeps the order. Assumes nothing.
-use mathlib.Core.Path.{◌≡◌, refl, sym, ap, ◌∙◌, subst}
+use mathlib.Core.Path.{◌≡◌, refl, sym, ap, subst}
 use mathlib.Core.Logic.{inl, inr}
-use Prim.Native.Nat.{ℕ, zero, suc, ◌+◌, ◌*◌, ◌≤◌, ◌<◌}
+use Prim.Native.Nat.{ℕ, suc, ◌+◌, ◌*◌, ◌≤◌, ◌<◌}
 use native.Mathlib.Nat.{mul-pos, eq-zero-or-pos}
 use native.Mathlib.Omega.{arith}
-use mathlib.Core.Bool.{Bool, true, false, not, beq, cond}
-use lib.IntN.{ℤ, pos}
-use lib.Dec.{T, eqb, eqb-suc-zero, nltb→le}
-use lib.Ieee.{Float, nan, inf, fin, Format, round, add, mul, is_nan, lt, le, neg, below}
+use mathlib.Core.Bool.{Bool, true, false, not, cond}
+use lib.IntN.{ℤ}
+use lib.Dec.{T, eqb-suc-zero, nltb→le}
+use lib.Ieee.{Float, nan, inf, fin, Format, round, add, mul, is_nan, lt, neg, below}
 use lib.Ieee.Order.{round_mono}
-use lib.Ieee.Scale.{finite}
 use Rattle.exact.specs.Rational.{ℚ, ◌≤q◌}
 use Rattle.exact.proofs.Field.{≤_trans, ≤-eq, +-mono, up_right}
-use Rattle.doubles.specs.Value.{ratio, val, Number, ◌⊑◌, zero+}
+use Rattle.doubles.specs.Value.{val, Number, ◌⊑◌}
 use Rattle.doubles.proofs.Value.{le-ratio, val-le, val_plus}
-use Rattle.doubles.proofs.Order.{lt_irrefl, le_not, finite_number}
+use Rattle.doubles.proofs.Order.{lt_irrefl, le_not}
 use Rattle.doubles.proofs.Neighbour.{neg-lt}
 use Rattle.doubles.proofs.Enclose.{Signed, round-signed, round-neg, zero-rounds}
 use Rattle.doubles.proofs.Sums.{Rounded, add-rounded, mul-rounded, rounded-number}

@@ -2,7 +2,7 @@
 use mathlib.Core.Path.{◌≡◌, refl, sym, ap, ap₂, ◌∙◌, subst}
 use mathlib.Core.Bool.{Bool, true, false, not, cond}
 use mathlib.Core.List.{[], ◌∷◌}
-use Prim.Native.Nat.{ℕ, zero, suc, ◌+◌, ◌*◌, ◌/◌, ◌^◌, pred, ◌<◌}
+use Prim.Native.Nat.{ℕ, zero, suc, ◌*◌, ◌/◌, ◌^◌, pred, ◌<◌}
 use native.Mathlib.Nat.{mul-pos, mul_assoc, mul_comm, mul_left_comm, zero-lt-suc, mul-div_cancel, lt_irrefl}
 use lib.Pow.{pow_pos}
 use lib.Dec.{T, T_not, not_T, eqb, eqb-suc-zero}

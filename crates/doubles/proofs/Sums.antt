@@ -7,7 +7,7 @@ use native.Mathlib.Omega.{arith}
 use mathlib.Core.Bool.{Bool, true, false, not, cond}
 use lib.IntN.{ℤ, pos}
 use lib.Dec.{T, ltb, ltb→lt, nltb→le}
-use lib.Ieee.{Float, nan, inf, fin, Format, up, down, round, sum, add, sub, mul, fits, lt, neg}
+use lib.Ieee.{Float, nan, inf, fin, Format, up, down, round, sum, add, sub, mul, fits, neg}
 use lib.Ieee.Fits.{down_pos, add-fits}
 use Rattle.ring.specs.Int.{◌⊞◌, ⊟◌, zring, z-ring}
 use Rattle.exact.specs.Rational.{ℚ, frac, ◌+q◌, ◌-q◌, ◌*q◌, negq, ◌≤q◌}

@@ -11,7 +11,7 @@ use lib.Arith.{le→nltb}
 use lib.IntN.{ℤ, pos, negsuc}
 use lib.Ieee.Scale.{finite}
 use lib.Ieee.Fits.{down_pos, up_pos}
-use lib.Ieee.{Float, nan, inf, fin, up, down, lt, le, below, unlike}
+use lib.Ieee.{Float, nan, inf, fin, up, down, lt, below, unlike}
 use Rattle.ring.specs.Int.{◌⊞◌, ◌⊠◌, ⊟◌, z0, zring, z-ring, den, ◌∗◌, suc-prod, nonneg}
 use Rattle.exact.specs.Rational.{frac, ◌+q◌, ◌-q◌, ◌*q◌, negq, inv, nn, q0, q1, ◌≤q◌, ◌<q◌}
 use Rattle.exact.proofs.Laws.{frac-0, frac-add, frac-mul, frac-neg}

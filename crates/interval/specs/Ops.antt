@@ -1,5 +1,5 @@
 -- The operations of the crate as functions of the values: what each contract says is the result (document 01, module 1, and the divide of module 6).
-use Rattle.std.specs.Prelude.{zero, ◌+◌, Bool, true, false, cond, ◌&&◌, ◌||◌, is_nan, Float}
+use Rattle.std.specs.Prelude.{Bool, true, false, cond, ◌&&◌, ◌||◌, is_nan, Float}
 use Rattle.std.specs.Float.{inf, binary64}
 use Rattle.std.specs.Float.Ieee.{neg, lt, le, eq, add, sub, mul, div}
 use Rattle.doubles.specs.Neighbour.{next_up, next_down, fmin, fmax, fabs, least4, greatest4}

@@ -1,6 +1,5 @@
 -- `knots::clear::clear` meets its contract: the numbers passed are +0.0, the others as they were.
 -- Assumes nothing.
-use Prim.Native.Nat.{◌-◌}
 use lib.Ieee.{of_bits}
 use Rattle.knots.proofs.Fill.{filled_more, filled-all}
 use Rattle.knots.proofs.clear.clear.Goals as goal

@@ -1,7 +1,7 @@
 -- `knots::curve::control_number` meets its contract.
 -- Assumes nothing.
 use mathlib.Core.Path.{sym, ◌∙◌}
-use borrow.Author.Tests.{eq-eqb, ne_eqb, not-true, not-false}
+use borrow.Author.Tests.{eq-eqb, ne_eqb}
 use Rattle.knots.specs.Curve.{control_refusal}
 use Rattle.knots.proofs.curve.control_number.Goals as goal
 

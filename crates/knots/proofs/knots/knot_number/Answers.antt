@@ -1,7 +1,7 @@
 -- `knots::knots::knot_number` meets its contract.
 -- Assumes nothing.
 use mathlib.Core.Path.{sym, ◌∙◌}
-use borrow.Author.Tests.{eq-eqb, ne_eqb, le-leb, lt-leb, not-true, not-false, eqb-true}
+use borrow.Author.Tests.{eq-eqb, ne_eqb, le-leb, lt-leb, eqb-true}
 use Rattle.knots.specs.Knots.{knot_refusal}
 use Rattle.knots.proofs.knots.knot_number.Goals as goal
 

@@ -1,7 +1,6 @@
 -- `knots::knots::order_number` meets its contract.
 -- Assumes nothing.
 use mathlib.Core.Path.{sym, ◌∙◌}
-use borrow.Author.Tests.{not-true, not-false}
 use Rattle.knots.specs.Knots.{order_refusal}
 use Rattle.knots.proofs.knots.order_number.Goals as goal
 

@@ -6,7 +6,7 @@ use lib.ListN.{length}
 use lib.Ieee.Scale.{finite}
 use Rattle.doubles.specs.Run.{at}
 use Rattle.knots.specs.Below.{all_below}
-use Rattle.knots.specs.Fine.{above as above_of, all_fine}
+use Rattle.knots.specs.Fine.{above as above_of}
 use Rattle.knots.proofs.numbers.all_fine.Given as goal
 
 abbrev pub invariant-loop-i : goal.invariant-loop-i

@@ -1,10 +1,7 @@
 -- `knots::places::first_off` meets its contract: all numbers before the place reached are fine.
 -- Assumes nothing.
-use Prim.Native.Nat.{◌-◌}
 use mathlib.Core.Path.{sym, ◌∙◌}
-use mathlib.Core.Bool.{true}
 use native.Mathlib.Omega.{arith}
-use borrow.Author.Tests.{not-true, not-false}
 use Rattle.knots.proofs.Below.{all_none, all_more, off-ends, off-stops}
 use Rattle.knots.proofs.places.first_off.Goals as goal
 

@@ -1,10 +1,7 @@
 -- `knots::places::first_pair` meets its contract: all numbers before the place reached stand before those a gap further on.
 -- Assumes nothing.
-use Prim.Native.Nat.{◌-◌}
 use mathlib.Core.Path.{refl, sym, ◌∙◌}
-use mathlib.Core.Bool.{true}
 use native.Mathlib.Omega.{arith}
-use borrow.Author.Tests.{not-true, not-false}
 use Rattle.knots.proofs.Below.{all_none, all_more, off-none, off-ends, off-stops}
 use Rattle.knots.proofs.places.first_pair.Goals as goal
 

@@ -1,7 +1,7 @@
 -- `knots::shape::knot_shape` meets its contract.
 -- Assumes nothing.
 use mathlib.Core.Path.{sym, ◌∙◌}
-use borrow.Author.Tests.{not-true, not-false, le-leb, lt-leb, eq-eqb, ne_eqb}
+use borrow.Author.Tests.{le-leb, lt-leb, eq-eqb, ne_eqb}
 use Rattle.knots.specs.Shape.{knot_shape}
 use Rattle.knots.proofs.shape.knot_shape.Goals as goal
 

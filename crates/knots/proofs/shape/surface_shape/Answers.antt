@@ -1,7 +1,7 @@
 -- `knots::shape::surface_shape` meets its contract.
 -- Assumes nothing.
 use mathlib.Core.Path.{sym, ◌∙◌, ap}
-use borrow.Author.Tests.{not-true, not-false, eq-eqb, ne_eqb}
+use borrow.Author.Tests.{eq-eqb, ne_eqb}
 use Rattle.knots.proofs.Refusals.{stop, skip}
 use Rattle.knots.specs.Refusal.{along}
 use Rattle.knots.specs.Shape.{surface_shape}

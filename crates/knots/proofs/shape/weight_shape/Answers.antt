@@ -1,6 +1,6 @@
 -- `knots::shape::weight_shape` meets its contract.
 -- Assumes nothing.
-use borrow.Author.Tests.{not-true, not-false, eq-eqb, ne_eqb}
+use borrow.Author.Tests.{eq-eqb, ne_eqb}
 use Rattle.knots.specs.Shape.{weight_shape}
 use Rattle.knots.proofs.shape.weight_shape.Goals as goal
 

@@ -1,6 +1,5 @@
 -- `knots::span::bisect` meets its contract: what is left to search is the window, which halves.
 -- Assumes nothing.
-use Prim.Native.Nat.{◌-◌}
 use native.Mathlib.Omega.{arith}
 use Rattle.knots.proofs.Halving.{window-start, window-lower, window-upper, window-end}
 use Rattle.knots.proofs.span.bisect.Goals as goal

@@ -1,7 +1,6 @@
 -- `knots::span::domain_refusal` meets its contract.
 -- Assumes nothing.
 use mathlib.Core.Path.{sym, ◌∙◌}
-use borrow.Author.Tests.{not-true, not-false}
 use Rattle.knots.specs.Span.{domain_refusal}
 use Rattle.knots.proofs.span.domain_refusal.Goals as goal
 

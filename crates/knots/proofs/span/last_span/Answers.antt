@@ -1,6 +1,5 @@
 -- `knots::span::last_span` meets its contract: what is left to search is below the place reached.
 -- Assumes nothing.
-use Prim.Native.Nat.{◌-◌}
 use mathlib.Core.Path.{◌≡◌, sym, ◌∙◌, ap}
 use native.Mathlib.Omega.{arith}
 use Rattle.knots.specs.Span.{nonempty, last_after}

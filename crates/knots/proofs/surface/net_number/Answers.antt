@@ -1,7 +1,7 @@
 -- `knots::surface::net_number` meets its contract: each return is a row of the table, the tests before it are the rows above that did not apply.
 -- Assumes nothing.
 use mathlib.Core.Path.{sym, ◌∙◌}
-use borrow.Author.Tests.{eq-eqb, ne_eqb, not-true, not-false}
+use borrow.Author.Tests.{eq-eqb, ne_eqb}
 use Rattle.knots.specs.Surface.{net_refusal}
 use Rattle.knots.proofs.surface.net_number.Goals as goal
 

@@ -1,6 +1,5 @@
 -- `knots::walk::next_from` meets its contract: what is left to search starts at the place reached.
 -- Assumes nothing.
-use Prim.Native.Nat.{◌-◌}
 use mathlib.Core.Path.{refl, sym, ◌∙◌}
 use native.Mathlib.Omega.{arith}
 use Rattle.knots.proofs.Walks.{walk_here, walk-on, walk_end, walk-past}
