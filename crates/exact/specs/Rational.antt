@@ -1,6 +1,7 @@
 -- Exact fractions. ℚ is the pairs of a whole number and a positive denominator, with pairs of equal value made one, so that `≡` is equality of value.
 -- Beside each operation stands why it does not depend on the pair. Operations are shut: laws about them are in proofs/.
-use std.Quotient.{◌/◌, cls, eq/, /_set, /_rec, /_rec₂}
+use std.Quotient as Quotient
+use std.Quotient.{cls, eq/, /_set, /_rec, /_rec₂}
 use Rattle.std.specs.Prelude.{◌≡◌, refl, Bool, not, ◌≢◌, [], ◌∷◌, ℕ, zero, suc, T, ℤ, pos, negsuc, nat_abs}
 use Rattle.std.proofs.Common.{sym, ◌∙◌, ap, true≢false, arith}
 use Rattle.std.proofs.Math.Bool.{Bool-set}
@@ -15,7 +16,7 @@ abbrev pub Same : Frac → Frac → Type 0
 Same p q = p.num ⊠ den q.dm ≡ q.num ⊠ den p.dm
 
 unfoldable pub ℚ : Type 0
-ℚ = Frac / Same
+ℚ = Quotient.◌/◌ Frac Same
 
 -- a / (d + 1)
 unfoldable pub frac : ℤ → ℕ → ℚ

@@ -2,7 +2,7 @@
 use Rattle.std.specs.Prelude.{◌≡◌, refl, Bool, true, false, not, List, [], ◌∷◌, ℕ, zero, suc, ◌+◌, ◌*◌, T, ℤ, pos, negsuc, nat_abs}
 use Rattle.std.proofs.Common.{sym, ◌∙◌, ap, ap₂, arith}
 use Rattle.std.proofs.Math.IntN as Z
-use Rattle.std.proofs.Math.IntN.{suc_ℤ, pred_ℤ}
+use Rattle.std.proofs.Math.IntN.{suc_ℤ, pred_ℤ, ◌+ℤ◌, ◌*ℤ◌, ◌-ℤ◌}
 use Rattle.ring.specs.Ring as Ring
 use Rattle.ring.specs.Solved as Solved
 use Rattle.ring.specs.Ring.{CommRing}
@@ -32,17 +32,6 @@ ind P z s p (pos zero) = z
 ind P z s p (pos (suc n)) = s (pos n) (ind P z s p (pos n))
 ind P z s p (negsuc zero) = p (pos zero) z
 ind P z s p (negsuc (suc n)) = p (negsuc n) (ind P z s p (negsuc n))
-
-infixl 6 ◌+ℤ◌ ◌-ℤ◌
-infixl 7 ◌*ℤ◌
-abbrev ◌+ℤ◌ : ℤ → ℤ → ℤ
-a +ℤ b = Z.◌+ℤ◌ a b
-
-abbrev ◌*ℤ◌ : ℤ → ℤ → ℤ
-a *ℤ b = Z.◌*ℤ◌ a b
-
-abbrev ◌-ℤ◌ : ℤ → ℤ → ℤ
-a -ℤ b = Z.◌-ℤ◌ a b
 
 swap : (a b c : ℤ) → a +ℤ b +ℤ c ≡ a +ℤ c +ℤ b
 swap a b c = Z.+ℤ_assoc a b c ∙ ap (λ x. a +ℤ x) (Z.+ℤ_comm b c) ∙ sym (Z.+ℤ_assoc a c b)
