@@ -1,18 +1,18 @@
 -- The first two derivatives of a function, from the rows that give them.
 -- Assumes nothing.
 use Prim.Native.Nat.{ℕ, zero, suc, ◌+◌, ◌*◌, ◌≤◌, ◌<◌}
-use mathlib.Core.Path.{◌≡◌, refl, sym, ◌∙◌, ap, subst}
+use mathlib.Core.Path.{◌≡◌, refl, sym, ◌∙◌, subst}
 use mathlib.Core.Logic.{◌⊎◌, inl, inr}
 use mathlib.Core.List.{List}
 use native.Mathlib.Omega.{arith}
-use native.Mathlib.Nat.{one-mul}
 use lib.ListN.{length, set, length-set}
-use lib.Ieee.{Float}
+use lib.Seq.{get_or-set_same}
+use lib.Ieee.{Float, nan}
 use Rattle.doubles.specs.Run.{at}
 use Rattle.basis.specs.Basis.{cell}
 use Rattle.basis.specs.Ders.{RowDone, FunctionDers}
 use Rattle.basis.proofs.Congs.{Same, coef-cong, der-cong}
-use Rattle.basis.proofs.Cells.{put_same, put-row, put-col}
+use Rattle.basis.proofs.Cells.{put-row, put-col}
 use Rattle.exact.specs.Scheme.{row_of, derivative_of}
 use Rattle.basis.specs.Floats.{floats}
 
@@ -34,43 +34,43 @@ module _ (c : ℕ → ℕ → Float) (p r : ℕ) (R : r ≤ p) (one-le : 1 ≤ p
   unfolding derivative_of
   second_is two-le t y E = E.sum ∙ der-cong p r R c c (λ u v w z. refl) 2 (omega arith) two-le (at b) (row_of floats c p r 1) same-two
 
-module _ (w : ℕ) (c : ℕ → ℕ → Float) (p r n : ℕ) (R : r < w) (t : List Float) (L : length t ≡ w * 3) where
-  pub ders-none : n ≡ 0 → FunctionDers w c p r n t t
-  ders-none e = record { long = refl; done = λ k u v y. absurd (omega arith); rest = λ k j u v. refl }
+module _ (c : ℕ → ℕ → Float) (p r n : ℕ) (R : r < 65) (t : List Float) (L : length t ≡ 195) where
+  pub ders-none : n ≡ 0 → FunctionDers c p r n t t
+  ders-none e = record { long = L; done = λ k u v w. absurd (omega arith); rest = λ k j u v. refl }
 
-  -- the first store is one of row 1
-  here : (x : Float) → set t (w + r) x ≡ set t (1 * w + r) x
-  here x = ap (λ (m : ℕ). set t (m + r) x) (sym (one-mul w))
+  -- a store in row 1 or 2 of column r
+  put : (s : List Float) → length s ≡ 195 → (k : ℕ) → k ≤ 2 → (x : Float) → cell (set s (k * 65 + r) x) k r ≡ x
+  put s l k b x = get_or-set_same s (k * 65 + r) x nan (omega arith)
 
-  away : (s : List Float) (k : ℕ) (x : Float) → 0 < k → k ≤ n → k ≤ p → (i j : ℕ) → j < w → (j ≡ r → ⊥) ⊎ ((i ≡ 0) ⊎ ((n < i) ⊎ (p < i))) → cell w (set s (k * w + r) x) i j ≡ cell w s i j
-  away s k x z b y i j J (inl h) = put-col w s k r i j x R J h
-  away s k x z b y i j J (inr (inl e)) = put-row w s k r i j x R J (λ q. omega arith)
-  away s k x z b y i j J (inr (inr (inl g))) = put-row w s k r i j x R J (λ q. omega arith)
-  away s k x z b y i j J (inr (inr (inr g))) = put-row w s k r i j x R J (λ q. omega arith)
+  away : (s : List Float) (k : ℕ) (x : Float) → 0 < k → k ≤ n → k ≤ p → (i j : ℕ) → j < 65 → (j ≡ r → ⊥) ⊎ ((i ≡ 0) ⊎ ((n < i) ⊎ (p < i))) → cell (set s (k * 65 + r) x) i j ≡ cell s i j
+  away s k x z b y i j J (inl h) = put-col s k r i j x R J h
+  away s k x z b y i j J (inr (inl e)) = put-row s k r i j x R J (λ q. omega arith)
+  away s k x z b y i j J (inr (inr (inl g))) = put-row s k r i j x R J (λ q. omega arith)
+  away s k x z b y i j J (inr (inr (inr g))) = put-row s k r i j x R J (λ q. omega arith)
 
-  pub ders-one : 0 < p → (x : Float) → x ≡ derivative_of floats c p r 1 → 0 < n → (n ≡ 1) ⊎ (p ≡ 1) → FunctionDers w c p r n t (set t (w + r) x)
-  ders-one pp x e h o = subst (FunctionDers w c p r n t) (sym (here x)) (record {
-    long = length-set t (1 * w + r) x;
-    done = λ k u v y. subst (λ (m : ℕ). cell w (set t (1 * w + r) x) m r ≡ derivative_of floats c p r m) (sym (only k u v y o)) (put_same w t 1 r x (omega arith) ∙ e);
+  pub ders-one : 0 < p → (x : Float) → x ≡ derivative_of floats c p r 1 → 0 < n → (n ≡ 1) ⊎ (p ≡ 1) → FunctionDers c p r n t (set t (1 * 65 + r) x)
+  ders-one pp x e h o = record {
+    long = length-set t (1 * 65 + r) x ∙ L;
+    done = λ k u v w. subst (λ (m : ℕ). cell (set t (1 * 65 + r) x) m r ≡ derivative_of floats c p r m) (sym (only k u v w o)) (put t L 1 (omega arith) x ∙ e);
     rest = λ k j J q. away t 1 x (omega arith) h pp k j J q;
-  })
+  }
     where
       only : (k : ℕ) → 0 < k → k ≤ n → k ≤ p → (n ≡ 1) ⊎ (p ≡ 1) → k ≡ 1
-      only k u v y (inl q) = omega arith
-      only k u v y (inr q) = omega arith
+      only k u v w (inl q) = omega arith
+      only k u v w (inr q) = omega arith
 
-  pub ders-two : 2 ≤ p → (x y : Float) → x ≡ derivative_of floats c p r 1 → y ≡ derivative_of floats c p r 2 → n ≡ 2 → FunctionDers w c p r n t (set (set t (w + r) x) (2 * w + r) y)
-  ders-two pp x y e f h = subst (λ (s : List Float). FunctionDers w c p r n t (set s (2 * w + r) y)) (sym (here x)) (record {
-    long = length-set (set t (1 * w + r) x) (2 * w + r) y ∙ L';
-    done = λ k u v z. case k u (omega arith);
-    rest = λ k j J q. away (set t (1 * w + r) x) 2 y (omega arith) (omega arith) pp k j J q ∙ away t 1 x (omega arith) (omega arith) (omega arith) k j J q;
-  })
+  pub ders-two : 2 ≤ p → (x y : Float) → x ≡ derivative_of floats c p r 1 → y ≡ derivative_of floats c p r 2 → n ≡ 2 → FunctionDers c p r n t (set (set t (1 * 65 + r) x) (2 * 65 + r) y)
+  ders-two pp x y e f h = record {
+    long = length-set (set t (1 * 65 + r) x) (2 * 65 + r) y ∙ L';
+    done = λ k u v w. case k u (omega arith);
+    rest = λ k j J q. away (set t (1 * 65 + r) x) 2 y (omega arith) (omega arith) pp k j J q ∙ away t 1 x (omega arith) (omega arith) (omega arith) k j J q;
+  }
     where
-      L' : length (set t (1 * w + r) x) ≡ length t
-      L' = length-set t (1 * w + r) x
+      L' : length (set t (1 * 65 + r) x) ≡ 195
+      L' = length-set t (1 * 65 + r) x ∙ L
 
-      case : (k : ℕ) → 0 < k → k ≤ 2 → cell w (set (set t (1 * w + r) x) (2 * w + r) y) k r ≡ derivative_of floats c p r k
+      case : (k : ℕ) → 0 < k → k ≤ 2 → cell (set (set t (1 * 65 + r) x) (2 * 65 + r) y) k r ≡ derivative_of floats c p r k
       case zero u v = absurd (omega arith)
-      case (suc zero) u v = put-row w (set t (1 * w + r) x) 2 r 1 r y R R (λ q. omega arith) ∙ (put_same w t 1 r x (omega arith) ∙ e)
-      case (suc (suc zero)) u v = put_same w (set t (1 * w + r) x) 2 r y (omega (arith, L')) ∙ f
+      case (suc zero) u v = put-row (set t (1 * 65 + r) x) 2 r 1 r y R R (λ q. omega arith) ∙ (put t L 1 (omega arith) x ∙ e)
+      case (suc (suc zero)) u v = put (set t (1 * 65 + r) x) L' 2 (omega arith) y ∙ f
       case (suc (suc (suc k))) u v = absurd (omega arith)

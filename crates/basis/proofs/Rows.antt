@@ -36,24 +36,23 @@ places p r k J E a b d Je Ee = record {
 }
 
 module _ (c : ℕ → ℕ → Float) (p r k : ℕ) (f : ℕ → Float) where
-  -- y is what is read at place j of the row: a width, and a function
-  pub middle-coef : (j i : ℕ) → 0 < j → j < k → i ≡ r + j - k → (y : Float) → y ≡ c (p - k + 1) i → div binary64 (sub binary64 (f j) (f (j - 1))) y ≡ coef_of floats c p r f k j
+  pub middle-coef : (j i : ℕ) → 0 < j → j < k → i ≡ r + j - k → div binary64 (sub binary64 (f j) (f (j - 1))) (c (p - k + 1) i) ≡ coef_of floats c p r f k j
   unfolding coef_of num_of
-  middle-coef j i a b e y h = simp (ne_eqb j 0 (λ q. omega arith), ne_eqb j k (λ q. omega arith), h, e)
+  middle-coef j i a b e = simp (ne_eqb j 0 (λ q. omega arith), ne_eqb j k (λ q. omega arith), e)
 
-  pub start-coef : (i : ℕ) → i ≡ r + 0 - k → (y : Float) → y ≡ c (p - k + 1) i → div binary64 (f 0) y ≡ coef_of floats c p r f k 0
+  pub start-coef : (i : ℕ) → i ≡ r + 0 - k → div binary64 (f 0) (c (p - k + 1) i) ≡ coef_of floats c p r f k 0
   unfolding coef_of num_of
-  start-coef i e y h = ap (λ (x : Float). div binary64 (f 0) x) (h ∙ ap (c (p - k + 1)) e)
+  start-coef i e = ap (λ (m : ℕ). div binary64 (f 0) (c (p - k + 1) m)) e
 
-  pub last-coef : 0 < k → (y : Float) → y ≡ c (p - k + 1) r → div binary64 (neg (f (k - 1))) y ≡ coef_of floats c p r f k k
+  pub last-coef : 0 < k → div binary64 (neg (f (k - 1))) (c (p - k + 1) r) ≡ coef_of floats c p r f k k
   unfolding coef_of num_of
-  last-coef a y h =
+  last-coef h =
       let e : r ≡ r + k - k = omega arith in
-      simp (ne_eqb k 0 (λ q. omega arith), eq-eqb k k refl) (ap (λ (x : Float). div binary64 (neg (f (k - 1))) x) (h ∙ ap (c (p - k + 1)) e))
+      simp (ne_eqb k 0 (λ q. omega arith), eq-eqb k k refl) (ap (λ (m : ℕ). div binary64 (neg (f (k - 1))) (c (p - k + 1) m)) e)
 
-  term_is : (x : Float) (j i : ℕ) → i ≡ r + j - k → x ≡ coef_of floats c p r f k j → (y : Float) → y ≡ c i (p - k) → mul binary64 x y ≡ term_of floats c p r f k j
+  pub term_is : (x : Float) (j i : ℕ) → i ≡ r + j - k → x ≡ coef_of floats c p r f k j → mul binary64 x (c i (p - k)) ≡ term_of floats c p r f k j
   unfolding term_of
-  term_is x j i e h y g = ap₂ (λ (u v : Float). mul binary64 u v) h (g ∙ ap (λ (m : ℕ). c m (p - k)) e)
+  term_is x j i e h = ap₂ (λ (y : Float) (m : ℕ). mul binary64 y (c m (p - k))) h e
 
   pub sum_more : (s d t : Float) (J n j : ℕ) → d ≡ sum_of floats c p r f k s J n → t ≡ term_of floats c p r f k j → J + n ≡ j → add binary64 d t ≡ sum_of floats c p r f k s J (n + 1)
   unfolding sum_of
@@ -95,13 +94,13 @@ module _ (c : ℕ → ℕ → Float) (p r k : ℕ) (f : ℕ → Float) where
       index : i ≡ r + j - k
       index = omega arith
 
-      pub middle-step : (y : Float) → y ≡ c (p - k + 1) i → x ≡ div binary64 (sub binary64 (f j) (f (j - 1))) y → (z : Float) → z ≡ c i (p - k)
-          → InMiddle J E before s (set row j x) (add binary64 d (mul binary64 x z)) (j + 1)
-      middle-step y ye xe z ze =
+      pub middle-step : x ≡ div binary64 (sub binary64 (f j) (f (j - 1))) (c (p - k + 1) i)
+          → InMiddle J E before s (set row j x) (add binary64 d (mul binary64 x (c i (p - k)))) (j + 1)
+      middle-step xe =
           let F = I.from in
-          let low = H.low in
+          let Z = H.low in
           let M = H.mid in
-          let coef : x ≡ coef_of floats c p r f k j = xe ∙ middle-coef j i (omega arith) (omega arith) index y ye in
+          let coef : x ≡ coef_of floats c p r f k j = xe ∙ middle-coef j i (omega arith) (omega arith) index in
           let next : j - J + 1 ≡ j + 1 - J = omega arith in
           record {
             long = length-set row j x ∙ I.long;
@@ -109,7 +108,7 @@ module _ (c : ℕ → ℕ → Float) (p r k : ℕ) (f : ℕ → Float) where
             upto = omega arith;
             kept = get_or-set_other row j 0 x nan (λ q. omega arith) ∙ I.kept;
             coefs = λ m a l. at_place m a coef (eq-or-lt_of_le (omega arith));
-            sum = sum_more s d _ J (j - J) j I.sum (term_is x j i index coef z ze) (omega arith) ∙ ap (λ (n : ℕ). sum_of floats c p r f k s J n) next;
+            sum = sum_more s d _ J (j - J) j I.sum (term_is x j i index coef) (omega arith) ∙ ap (λ (n : ℕ). sum_of floats c p r f k s J n) next;
           }
 
     pub middle-end : J ≡ first_of r k → E ≡ end_of p r k → (row : List Float) (d : Float) (j : ℕ) → InMiddle J E before s row d j → E ≤ j → MiddleDone c p r k f before row s d
@@ -148,17 +147,17 @@ module _ (c : ℕ → ℕ → Float) (p r k : ℕ) (f : ℕ → Float) where
         part j x z (inr l) = M.coefs j l x (omega arith) z
 
     pub row-whole : (row : List Float) (d x : Float) → (k ≤ r → at before 0 ≡ coef_of floats c p r f k 0) → s ≡ start_of floats c p r f k → MiddleDone c p r k f before row s d → r ≤ p - k
-        → (y : Float) → y ≡ c (p - k + 1) r → x ≡ div binary64 (neg (f (k - 1))) y → (z : Float) → z ≡ c r (p - k)
-        → RowDone c p r k f (set row k x) (add binary64 d (mul binary64 x z))
+        → x ≡ div binary64 (neg (f (k - 1))) (c (p - k + 1) r)
+        → RowDone c p r k f (set row k x) (add binary64 d (mul binary64 x (c r (p - k))))
     unfolding der_of
-    row-whole row d x a st M h y ye xe z ze =
+    row-whole row d x a st M h xe =
         let L = M.long in
-        let coef : x ≡ coef_of floats c p r f k k = xe ∙ last-coef K y ye in
+        let coef : x ≡ coef_of floats c p r f k k = xe ∙ last-coef K in
         let J = max 1 (k - r) in
         record {
           long = length-set row k x ∙ M.long;
-          coefs = λ j u i g. part j u g coef (eq-or-lt_of_le i);
-          sum = sum_more s d _ J (min (k - 1) (p - r) + 1 - J) k M.sum (term_is x k r index coef z ze) reach
+          coefs = λ j u y z. part j u z coef (eq-or-lt_of_le y);
+          sum = sum_more s d _ J (min (k - 1) (p - r) + 1 - J) k M.sum (term_is x k r index coef) reach
               ∙ ap₂ (λ (y : Float) (m : ℕ). sum_of floats c p r f k y J m) st count;
         }
       where
@@ -201,6 +200,6 @@ module _ (c : ℕ → ℕ → Float) (p r k : ℕ) (f : ℕ → Float) where
   unfolding start_of
   start_none h = simp (lt-leb k r h)
 
-  pub start-some : k ≤ r → (x : Float) (i : ℕ) → i ≡ r + 0 - k → x ≡ coef_of floats c p r f k 0 → (y : Float) → y ≡ c i (p - k) → mul binary64 x y ≡ start_of floats c p r f k
+  pub start-some : k ≤ r → (x : Float) (i : ℕ) → i ≡ r + 0 - k → x ≡ coef_of floats c p r f k 0 → mul binary64 x (c i (p - k)) ≡ start_of floats c p r f k
   unfolding start_of
-  start-some h x i e q y g = simp (le-leb k r h) (term_is x 0 i e q y g)
+  start-some h x i e q = simp (le-leb k r h) (term_is x 0 i e q)

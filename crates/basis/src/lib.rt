@@ -3,6 +3,5 @@
 
 mod basis;
 pub mod ders;
-mod read;
 mod row;
 mod signed;

@@ -4,43 +4,33 @@ ghost use Rattle.doubles.specs.Run.{at};
 ghost use Rattle.basis.specs.Basis.{cell};
 ghost use Rattle.basis.specs.Ders.{end_of, RowDone, StartDone, MiddleDone};
 
-use crate::read::cell_at;
 use crate::signed::{first_place, shifted};
 
 // The coefficient at place 0, where the row reaches that far.
-fn row_start(
-    w: usize,
-    r: usize,
-    k: usize,
-    p: usize,
-    ndu: &[f64],
-    from: &[f64; 3],
-    to: &mut [f64; 3],
-) -> f64
+fn row_start(r: usize, k: usize, p: usize, ndu: &[f64], from: &[f64; 3], to: &mut [f64; 3]) -> f64
     requires k_nonzero { 0 < k }
     requires k_le_p { k ≤ p }
     requires p_bound { p ≤ 64 }
     requires r_le_p { r ≤ p }
     requires to_len { length to.old ≡ 3 }
     requires k_bound { k ≤ 2 }
-    requires p_in_bounds { p * w + p < length ndu.now }
-    ensures { StartDone (cell w ndu.now) p r k (at from.now) to.new result }
+    requires p_in_bounds { p * 65 + p < length ndu.now }
+    ensures { StartDone (cell ndu.now) p r k (at from.now) to.new result }
 {
     if r < k {
         return 0.0;
     }
     let pk = p - k;
     let i = shifted(r, k, 0);
-    let under = cell_at(w, pk + 1, i, ndu);
-    let over = cell_at(w, i, pk, ndu);
-    let x = from[0] / under;
+    let under = (pk + 1) * 65 + i;
+    let x = from[0] / ndu[under];
     to[0] = x;
-    x * over
+    let over = i * 65 + pk;
+    x * ndu[over]
 }
 
 // The coefficients between the ends.
 fn row_middle(
-    w: usize,
     r: usize,
     k: usize,
     p: usize,
@@ -55,8 +45,8 @@ fn row_middle(
     requires r_le_p { r ≤ p }
     requires to_len { length to.old ≡ 3 }
     requires k_bound { k ≤ 2 }
-    requires p_in_bounds { p * w + p < length ndu.now }
-    ensures { MiddleDone (cell w ndu.now) p r k (at from.now) to.old to.new s result }
+    requires p_in_bounds { p * 65 + p < length ndu.now }
+    ensures { MiddleDone (cell ndu.now) p r k (at from.now) to.old to.new s result }
 {
     let pk = p - k;
     let end = middle_end(r, k, p);
@@ -64,11 +54,11 @@ fn row_middle(
     let mut j = first_place(r, k);
     while j < end {
         let i = shifted(r, k, j);
-        let under = cell_at(w, pk + 1, i, ndu);
-        let over = cell_at(w, i, pk, ndu);
-        let x = (from[j] - from[j - 1]) / under;
+        let under = (pk + 1) * 65 + i;
+        let over = i * 65 + pk;
+        let x = (from[j] - from[j - 1]) / ndu[under];
         to[j] = x;
-        d = d + x * over;
+        d = d + x * ndu[over];
         j += 1;
     }
     d
@@ -86,34 +76,26 @@ fn middle_end(r: usize, k: usize, p: usize) -> usize
 }
 
 // A row of coefficients, and the derivative that it gives.
-pub fn row(
-    w: usize,
-    r: usize,
-    k: usize,
-    p: usize,
-    ndu: &[f64],
-    from: &[f64; 3],
-    to: &mut [f64; 3],
-) -> f64
+pub fn row(r: usize, k: usize, p: usize, ndu: &[f64], from: &[f64; 3], to: &mut [f64; 3]) -> f64
     requires k_nonzero { 0 < k }
     requires k_le_p { k ≤ p }
     requires p_bound { p ≤ 64 }
     requires r_le_p { r ≤ p }
     requires to_len { length to.old ≡ 3 }
     requires k_bound { k ≤ 2 }
-    requires p_in_bounds { p * w + p < length ndu.now }
-    ensures { RowDone (cell w ndu.now) p r k (at from.now) to.new result }
+    requires p_in_bounds { p * 65 + p < length ndu.now }
+    ensures { RowDone (cell ndu.now) p r k (at from.now) to.new result }
 {
-    let s = row_start(w, r, k, p, ndu, from, to);
-    let d = row_middle(w, r, k, p, s, ndu, from, to);
+    let s = row_start(r, k, p, ndu, from, to);
+    let d = row_middle(r, k, p, s, ndu, from, to);
     let pk = p - k;
     if pk < r {
         return d;
     }
-    let under = cell_at(w, pk + 1, r, ndu);
-    let over = cell_at(w, r, pk, ndu);
+    let under = (pk + 1) * 65 + r;
+    let over = r * 65 + pk;
     let before = k - 1;
-    let x = -from[before] / under;
+    let x = -from[before] / ndu[under];
     to[k] = x;
-    d + x * over
+    d + x * ndu[over]
 }

@@ -13,9 +13,8 @@ use Rattle.knots.specs.Curve.{count_of}
 use Rattle.runs.specs.Coordinate.{coordinate}
 use Rattle.bounds.specs.Start.{min_from, max_from}
 use Rattle.bounds.specs.Curve.{bound_at}
-use Rattle.bounds.specs.Point.{point_only}
-use Rattle.bounds.specs.Numbers.{point_refusal, point_values}
-use Rattle.bounds.specs.declared.answer.PointBounded.{PointBounded}
+use Rattle.bounds.specs.Numbers.{bounded_refusal, bounded_values}
+use Rattle.bounds.specs.declared.answer.Bounded.{Bounded}
 use Rattle.decimals.specs.Ascii.{ascii}
 use Rattle.decimals.specs.Text.{decimal}
 use Rattle.decimals.specs.Fixed.{fixed}
@@ -99,10 +98,10 @@ unfoldable pub unbounded_text : ℕ → ℕ → List ℕ
 unbounded_text s j = part_text "<!-- span " s j ++ ascii " unbounded -->\n"
 
 -- a path, or, where there is none to draw, why: a bound that is refused has no values
-abbrev pub box_text : ℕ → ℕ → PointBounded → List ℕ
+abbrev pub box_text : ℕ → ℕ → Bounded → List ℕ
 box_text s j a =
-    let vs = point_values a in
-    let t = triple_by (at vs) 0 in cond (eqb (length vs) 0) (refused_text s j (point_refusal a).number) (cond (both_finite t.x t.y) (path_text s j t.x t.y) (unbounded_text s j))
+    let vs = bounded_values a in
+    let t = triple_by (at vs) 0 in cond (eqb (length vs) 0) (refused_text s j (bounded_refusal a).number) (cond (both_finite t.x t.y) (path_text s j t.x t.y) (unbounded_text s j))
 
 -- ---- the parts of a span: bounds over a whole span are wide
 
@@ -120,7 +119,7 @@ part_of k j = cond (ltb j k) j (k - 1)
 
 -- the line of part j of k of a curve's span s
 unfoldable pub part_line : ℕ → List Float → List Float → Bool → List Float → ℕ → ℕ → ℕ → List ℕ
-part_line p ks ps r ws k j s = box_text s j (point_only (bound_at p s ks ps r ws (mark_of (at ks s) (at ks (s + 1)) j k) (mark_of (at ks s) (at ks (s + 1)) (j + 1) k)))
+part_line p ks ps r ws k j s = box_text s j (bound_at p s ks ps r ws (mark_of (at ks s) (at ks (s + 1)) j k) (mark_of (at ks s) (at ks (s + 1)) (j + 1) k))
 
 unfoldable pub drawn_of : ℕ → List Float → List Float → Bool → List Float → ℕ → ℕ → List ℕ
 drawn_of p ks ps r ws j s = part_line p ks ps r ws (parts_of (count_of ps)) (part_of (parts_of (count_of ps)) j) s

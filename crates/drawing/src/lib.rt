@@ -12,7 +12,7 @@ ghost use Rattle.listing.specs.Text.{Shown};
 ghost use Rattle.listing.specs.Listing.{shown_of, answer_of};
 ghost use Rattle.drawing.specs.Drawing.{extent_of, view_of, head_text, point_text, middle_text, tail_text, box_text, parts_of, drawn_of};
 
-use bounds::answer::PointBounded;
+use bounds::answer::Bounded;
 use decimals::pieces::{put_number, put_text};
 use extremes::extreme;
 use interval::float::{infinity, min, next_down};
@@ -115,21 +115,21 @@ pub fn tail_text(out: &mut [u8; 2304]) -> usize
 }
 
 // The line of a part of a span: its box as a path, or why there is none to draw.
-pub fn box_text(span: usize, part: usize, answer: PointBounded, out: &mut [u8; 2304]) -> usize
+pub fn box_text(span: usize, part: usize, answer: Bounded, out: &mut [u8; 2304]) -> usize
     ensures { Shown 2304 (box_text span part answer) out.new result }
 {
     clear_bytes(out);
     match answer {
-        PointBounded::Are(point) => {
-            let x = point.x;
-            let y = point.y;
+        Bounded::Are(bounds) => {
+            let x = bounds.point.x;
+            let y = bounds.point.y;
             if both_finite(x, y) {
                 put_path(out, span, part, x, y)
             } else {
                 put_unbounded(out, span, part)
             }
         }
-        PointBounded::Refused(refusal) => put_refusal(out, span, part, refusal.number),
+        Bounded::Refused(refusal) => put_refusal(out, span, part, refusal.number),
     }
 }
 

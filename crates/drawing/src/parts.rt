@@ -3,11 +3,10 @@ ghost use Rattle.std.specs.Prelude.{◌≡◌, ◌+◌, ◌≤◌, ◌<◌, pos}
 ghost use Rattle.std.specs.Float.{binary64};
 ghost use Rattle.std.specs.Float.Ieee.{of_int};
 ghost use Rattle.bounds.specs.Curve.{bound_at};
-ghost use Rattle.bounds.specs.Point.{point_only};
 ghost use Rattle.drawing.specs.Drawing.{mark_of, part_of};
 
-use bounds::answer::PointBounded;
-use bounds::point::point_span;
+use bounds::answer::Bounded;
+use bounds::curve::bound_span;
 
 // A count as a double.
 fn as_double(j: usize) -> f64
@@ -44,7 +43,7 @@ pub fn part_in(parts: usize, part: usize) -> usize
     parts - 1
 }
 
-// The point's bounds on a part of the span between two knots.
+// The bounds on a part of the span between two knots.
 pub fn bound_part(
     degree: usize,
     span: usize,
@@ -56,12 +55,12 @@ pub fn bound_part(
     upper: f64,
     part: usize,
     parts: usize,
-) -> PointBounded
+) -> Bounded
     requires part_lt_parts { part < parts }
     requires parts_bound { parts ≤ 1024 }
-    ensures { result ≡ point_only (bound_at degree span knots.now points.now rational weights.now (mark_of lower upper part parts) (mark_of lower upper (part + 1) parts)) }
+    ensures { result ≡ bound_at degree span knots.now points.now rational weights.now (mark_of lower upper part parts) (mark_of lower upper (part + 1) parts) }
 {
     let lo = mark(lower, upper, part, parts);
     let hi = mark(lower, upper, part + 1, parts);
-    point_span(degree, span, knots, points, rational, weights, lo, hi)
+    bound_span(degree, span, knots, points, rational, weights, lo, hi)
 }

@@ -1,6 +1,6 @@
 -- The answers of `eval_at`, `eval`, `eval2_at`, `eval2`.
 -- Assumes nothing.
-use Prim.Native.Nat.{ℕ, ◌+◌, ◌-◌, ◌*◌, ◌≤◌}
+use Prim.Native.Nat.{ℕ, ◌+◌, ◌-◌, ◌≤◌}
 use mathlib.Core.Bool.{Bool, true, false, cond}
 use mathlib.Core.Path.{◌≡◌, ◌∙◌, ap, ap₂}
 use mathlib.Core.List.{List}
@@ -10,8 +10,7 @@ use lib.Ieee.{Float}
 use borrow.Author.Tests.{eq-eqb}
 use Rattle.exact.specs.Scheme.{ders_of}
 use Rattle.knots.specs.Refusal.{refuse, parameter-outside}
-use Rattle.knots.specs.Span.{outside, refusing, clamping, domain_refusal, span_of}
-use Rattle.knots.specs.Search.{searched}
+use Rattle.knots.specs.Span.{outside, refusing, clamping, domain_refusal, span_of, searched}
 use Rattle.knots.specs.Curve.{count_of, curve_refusal}
 use Rattle.knots.specs.Shape.{degree_refusal}
 use Rattle.knots.specs.declared.refusal.Refusal.{Refusal}
@@ -35,25 +34,25 @@ use Rattle.evaluate.proofs.Summed.{row-cong}
 use Rattle.evaluate.proofs.Steps.{open_span}
 
 -- ---- the sums over a row of the table are the sums over the derivatives
-module _ (w p n : ℕ) (ks ps : List Float) (g : Bool) (ws : List Float) (s : ℕ) (v : Float) (R : Reach (w * 3) p n ks s) (l : ℕ) (L : l ≡ w * 3)
-    (ders : List Float) (D : ders ≡ basis_table l p n ks s v) (m : Float) (M : m ≡ scale_of g ws (s - p) (p + 1)) where
-  pub active-is : (two : Bool) (k : ℕ) → k ≤ n → (a : Sums) → a ≡ row_sums two ps g ws m (s - p) (cell w ders k) (p + 1) → a ≡ active_sums p ks ps g ws two s v k
+module _ (p n : ℕ) (ks ps : List Float) (g : Bool) (ws : List Float) (s : ℕ) (v : Float) (R : Reach 195 p n ks s) (ders : List Float)
+    (D : ders ≡ basis_table 195 p n ks s v) (m : Float) (M : m ≡ scale_of g ws (s - p) (p + 1)) where
+  pub active-is : (two : Bool) (k : ℕ) → k ≤ n → (a : Sums) → a ≡ row_sums two ps g ws m (s - p) (cell ders k) (p + 1) → a ≡ active_sums p ks ps g ws two s v k
   unfolding active_sums
   active-is two k K a A =
-      A ∙ (row-cong two ps g ws m (s - p) (cell w ders k) (ders_of floats (left_of ks s v) (right_of ks s v) p k) (p + 1)
-      (λ j b. ap (λ (t : List Float). cell w t k j) (D ∙ ap (λ (q : ℕ). basis_table q p n ks s v) L) ∙ basis-at p n ks s v w R k j K (omega arith))
+      A ∙ (row-cong two ps g ws m (s - p) (cell ders k) (ders_of floats (left_of ks s v) (right_of ks s v) p k) (p + 1)
+      (λ j b. ap (λ (t : List Float). cell t k j) D ∙ basis-at p n ks s v 195 R k j K (omega arith))
       ∙ ap (λ (x : Float). row_sums two ps g ws x (s - p) (ders_of floats (left_of ks s v) (right_of ks s v) p k) (p + 1)) M)
 
   pub curve-is : 1 ≤ n → (o : Vector) (a d : Sums) (r : CurveDerivs) → o ≡ point_of ps (s - p)
-      → a ≡ row_sums false ps g ws m (s - p) (cell w ders 0) (p + 1) → d ≡ row_sums false ps g ws m (s - p) (cell w ders 1) (p + 1)
+      → a ≡ row_sums false ps g ws m (s - p) (cell ders 0) (p + 1) → d ≡ row_sums false ps g ws m (s - p) (cell ders 1) (p + 1)
       → r ≡ quotient o a d → r ≡ curve_of p ks ps g ws s v
   unfolding curve_of
   curve-is N o a d r O A B E =
       E ∙ (ap (λ (x : Vector). quotient x a d) O ∙ ap₂ (quotient (point_of ps (s - p))) (active-is false 0 (omega arith) a A) (active-is false 1 N d B))
 
   pub curve2-is : 2 ≤ n → (o : Vector) (a d e : Sums) (r : CurveDerivs2) → o ≡ point_of ps (s - p)
-      → a ≡ row_sums true ps g ws m (s - p) (cell w ders 0) (p + 1) → d ≡ row_sums true ps g ws m (s - p) (cell w ders 1) (p + 1)
-      → e ≡ row_sums true ps g ws m (s - p) (cell w ders 2) (p + 1) → r ≡ quotient2 o a d e → r ≡ curve2_of p ks ps g ws s v
+      → a ≡ row_sums true ps g ws m (s - p) (cell ders 0) (p + 1) → d ≡ row_sums true ps g ws m (s - p) (cell ders 1) (p + 1)
+      → e ≡ row_sums true ps g ws m (s - p) (cell ders 2) (p + 1) → r ≡ quotient2 o a d e → r ≡ curve2_of p ks ps g ws s v
   unfolding curve2_of
   curve2-is N o a d e r O A B C E =
       E ∙ (ap₂ (λ (x : Vector) (y : Sums). quotient2 x y d e) O (active-is true 0 (omega arith) a A)

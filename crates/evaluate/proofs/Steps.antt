@@ -10,8 +10,7 @@ use lib.Ieee.{Float}
 use lib.Ieee.Scale.{finite}
 use Rattle.knots.specs.declared.refusal.Refusal.{Refusal}
 use Rattle.knots.specs.Curve.{count_of, curve_refusal, ValidCurve}
-use Rattle.knots.specs.Span.{span_of, domain_refusal}
-use Rattle.knots.specs.Search.{searched}
+use Rattle.knots.specs.Span.{searched, span_of, domain_refusal}
 use Rattle.knots.proofs.Refusals.{or_else-none}
 use Rattle.knots.proofs.Curves.{valid-curve}
 use Rattle.knots.specs.Shape.{degree_refusal, curve_shape}

@@ -13,8 +13,7 @@ use borrow.Author.Tests.{eqb-true, eq-eqb, not-false}
 use Rattle.exact.specs.Scheme.{ders_of}
 use Rattle.knots.specs.Refusal.{refuse, accepted, along, or_else, net-size, points-uneven, parameter-outside}
 use Rattle.knots.specs.Curve.{count_of}
-use Rattle.knots.specs.Span.{outside, clamped, refusing, clamping, domain_refusal, span_of}
-use Rattle.knots.specs.Search.{searched}
+use Rattle.knots.specs.Span.{outside, clamped, refusing, clamping, domain_refusal, span_of, searched}
 use Rattle.knots.specs.Surface.{surface_refusal, ValidSurface}
 use Rattle.knots.specs.declared.refusal.Refusal.{Refusal}
 use Rattle.knots.proofs.Refusals.{passed, or_else-none, where-none}
@@ -41,20 +40,20 @@ use Rattle.evaluate.proofs.Nets.{net-place, net-cong}
 module _ (p q : ℕ) (us vs : List Float) (n : ℕ) (ps : List Float) (g : Bool) (ws : List Float) (s t : ℕ) (u v : Float) (du dv : List Float)
     (R : Reach 195 p 1 us s) (D : du ≡ basis_table 195 p 1 us s u) (T : Reach 195 q 1 vs t) (E : dv ≡ basis_table 195 q 1 vs t v)
     (o : Vector) (O : o ≡ point_of ps ((s - p) * n + (t - q))) (m : Float) (M : m ≡ net_scale g ws n (s - p) (t - q) (q + 1) (p + 1)) where
-  net-is : (i j : ℕ) → i ≤ 1 → j ≤ 1 → (a : Sums) → a ≡ net_sums ps g ws m o n (s - p) (t - q) (cell 65 du i) (cell 65 dv j) (q + 1) (p + 1)
+  net-is : (i j : ℕ) → i ≤ 1 → j ≤ 1 → (a : Sums) → a ≡ net_sums ps g ws m o n (s - p) (t - q) (cell du i) (cell dv j) (q + 1) (p + 1)
       → a ≡ active_net p q us vs n ps g ws s t u v i j
   unfolding active_net
   net-is i j I J a A =
-      A ∙ (net-cong ps g ws m o n (s - p) (t - q) (q + 1) (cell 65 du i) (ders_of floats (left_of us s u) (right_of us s u) p i) (cell 65 dv j) (ders_of floats (left_of vs t v) (right_of vs t v) q j) (p + 1)
-      (λ k b. ap (λ (l : List Float). cell 65 l i k) D ∙ basis-at p 1 us s u 65 R i k I (omega arith))
-      (λ k b. ap (λ (l : List Float). cell 65 l j k) E ∙ basis-at q 1 vs t v 65 T j k J (omega arith))
+      A ∙ (net-cong ps g ws m o n (s - p) (t - q) (q + 1) (cell du i) (ders_of floats (left_of us s u) (right_of us s u) p i) (cell dv j) (ders_of floats (left_of vs t v) (right_of vs t v) q j) (p + 1)
+      (λ k b. ap (λ (l : List Float). cell l i k) D ∙ basis-at p 1 us s u 195 R i k I (omega arith))
+      (λ k b. ap (λ (l : List Float). cell l j k) E ∙ basis-at q 1 vs t v 195 T j k J (omega arith))
       ∙ ap₂
       (λ (x : Float) (y : Vector). net_sums ps g ws x y n (s - p) (t - q) (ders_of floats (left_of us s u) (right_of us s u) p i) (ders_of floats (left_of vs t v) (right_of vs t v) q j) (q + 1) (p + 1)) M
       O)
 
-  pub surface-is : (a d e : Sums) (r : SurfaceDerivs) → a ≡ net_sums ps g ws m o n (s - p) (t - q) (cell 65 du 0) (cell 65 dv 0) (q + 1) (p + 1)
-      → d ≡ net_sums ps g ws m o n (s - p) (t - q) (cell 65 du 1) (cell 65 dv 0) (q + 1) (p + 1)
-      → e ≡ net_sums ps g ws m o n (s - p) (t - q) (cell 65 du 0) (cell 65 dv 1) (q + 1) (p + 1)
+  pub surface-is : (a d e : Sums) (r : SurfaceDerivs) → a ≡ net_sums ps g ws m o n (s - p) (t - q) (cell du 0) (cell dv 0) (q + 1) (p + 1)
+      → d ≡ net_sums ps g ws m o n (s - p) (t - q) (cell du 1) (cell dv 0) (q + 1) (p + 1)
+      → e ≡ net_sums ps g ws m o n (s - p) (t - q) (cell du 0) (cell dv 1) (q + 1) (p + 1)
       → r ≡ surface_quotient o a d e → r ≡ surface_of p q us vs n ps g ws s t u v
   unfolding surface_of
   surface-is a d e r A B C Q =

@@ -5,8 +5,7 @@ use Rattle.std.specs.Float.{binary64}
 use Rattle.std.specs.Float.Ieee.{add, sub, mul, div}
 use Rattle.exact.specs.Scheme.{ders_of}
 use Rattle.knots.specs.Refusal.{or_else}
-use Rattle.knots.specs.Span.{clamped, domain_refusal, span_of}
-use Rattle.knots.specs.Search.{searched}
+use Rattle.knots.specs.Span.{clamped, domain_refusal, span_of, searched}
 use Rattle.knots.specs.Curve.{count_of, curve_refusal}
 use Rattle.knots.specs.declared.refusal.Refusal.{Refusal}
 use Rattle.basis.specs.Floats.{floats}

@@ -4,8 +4,7 @@ use Rattle.std.specs.Prelude.{ℕ, ◌-◌, Bool, true, cond, ◌&&◌, List, eq
 use Rattle.std.specs.Float.{binary64}
 use Rattle.std.specs.Float.Ieee.{sub, mul, div, of_bits}
 use Rattle.knots.specs.Refusal.{refuse, second-not-finite}
-use Rattle.knots.specs.Span.{span_of}
-use Rattle.knots.specs.Search.{searched}
+use Rattle.knots.specs.Span.{span_of, searched}
 use Rattle.knots.specs.Curve.{count_of}
 use Rattle.knots.specs.declared.refusal.Refusal.{Refusal}
 use Rattle.runs.specs.Point.{point_of, finite_vector}

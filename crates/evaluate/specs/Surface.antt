@@ -8,8 +8,7 @@ use Rattle.exact.specs.Scheme.{ders_of}
 use Rattle.doubles.specs.Run.{at}
 use Rattle.doubles.specs.Value.{zero+, one+}
 use Rattle.knots.specs.Refusal.{or_else}
-use Rattle.knots.specs.Span.{clamped, domain_refusal, span_of}
-use Rattle.knots.specs.Search.{searched}
+use Rattle.knots.specs.Span.{clamped, domain_refusal, span_of, searched}
 use Rattle.knots.specs.Surface.{surface_refusal}
 use Rattle.knots.specs.declared.refusal.Refusal.{Refusal}
 use Rattle.basis.specs.Floats.{floats}

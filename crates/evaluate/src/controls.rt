@@ -78,22 +78,21 @@ pub struct ValueSlope {
     pub slope: Sums,
 }
 
-// Rows 0 and 1 of a table of derivatives, each of so many numbers, against the p + 1 active points from the first on: a point and its weight are read once for both. The order of operations is that of one derivative.
+// Rows 0 and 1 of a table of derivatives against the p + 1 active points from the first on: a point and its weight are read once for both. The order of operations is that of one derivative.
 pub fn value_and_slope(
-    width: usize,
     p: usize,
     first: usize,
     scale: f64,
     points: &[f64],
     rational: bool,
     weights: &[f64],
-    ders: &[f64],
+    ders: &[f64; 195],
 ) -> ValueSlope
-    requires p_in_bounds { width + p < length ders.now }
-    requires p_in_bounds_2 { (first + p) * 3 + 2 < length points.now }
-    requires p_in_bounds_3 { rational ≡ true → first + p < length weights.now }
-    ensures value_value { result.value ≡ row_sums false points.now rational weights.now scale first (cell width ders.now 0) (p + 1) }
-    ensures slope_value { result.slope ≡ row_sums false points.now rational weights.now scale first (cell width ders.now 1) (p + 1) }
+    requires p_bound { p ≤ 64 }
+    requires p_in_bounds { (first + p) * 3 + 2 < length points.now }
+    requires p_in_bounds_2 { rational ≡ true → first + p < length weights.now }
+    ensures value_value { result.value ≡ row_sums false points.now rational weights.now scale first (cell ders.now 0) (p + 1) }
+    ensures slope_value { result.slope ≡ row_sums false points.now rational weights.now scale first (cell ders.now 1) (p + 1) }
 {
     let o = point_at(points, first);
     let mut value = Sums {
@@ -106,7 +105,7 @@ pub fn value_and_slope(
     let mut j = 0usize;
     while j <= p {
         let i = first + j;
-        let at = width + j;
+        let at = 65 + j;
         let n = ders[j];
         let dn = ders[at];
         let w = weight_at(rational, weights, scale, i);
@@ -120,7 +119,6 @@ pub fn value_and_slope(
 
 // Row k of a table of derivatives against the p + 1 active points from the first on, in the order of operations of two derivatives.
 pub fn row_sums(
-    width: usize,
     k: usize,
     p: usize,
     first: usize,
@@ -128,12 +126,13 @@ pub fn row_sums(
     points: &[f64],
     rational: bool,
     weights: &[f64],
-    ders: &[f64],
+    ders: &[f64; 195],
 ) -> Sums
-    requires p_in_bounds { k * width + p < length ders.now }
-    requires p_in_bounds_2 { (first + p) * 3 + 2 < length points.now }
-    requires p_in_bounds_3 { rational ≡ true → first + p < length weights.now }
-    ensures { result ≡ row_sums true points.now rational weights.now scale first (cell width ders.now k) (p + 1) }
+    requires k_bound { k ≤ 2 }
+    requires p_bound { p ≤ 64 }
+    requires p_in_bounds { (first + p) * 3 + 2 < length points.now }
+    requires p_in_bounds_2 { rational ≡ true → first + p < length weights.now }
+    ensures { result ≡ row_sums true points.now rational weights.now scale first (cell ders.now k) (p + 1) }
 {
     let o = point_at(points, first);
     let mut s = Sums {
@@ -145,7 +144,7 @@ pub fn row_sums(
     let mut j = 0usize;
     while j <= p {
         let i = first + j;
-        let at = k * width + j;
+        let at = k * 65 + j;
         let n = ders[at];
         let w = weight_at(rational, weights, scale, i);
         let q = point_at(points, i);

@@ -45,37 +45,7 @@ fn quotient_of(o: Vector, a: Sums, d: Sums) -> CurveDerivs
     CurveDerivs { point, d1 }
 }
 
-// The point and the first derivative at u in a span, by a lent run of three rows.
-fn curve_by(
-    width: usize,
-    span: usize,
-    u: f64,
-    p: usize,
-    knots: &[f64],
-    points: &[f64],
-    rational: bool,
-    weights: &[f64],
-    ders: &mut [f64],
-) -> CurveDerivs
-    requires p_nonzero { 0 < p }
-    requires p_bound { p ≤ 64 }
-    requires p_le_span { p ≤ span }
-    requires p_in_bounds { span + p < length knots.now }
-    requires span_in_bounds { span * 3 + 2 < length points.now }
-    requires span_in_bounds_2 { rational ≡ true → span < length weights.now }
-    requires p_lt_width { p < width }
-    requires ders_len { length ders.old ≡ width * 3 }
-    ensures { result ≡ curve_of p knots.now points.now rational weights.now span u }
-{
-    basis_derivatives(span, u, p, 1, knots, ders);
-    let first = span - p;
-    let scale = scale_at(rational, weights, first, p + 1);
-    let o = point_at(points, first);
-    let s = value_and_slope(width, p, first, scale, points, rational, weights, ders);
-    quotient_of(o, s.value, s.slope)
-}
-
-// The point and the first derivative at u in a span. Rows of 8 numbers are enough for degrees up to 7, and are cheap to clear.
+// The point and the first derivative at u in a span.
 fn curve_at(
     span: usize,
     u: f64,
@@ -93,12 +63,13 @@ fn curve_at(
     requires span_in_bounds_2 { rational ≡ true → span < length weights.now }
     ensures { result ≡ curve_of p knots.now points.now rational weights.now span u }
 {
-    if p <= 7 {
-        let mut ders = [0.0; 24];
-        return curve_by(8, span, u, p, knots, points, rational, weights, &mut ders);
-    }
     let mut ders = [0.0; 195];
-    curve_by(65, span, u, p, knots, points, rational, weights, &mut ders)
+    basis_derivatives(span, u, p, 1, knots, &mut ders);
+    let first = span - p;
+    let scale = scale_at(rational, weights, first, p + 1);
+    let o = point_at(points, first);
+    let s = value_and_slope(p, first, scale, points, rational, weights, &ders);
+    quotient_of(o, s.value, s.slope)
 }
 
 // The point and the first derivative at t of runs that fit each other, on the span that the search finds.

@@ -55,39 +55,7 @@ fn quotient2_of(o: Vector, a: Sums, d: Sums, e: Sums) -> CurveDerivs2
     CurveDerivs2 { point, d1, d2 }
 }
 
-// The point and two derivatives at u in a span, by a lent run of three rows.
-fn curve2_by(
-    width: usize,
-    span: usize,
-    u: f64,
-    p: usize,
-    knots: &[f64],
-    points: &[f64],
-    rational: bool,
-    weights: &[f64],
-    ders: &mut [f64],
-) -> CurveDerivs2
-    requires p_nonzero { 0 < p }
-    requires p_bound { p ≤ 64 }
-    requires p_le_span { p ≤ span }
-    requires p_in_bounds { span + p < length knots.now }
-    requires span_in_bounds { span * 3 + 2 < length points.now }
-    requires span_in_bounds_2 { rational ≡ true → span < length weights.now }
-    requires p_lt_width { p < width }
-    requires ders_len { length ders.old ≡ width * 3 }
-    ensures { result ≡ curve2_of p knots.now points.now rational weights.now span u }
-{
-    basis_derivatives(span, u, p, 2, knots, ders);
-    let first = span - p;
-    let o = point_at(points, first);
-    let scale = scale_at(rational, weights, first, p + 1);
-    let a = row_sums(width, 0, p, first, scale, points, rational, weights, ders);
-    let d = row_sums(width, 1, p, first, scale, points, rational, weights, ders);
-    let e = row_sums(width, 2, p, first, scale, points, rational, weights, ders);
-    quotient2_of(o, a, d, e)
-}
-
-// The point and two derivatives at u in a span. Rows of 8 numbers are enough for degrees up to 7, and are cheap to clear.
+// The point and two derivatives at u in a span.
 fn curve2_at(
     span: usize,
     u: f64,
@@ -105,12 +73,15 @@ fn curve2_at(
     requires span_in_bounds_2 { rational ≡ true → span < length weights.now }
     ensures { result ≡ curve2_of p knots.now points.now rational weights.now span u }
 {
-    if p <= 7 {
-        let mut ders = [0.0; 24];
-        return curve2_by(8, span, u, p, knots, points, rational, weights, &mut ders);
-    }
     let mut ders = [0.0; 195];
-    curve2_by(65, span, u, p, knots, points, rational, weights, &mut ders)
+    basis_derivatives(span, u, p, 2, knots, &mut ders);
+    let first = span - p;
+    let o = point_at(points, first);
+    let scale = scale_at(rational, weights, first, p + 1);
+    let a = row_sums(0, p, first, scale, points, rational, weights, &ders);
+    let d = row_sums(1, p, first, scale, points, rational, weights, &ders);
+    let e = row_sums(2, p, first, scale, points, rational, weights, &ders);
+    quotient2_of(o, a, d, e)
 }
 
 // All nine numbers are finite.

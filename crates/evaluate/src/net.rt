@@ -62,7 +62,7 @@ fn net_row(
     requires q_bound { q ≤ 64 }
     requires q_in_bounds { (first + q) * 3 + 2 < length points.now }
     requires q_in_bounds_2 { rational ≡ true → first + q < length weights.now }
-    ensures { result ≡ sums_from s (row_term false points.now rational weights.now scale o first (λ l. mul binary64 x (cell 65 ders.now j l))) (q + 1) }
+    ensures { result ≡ sums_from s (row_term false points.now rational weights.now scale o first (λ l. mul binary64 x (cell ders.now j l))) (q + 1) }
 {
     let mut t = s;
     let mut l = 0usize;
@@ -98,7 +98,7 @@ pub fn net_sums(
     requires net_reach { NetReach (length points.now / 3) net.columns net.a net.p net.b net.q }
     requires net_reach_2 { rational ≡ true → NetReach (length weights.now) net.columns net.a net.p net.b net.q }
     requires p_bound_2 { net.a + net.p < 18446744073709551616 }
-    ensures { result ≡ net_sums points.now rational weights.now scale o net.columns net.a net.b (cell 65 u_ders.now i) (cell 65 v_ders.now j) (net.q + 1) (net.p + 1) }
+    ensures { result ≡ net_sums points.now rational weights.now scale o net.columns net.a net.b (cell u_ders.now i) (cell v_ders.now j) (net.q + 1) (net.p + 1) }
 {
     let q = net.q;
     let mut s = Sums {

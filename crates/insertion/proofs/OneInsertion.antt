@@ -20,7 +20,7 @@ use Rattle.knots.specs.Refusal.{refuse, accepted, placed, knot-outside, knot-ful
 use Rattle.knots.specs.Knots.{ValidKnots}
 use Rattle.knots.specs.Curve.{formed_refusal}
 use Rattle.knots.specs.Span.{SpanAt, span_of}
-use Rattle.knots.specs.Search.{SpanFound}
+use Rattle.knots.specs.Span.{SpanFound}
 use Rattle.knots.specs.declared.refusal.Refusal.{Refusal}
 use Rattle.knots.proofs.Below.{and_left, and_right}
 use Rattle.knots.proofs.Refusals.{passed, stop, skip}

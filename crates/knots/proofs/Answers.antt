@@ -14,13 +14,11 @@ use Rattle.doubles.specs.Run.{at}
 use Rattle.knots.specs.Refusal.{refuse, accepted, length-bad, parameter-not-finite, parameter-outside}
 use Rattle.knots.specs.Knots.{ValidKnots, knot_refusal}
 use Rattle.knots.specs.Curve.{over_long}
-use Rattle.knots.specs.Span.{SpanAt, SpanMeets, outside, clamped, refusing, clamping, domain_refusal, nonempty, last_nonempty, span_refusal, span_answer}
-use Rattle.knots.specs.Search.{SpanFound, inner_of, searched}
+use Rattle.knots.specs.Span.{SpanAt, SpanFound, SpanMeets, outside, clamped, refusing, clamping, domain_refusal, nonempty, halved, last_nonempty, searched, span_refusal, span_answer}
 use Rattle.knots.specs.declared.span.SpanAnswer.{SpanAnswer}
 use Rattle.knots.specs.declared.span.SpanAnswer.TheVariants.{Span, Refused}
 use Rattle.doubles.proofs.TestedOrder.{lt_irrefl, lt-asym}
 use Rattle.knots.proofs.Last.{last_none}
-use Rattle.knots.proofs.Evenly.{inner-none}
 use Rattle.knots.proofs.Refusals.{passed, or_else-none, stop}
 use Rattle.knots.proofs.Valid.{valid}
 use Rattle.knots.proofs.Curves.{or-false}
@@ -177,7 +175,7 @@ module _ (p n : ℕ) (ks : List Float) (w : Float) where
   unfolding searched
   searched-short h = simp (le-leb (length ks) n h)
 
-  pub searched-inner : n < length ks → lt w (at ks n) ≡ true → inner_of p n ks w ≡ searched p n ks w
+  pub searched-inner : n < length ks → lt w (at ks n) ≡ true → halved (n - p) ks w p n ≡ searched p n ks w
   unfolding searched
   searched-inner h t = simp (lt-leb (length ks) n h, t)
 
@@ -186,35 +184,16 @@ module _ (p n : ℕ) (ks : List Float) (w : Float) where
   searched-end h t = simp (lt-leb (length ks) n h, t)
 
   pub searched-none : n ≤ p → p ≡ searched p n ks w
-  unfolding searched
+  unfolding searched halved
   searched-none h = go (leb (length ks) n) (lt w (at ks n))
     where
+      e : n - p ≡ 0
+      e = omega arith
+
       f : n - p - 1 ≡ 0
       f = omega arith
 
-      go : (b t : Bool) → p ≡ cond b p (cond t (inner_of p n ks w) (last_nonempty p n ks))
+      go : (b t : Bool) → p ≡ cond b p (cond t (halved (n - p) ks w p n) (last_nonempty p n ks))
       go true t = refl
-      go false true = sym (inner-none p n ks w h)
+      go false true = sym (ap (λ (k : ℕ). halved k ks w p n) e)
       go false false = sym (last_none (nonempty ks) p (n - p - 1) f)
-
--- ---- a parameter below the domain is raised; above it the search goes to the end as it is
-module _ (p n : ℕ) (ks : List Float) (u : Float) where
-  pub raised-inner : lt (cond (lt u (at ks p)) (at ks p) u) (at ks n) ≡ true → cond (lt u (at ks p)) (at ks p) u ≡ clamped p n ks u
-  unfolding clamped
-  raised-inner = go (lt u (at ks p))
-    where
-      go : (b : Bool) → lt (cond b (at ks p) u) (at ks n) ≡ true → cond b (at ks p) u ≡ cond b (at ks p) (cond (lt (at ks n) u) (at ks n) u)
-      go true h = refl
-      go false h = simp (lt-asym u (at ks n) h)
-
-  pub raised-end : lt (cond (lt u (at ks p)) (at ks p) u) (at ks n) ≡ false → lt (clamped p n ks u) (at ks n) ≡ false
-  unfolding clamped
-  raised-end = go (lt u (at ks p))
-    where
-      top : (b : Bool) → lt u (at ks n) ≡ false → lt (cond b (at ks n) u) (at ks n) ≡ false
-      top true h = lt_irrefl (at ks n)
-      top false h = h
-
-      go : (b : Bool) → lt (cond b (at ks p) u) (at ks n) ≡ false → lt (cond b (at ks p) (cond (lt (at ks n) u) (at ks n) u)) (at ks n) ≡ false
-      go true h = h
-      go false h = top (lt (at ks n) u) h

@@ -9,7 +9,7 @@ use lib.Dec.{leb}
 use lib.Ieee.{Float, lt}
 use borrow.Author.Tests.{le-leb, lt-leb, leb-true, leb-false}
 use Rattle.doubles.specs.Run.{at}
-use Rattle.knots.specs.Search.{halved}
+use Rattle.knots.specs.Span.{halved}
 
 -- what the search has come to: a window, and the steps that suffice for it
 pub record Window (ks : List Float) (v : Float) (p n goal low high : ℕ) : Type 0 where

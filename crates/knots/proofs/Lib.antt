@@ -12,7 +12,6 @@ pub mod Surfaces
 pub mod Fractions
 pub mod Last
 pub mod Halving
-pub mod Evenly
 pub mod Spans
 pub mod Answers
 pub mod Walks

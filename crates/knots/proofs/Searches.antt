@@ -12,10 +12,8 @@ use lib.Ieee.Scale.{finite}
 use borrow.Author.Tests.{leb-false, lt-leb}
 use Rattle.doubles.specs.Run.{at}
 use Rattle.knots.specs.Knots.{ValidKnots}
-use Rattle.knots.specs.Span.{SpanAt, nonempty, last_nonempty, clamped, span_of}
-use Rattle.knots.specs.Search.{SpanFound, inner_of, halved, searched}
+use Rattle.knots.specs.Span.{SpanAt, SpanFound, nonempty, halved, last_nonempty, searched, clamped, span_of}
 use Rattle.knots.proofs.Last.{last-is}
-use Rattle.knots.proofs.Evenly.{inner-by}
 use Rattle.knots.proofs.Spans.{search-meets, span-is}
 use Rattle.knots.proofs.Answers.{clamped-in, clamp-in}
 
@@ -49,8 +47,8 @@ module _ (ks : List Float) (v : Float) where
   unfolding searched In
   searched-in p n l h = simp (lt-leb (length ks) n h) (go (lt v (at ks n)))
     where
-      go : (b : Bool) → (p ≤ cond b (inner_of p n ks v) (last_nonempty p n ks)) × (cond b (inner_of p n ks v) (last_nonempty p n ks) < n)
-      go true = inner-by p n ks v (In p n) (λ s l w. (l, w.below)) (halved-in (n - p) p n l)
+      go : (b : Bool) → (p ≤ cond b (halved (n - p) ks v p n) (last_nonempty p n ks)) × (cond b (halved (n - p) ks v p n) (last_nonempty p n ks) < n)
+      go true = halved-in (n - p) p n l
       go false = let w = last-is (nonempty ks) p (n - p - 1) in let T = w.to in (w.from, omega arith)
 
 -- on valid knots it ends at the span

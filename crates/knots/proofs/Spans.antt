@@ -13,13 +13,11 @@ use lib.Ieee.Scale.{finite}
 use borrow.Author.Tests.{lt-leb}
 use Rattle.doubles.specs.Run.{at}
 use Rattle.knots.specs.Knots.{ValidKnots}
-use Rattle.knots.specs.Span.{SpanAt, nonempty, last_nonempty, span_of}
-use Rattle.knots.specs.Search.{halved, inner_of, searched}
+use Rattle.knots.specs.Span.{SpanAt, nonempty, last_nonempty, halved, span_of, searched}
 use Rattle.doubles.proofs.TestedOrder.{lt_irrefl, lt-ge-trans, ge-lt-trans, ge_trans, le-gives, ge-le, le_is}
 use Rattle.knots.proofs.Valid.{sorted}
 use Rattle.knots.proofs.Last.{last-is, last-unique}
 use Rattle.knots.proofs.Halving.{between}
-use Rattle.knots.proofs.Evenly.{inner-by}
 
 module _ (p n : ℕ) (ks : List Float) (v : ValidKnots p n ks) where
   pub finite-at : (k : ℕ) → k ≤ n → finite (at ks k) ≡ true
@@ -58,8 +56,8 @@ module _ (p n : ℕ) (ks : List Float) (v : ValidKnots p n ks) where
       ] in
       record { from = F; below = omega arith; inside = λ q. (cc, cc); ending = λ q. (here, later) }
 
-  halved-meets : (w : Float) → finite w ≡ true → lt w (at ks p) ≡ false → lt w (at ks n) ≡ true → SpanAt p n ks w (halved (n - p) ks w p n)
-  halved-meets w W a b =
+  inner_meets : (w : Float) → finite w ≡ true → lt w (at ks p) ≡ false → lt w (at ks n) ≡ true → SpanAt p n ks w (halved (n - p) ks w p n)
+  inner_meets w W a b =
       let C = v.count in
       let s = halved (n - p) ks w p n in
       let h = between ks w (n - p) p n C (omega arith) a b in
@@ -70,12 +68,6 @@ module _ (p n : ℕ) (ks : List Float) (v : ValidKnots p n ks) where
         inside = λ q. (ge-le (at ks s) w (finite-at s (omega arith)) W h.reached, h.next);
         ending = λ q. (cc, (λ k l m. cc));
       }
-
-  inner_meets : (w : Float) → finite w ≡ true → lt w (at ks p) ≡ false → lt w (at ks n) ≡ true → SpanAt p n ks w (inner_of p n ks w)
-  inner_meets w W a b =
-      inner-by p n ks w (SpanAt p n ks w)
-      (λ s l h. record { from = l; below = h.below; inside = λ q. (h.reached, h.next); ending = λ q. (cc, (λ k i m. cc)) })
-      (halved-meets w W a b)
 
   pub search-meets : (w : Float) → finite w ≡ true → lt w (at ks p) ≡ false → SpanAt p n ks w (searched p n ks w)
   unfolding searched

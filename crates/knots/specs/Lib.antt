@@ -8,6 +8,5 @@ pub mod Placed
 pub mod Surface
 pub mod Shape
 pub mod Span
-pub mod Search
 pub mod Numbers
 pub mod Walk

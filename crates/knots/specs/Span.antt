@@ -1,11 +1,11 @@
--- What lies outside the domain, the span of a parameter, and the answer of `find_span`, by its mode.
+-- What lies outside the domain, the span of a parameter, what the search for it finds on any knots, and the answer of `find_span`, by its mode.
 -- Assumes nothing.
-use Rattle.std.specs.Prelude.{ℕ, zero, suc, ◌+◌, ◌-◌, ◌≤◌, ◌<◌, Bool, true, false, not, cond, ◌&&◌, ◌||◌, ◌≡◌, List, eqb, Float}
+use Rattle.std.specs.Prelude.{ℕ, zero, suc, ◌+◌, ◌-◌, ◌/◌, ◌≤◌, ◌<◌, Bool, true, false, not, cond, ◌&&◌, ◌||◌, ◌≡◌, List, length, leb, eqb, Float}
 use Rattle.std.specs.Float.Ieee.{lt, le}
 use Rattle.std.specs.Float.Ieee.Scale.{finite}
 use Rattle.doubles.specs.Run.{at}
 use Rattle.knots.specs.Refusal.{refuse, accepted, or_else, length-bad, parameter-not-finite, parameter-outside}
-use Rattle.knots.specs.Knots.{knot_refusal}
+use Rattle.knots.specs.Knots.{knot_refusal, ValidKnots}
 use Rattle.knots.specs.Curve.{over_long}
 use Rattle.knots.specs.declared.refusal.Refusal.{Refusal}
 use Rattle.knots.specs.declared.span.SpanAnswer.{SpanAnswer}
@@ -55,6 +55,23 @@ last_nonempty p n ks = last_after (nonempty ks) p (n - p - 1)
 -- before the domain's end the last place whose knot is not above v, else the last nonempty span
 unfoldable pub span_of : ℕ → ℕ → List Float → Float → ℕ
 span_of p n ks v = cond (lt v (at ks n)) (last_after (λ s. le (at ks s) v) p (n - p - 1)) (last_nonempty p n ks)
+
+-- ---- the search, on any knots
+-- the window low..high is halved, to its lower half where v is below the knot at its middle, until it is one place wide. It halves at most k times
+unfoldable pub halved : ℕ → List Float → Float → ℕ → ℕ → ℕ
+halved zero ks v low high = low
+halved (suc k) ks v low high =
+    cond (leb high (low + 1)) low
+    (cond (lt v (at ks ((low + high) / 2))) (halved k ks v low ((low + high) / 2)) (halved k ks v ((low + high) / 2) high))
+
+-- what is found of v: p where the run has no place n, or p is not below n
+unfoldable pub searched : ℕ → ℕ → List Float → Float → ℕ
+searched p n ks v = cond (leb (length ks) n) p (cond (lt v (at ks n)) (halved (n - p) ks v p n) (last_nonempty p n ks))
+
+-- what `span_of` answers: on any run what the search finds; on valid knots that is the span
+pub record SpanFound (p n : ℕ) (ks : List Float) (u : Float) (s : ℕ) : Type 0 where
+  pub found : s ≡ searched p n ks (clamped p n ks u)
+  pub meets : ValidKnots p n ks → finite u ≡ true → SpanAt p n ks (clamped p n ks u) s
 
 -- ---- find_span, by its mode
 -- its refusals: 30, 1 to 7, 12, 43, in this order

@@ -1,13 +1,11 @@
 // The span of a parameter.
-ghost use Rattle.std.specs.Prelude.{◌≡◌, cond, ◌-◌, ◌<◌, length};
-ghost use Rattle.std.specs.Float.Ieee.{lt};
-ghost use Rattle.knots.specs.Span.{outside, clamped, refusing, clamping, domain_refusal, last_nonempty, span_refusal, SpanMeets};
-ghost use Rattle.knots.specs.Search.{even_sum, lies_at, inner_of, halved, SpanFound};
+ghost use Rattle.std.specs.Prelude.{◌≡◌, ◌-◌, ◌<◌, length};
+ghost use Rattle.knots.specs.Span.{outside, clamped, refusing, clamping, domain_refusal, halved, last_nonempty, span_refusal, SpanFound, SpanMeets};
 
 use crate::knots::{knot_number, knot_placed};
 use crate::limits::over_long;
 use crate::refusal::{Refusal, refuse};
-use interval::float::{is_finite, is_nan};
+use interval::float::is_finite;
 
 // The span of a parameter, or the refusal of the run or of the parameter.
 #[derive(Clone, Copy)]
@@ -82,33 +80,8 @@ fn last_span(degree: usize, count: usize, knots: &[f64]) -> usize
     span
 }
 
-// 2^32 and the spans that lie before v if the knots of the domain are evenly apart: the low 20 bits are a fraction, so that a rounding seldom misses a knot; where it does, the bisection answers.
-fn even_sum(degree: usize, count: usize, v: f64, knots: &[f64]) -> f64
-    requires degree_lt_count { degree < count }
-    requires count_in_bounds { count < length knots.now }
-    ensures { result ≡ even_sum degree count knots.now v }
-{
-    let lo = knots[degree];
-    let spans = f64::from_bits(0x4330_0000_0000_0000 + (count - degree) as u64)
-        - 4503599627370496.0;
-    (v - lo) / (knots[count] - lo) * spans + 4294967296.0
-}
-
-// The place s of the domain is that of v: its knot is not above v, and the next one is.
-fn lies_at(count: usize, s: usize, v: f64, knots: &[f64]) -> bool
-    requires { count < length knots.now }
-    ensures { result ≡ lies_at count knots.now v s }
-{
-    if s < count {
-        if knots[s] <= v {
-            return v < knots[s + 1];
-        }
-    }
-    false
-}
-
-// A binary search: its window halves at each step whatever the knots are.
-fn bisect(degree: usize, count: usize, v: f64, knots: &[f64]) -> usize
+// Before the end: a binary search. Its window halves at each step whatever the knots are.
+fn inner_span(degree: usize, count: usize, v: f64, knots: &[f64]) -> usize
     requires degree_lt_count { degree < count }
     requires count_in_bounds { count < length knots.now }
     ensures { result ≡ halved (count - degree) knots.now v degree count }
@@ -126,30 +99,6 @@ fn bisect(degree: usize, count: usize, v: f64, knots: &[f64]) -> usize
     low
 }
 
-// Before the end: one look at the place of evenly spaced knots, and where v does not lie there the binary search.
-fn inner_span(degree: usize, count: usize, v: f64, knots: &[f64]) -> usize
-    requires degree_lt_count { degree < count }
-    requires count_in_bounds { count < length knots.now }
-    ensures { result ≡ inner_of degree count knots.now v }
-{
-    let x = even_sum(degree, count, v, knots);
-    if is_nan(x) {
-        return bisect(degree, count, v, knots);
-    }
-    let s = degree + (f64::to_bits(x) / 0x10_0000 % 0x1_0000_0000) as usize;
-    if lies_at(count, s, v, knots) {
-        return s;
-    }
-    bisect(degree, count, v, knots)
-}
-
-// u, or the lower end of the domain where u is below it. Above the upper end nothing has to be done: the last span is sought there.
-fn raised(lo: f64, u: f64) -> f64
-    ensures { result ≡ cond (lt u lo) lo u }
-{
-    if u < lo { lo } else { u }
-}
-
 // The span of the clamped parameter of a run that was validated before; on any other run what its search finds, and the degree where an index would leave the run.
 pub fn span_of(degree: usize, count: usize, u: f64, knots: &[f64]) -> usize
     ensures { SpanFound degree count knots.now u result }
@@ -160,7 +109,7 @@ pub fn span_of(degree: usize, count: usize, u: f64, knots: &[f64]) -> usize
     if knots.len() <= count {
         return degree;
     }
-    let v = raised(knots[degree], u);
+    let v = clamp(degree, count, u, knots);
     if v < knots[count] {
         return inner_span(degree, count, v, knots);
     }

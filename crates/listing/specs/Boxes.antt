@@ -4,13 +4,12 @@ use Rattle.std.specs.Prelude.{ℕ, ◌+◌, Bool, true, false, cond, List, [], �
 use Rattle.doubles.specs.Run.{at}
 use Rattle.interval.specs.declared.Interval.{Interval}
 use Rattle.bounds.specs.Curve.{bound_at}
-use Rattle.bounds.specs.Numbers.{point_refusal, point_values}
+use Rattle.bounds.specs.Numbers.{bounded_refusal, bounded_values}
 use Rattle.bounds.specs.Eighteen.{triple_by}
 use Rattle.bounds.specs.declared.answer.Triple.{Triple}
-use Rattle.bounds.specs.declared.answer.PointBounded.{PointBounded}
+use Rattle.bounds.specs.declared.answer.Bounded.{Bounded}
 use Rattle.decimals.specs.Text.{decimal, spaced_bits}
 use Rattle.listing.specs.Text.{refused_word}
-use Rattle.listing.specs.Asked.{asked}
 use Rattle.decimals.specs.Fixed.{fixed}
 
 -- the bits of both ends
@@ -25,14 +24,14 @@ spaced_decimals i = 32 ∷ (fixed false i.lo ++ (32 ∷ fixed true i.hi))
 abbrev pub each : (Interval → List ℕ) → Triple → List ℕ
 each text t = text t.x ++ (text t.y ++ text t.z)
 
--- three intervals by their bits, then as decimals; or, where the bound is refused and has no values, ` refused ` and the number
-unfoldable pub outcome : PointBounded → List ℕ
-outcome a = let vs = point_values a in let t = triple_by (at vs) 0 in cond (eqb (length vs) 0) (32 ∷ (refused_word ++ decimal (point_refusal a).number)) (each spaced_ends t ++ each spaced_decimals t)
+-- the intervals of the point, or where speeds are asked for those of du, which stand six numbers behind it: by their bits, then as decimals; or, where the bound is refused and has no values, ` refused ` and the number
+unfoldable pub outcome : Bool → Bounded → List ℕ
+outcome speeds a = let vs = bounded_values a in let t = triple_by (at vs) (cond speeds 6 0) in cond (eqb (length vs) 0) (32 ∷ (refused_word ++ decimal (bounded_refusal a).number)) (each spaced_ends t ++ each spaced_decimals t)
 
 -- the line of the span s between two knots
-unfoldable pub box_line : ℕ → Float → Float → PointBounded → List ℕ
-box_line s lower upper a = decimal s ++ (spaced_bits lower ++ (spaced_bits upper ++ (outcome a ++ (10 ∷ []))))
+unfoldable pub box_line : Bool → ℕ → Float → Float → Bounded → List ℕ
+box_line speeds s lower upper a = decimal s ++ (spaced_bits lower ++ (spaced_bits upper ++ (outcome speeds a ++ (10 ∷ []))))
 
 -- that of a curve's span s, bounded over its own closed range
 unfoldable pub box_of : Bool → ℕ → List Float → List Float → Bool → List Float → ℕ → List ℕ
-box_of speeds p ks ps r ws s = box_line s (at ks s) (at ks (s + 1)) (asked speeds (bound_at p s ks ps r ws (at ks s) (at ks (s + 1))))
+box_of speeds p ks ps r ws s = box_line speeds s (at ks s) (at ks (s + 1)) (bound_at p s ks ps r ws (at ks s) (at ks (s + 1)))

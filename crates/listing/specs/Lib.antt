@@ -1,7 +1,6 @@
 pub mod Text
 pub mod Range
 pub mod Listing
-pub mod Asked
 pub mod Boxes
 pub mod Ends
 pub mod Worked

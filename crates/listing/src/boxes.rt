@@ -1,20 +1,20 @@
 // The lines of the box lister and of the speed lister.
-ghost use Rattle.std.specs.Prelude.{◌≡◌, ◌+◌, ◌≤◌, length};
+ghost use Rattle.std.specs.Prelude.{cond, ◌≡◌, ◌+◌, ◌≤◌, length};
 ghost use Rattle.knots.specs.Curve.{count_of};
 ghost use Rattle.knots.specs.Walk.{next_span};
-ghost use Rattle.bounds.specs.Curve.{bound_at};
+ghost use Rattle.doubles.specs.Run.{at};
+ghost use Rattle.bounds.specs.Numbers.{bounded_values};
+ghost use Rattle.bounds.specs.Eighteen.{triple_by};
 ghost use Rattle.decimals.specs.Stored.{Stored};
 ghost use Rattle.listing.specs.Text.{Shown};
 ghost use Rattle.listing.specs.Listing.{shown_of, answer_of};
-ghost use Rattle.listing.specs.Asked.{du_only, asked};
 ghost use Rattle.listing.specs.Boxes.{each, outcome, box_line, box_of};
 ghost use Rattle.listing.specs.Ends.{ends_text, ends_room};
 
 use crate::starts::put_start;
 use crate::{NextLine, NextRange, next_range};
-use bounds::answer::{Bounded, PointBounded, Triple};
+use bounds::answer::{Bounded, NurbsBounds, Triple};
 use bounds::curve::bound_span;
-use bounds::point::point_span;
 use decimals::pieces::{put_bits, put_label, put_number};
 use interval::Interval;
 use record::clear::clear_bytes;
@@ -43,70 +43,47 @@ fn put_all_ends(out: &mut [u8], at: usize, rounded: bool, t: Triple) -> usize
     put_ends(out, z, rounded, t.z)
 }
 
-fn put_outcome(out: &mut [u8], at: usize, answer: PointBounded) -> usize
+// The point, or its derivative along u.
+fn shown_of(speeds: bool, b: NurbsBounds) -> Triple
+    ensures { result ≡ triple_by (at (bounded_values (Bounded.Are b))) (cond speeds 6 0) }
+{
+    if speeds {
+        return b.du;
+    }
+    b.point
+}
+
+fn put_outcome(out: &mut [u8], at: usize, speeds: bool, answer: Bounded) -> usize
     requires { at + 2088 ≤ length out.old }
-    ensures stored { Stored out.old at (outcome answer) out.new result }
+    ensures stored { Stored out.old at (outcome speeds answer) out.new result }
     ensures upper_bound { result ≤ at + 2088 }
 {
     match answer {
-        PointBounded::Are(t) => {
+        Bounded::Are(b) => {
+            let t = shown_of(speeds, b);
             let next = put_all_ends(out, at, false, t);
             put_all_ends(out, next, true, t)
         }
-        PointBounded::Refused(refusal) => {
-            put_label(out, at, b" refused ", refusal.number as u64)
-        }
+        Bounded::Refused(refusal) => put_label(out, at, b" refused ", refusal.number as u64),
     }
 }
 
-// The line of a span between two knots into a lent run, with 0 behind it, and its length: three intervals by their bits and as decimals, or why there are none.
+// The line of a span between two knots into a lent run, with 0 behind it, and its length: the intervals of the point, or of its derivative where speeds are asked for, by their bits and as decimals, or why there are none.
 pub fn box_line(
+    speeds: bool,
     span: usize,
     lower: f64,
     upper: f64,
-    answer: PointBounded,
+    answer: Bounded,
     out: &mut [u8; 2304],
 ) -> usize
-    ensures { Shown 2304 (box_line span lower upper answer) out.new result }
+    ensures { Shown 2304 (box_line speeds span lower upper answer) out.new result }
 {
     clear_bytes(out);
     let a = put_start(out, span, lower, upper);
-    let b = put_outcome(out, a, answer);
+    let b = put_outcome(out, a, speeds, answer);
     out[b] = b'\n';
     b + 1
-}
-
-// The derivative along u alone.
-fn du_only(answer: Bounded) -> PointBounded
-    ensures { result ≡ du_only answer }
-{
-    match answer {
-        Bounded::Are(b) => {
-            let du = b.du;
-            PointBounded::Are(du)
-        }
-        Bounded::Refused(refusal) => PointBounded::Refused(refusal),
-    }
-}
-
-// The intervals of the point, or of its derivative where speeds are asked for.
-fn bound_asked(
-    speeds: bool,
-    degree: usize,
-    span: usize,
-    knots: &[f64],
-    points: &[f64],
-    rational: bool,
-    weights: &[f64],
-    lo: f64,
-    hi: f64,
-) -> PointBounded
-    ensures { result ≡ asked speeds (bound_at degree span knots.now points.now rational weights.now lo hi) }
-{
-    if speeds {
-        return du_only(bound_span(degree, span, knots, points, rational, weights, lo, hi));
-    }
-    point_span(degree, span, knots, points, rational, weights, lo, hi)
 }
 
 // The line of the first nonempty span from a place on, bounded over its own closed range, of a curve that was validated before; for any input. Where there is none, nothing but 0.
@@ -125,10 +102,8 @@ pub fn next_box(
 {
     match next_range(degree, points.len() / 3, knots, from) {
         NextRange::Range { span, lower, upper } => {
-            let answer = bound_asked(
-                speeds, degree, span, knots, points, rational, weights, lower, upper,
-            );
-            let length = box_line(span, lower, upper, answer, out);
+            let answer = bound_span(degree, span, knots, points, rational, weights, lower, upper);
+            let length = box_line(speeds, span, lower, upper, answer, out);
             NextLine::Line { span, length }
         }
         NextRange::Nothing => {

@@ -63,11 +63,11 @@ module _ (ps : List Float) (g : Bool) (ws : List Float) (u : Bool) (n : ℕ) whe
 
   pub hull-is : (d : Side) (t : Float) (s : ℕ) → s ≡ span_of d.degree d.count d.knots t → Reach 195 d.degree 0 d.knots s
       → (ders : List Float) → ders ≡ basis_table 195 d.degree 0 d.knots s t → (k : ℕ)
-      → iso_sums ps g ws u n (s - d.degree) (cell 65 ders 0) (d.degree + 1) k ≡ hull_of ps g ws n u d t k
+      → iso_sums ps g ws u n (s - d.degree) (cell ders 0) (d.degree + 1) k ≡ hull_of ps g ws n u d t k
   unfolding hull_of
   hull-is d t s S R ders D k =
-      iso-cong (s - d.degree) (cell 65 ders 0) (ders_of floats (left_of d.knots s t) (right_of d.knots s t) d.degree 0) (d.degree + 1) k
-      (λ j l. ap (λ (x : List Float). cell 65 x 0 j) D ∙ basis-at d.degree 0 d.knots s t 65 R 0 j (omega arith) (omega arith))
+      iso-cong (s - d.degree) (cell ders 0) (ders_of floats (left_of d.knots s t) (right_of d.knots s t) d.degree 0) (d.degree + 1) k
+      (λ j l. ap (λ (x : List Float). cell x 0 j) D ∙ basis-at d.degree 0 d.knots s t 195 R 0 j (omega arith) (omega arith))
       ∙ ap (λ (i : ℕ). iso_sums ps g ws u n (i - d.degree) (ders_of floats (left_of d.knots i t) (right_of d.knots i t) d.degree 0) (d.degree + 1) k) S
 
   -- the places that it reads

@@ -54,7 +54,7 @@ fn iso_sums(
     requires p_bound_2 { strip.first + strip.p < 18446744073709551616 }
     requires iso_reach { IsoReach (length points.now / 3) strip.constant_u strip.columns strip.first strip.p k }
     requires iso_reach_2 { rational ≡ true → IsoReach (length weights.now) strip.constant_u strip.columns strip.first strip.p k }
-    ensures { result ≡ iso_sums points.now rational weights.now strip.constant_u strip.columns strip.first (cell 65 ders.now 0) (strip.p + 1) k }
+    ensures { result ≡ iso_sums points.now rational weights.now strip.constant_u strip.columns strip.first (cell ders.now 0) (strip.p + 1) k }
 {
     let mut s = Sums {
         x: 0.0,
@@ -104,7 +104,7 @@ pub fn iso_fill(
     requires count_in_bounds { count * 3 ≤ length out_points.old }
     requires count_in_bounds_2 { count ≤ length out_weights.old }
     requires count_bound { count ≤ 1048576 }
-    ensures { IsoDone (iso_sums points.now rational weights.now strip.constant_u strip.columns strip.first (cell 65 ders.now 0) (strip.p + 1)) count out_points.old out_weights.old out_points.new out_weights.new result }
+    ensures { IsoDone (iso_sums points.now rational weights.now strip.constant_u strip.columns strip.first (cell ders.now 0) (strip.p + 1)) count out_points.old out_weights.old out_points.new out_weights.new result }
 {
     let mut k = 0usize;
     while k < count {

@@ -14,7 +14,7 @@ use lib.Ieee.{Float, nan}
 use Rattle.doubles.specs.Run.{at}
 use Rattle.doubles.specs.Value.{zero+}
 use Rattle.knots.specs.Span.{outside, refusing, clamping, span_of}
-use Rattle.knots.specs.Search.{searched}
+use Rattle.knots.specs.Span.{searched}
 use Rattle.knots.specs.Clear.{zeros}
 use Rattle.knots.specs.Refusal.{refuse, length-bad}
 use Rattle.knots.specs.Curve.{over_long, count_of, ValidCurve}

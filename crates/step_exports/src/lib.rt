@@ -2,8 +2,7 @@
 #![tactic(auto)]
 
 ghost use Rattle.std.specs.Prelude.{◌≡◌, length};
-ghost use Rattle.knots.specs.Span.{refusing};
-ghost use Rattle.knots.specs.Search.{SpanFound};
+ghost use Rattle.knots.specs.Span.{refusing, SpanFound};
 ghost use Rattle.basis.specs.Ders.{basis_table};
 ghost use Rattle.evaluate.specs.Curve.{eval_at_of};
 ghost use Rattle.exports.specs.Answer.{Leaves};
@@ -22,7 +21,7 @@ pub extern "C" fn tasulogi_step_span_of(degree: usize, count: usize, u: f64, kno
     span_of(degree, count, u, knots)
 }
 
-// The basis functions of a span and their derivatives up to order n, in three rows of as many numbers, more than the degree.
+// The basis functions of a span and their derivatives up to order n, in three rows of 65 numbers.
 #[unsafe(no_mangle)]
 pub extern "C" fn tasulogi_step_basis_derivatives(
     span: usize,

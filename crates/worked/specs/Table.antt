@@ -108,7 +108,7 @@ span_a = span_by refusing
 
 -- derivative k of the three functions of A at 0.5, of the table that `basis_derivatives` leaves
 abbrev basis_a : ℕ → List ℕ
-basis_a k = let t = basis_table 195 2 1 knots_a 2 (d half) in bits (cell 65 t k 0 ∷ cell 65 t k 1 ∷ cell 65 t k 2 ∷ [])
+basis_a k = let t = basis_table 195 2 1 knots_a 2 (d half) in bits (cell t k 0 ∷ cell t k 1 ∷ cell t k 2 ∷ [])
 
 -- an edit's last four numbers are the lengths of its outputs and scratch, each just long enough
 abbrev inserted_a : Outcome

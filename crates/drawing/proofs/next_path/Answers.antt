@@ -9,7 +9,6 @@ use borrow.Author.Rules.{rules}
 use Rattle.listing.proofs.Ranges.{next-shown, end-shown}
 use Rattle.drawing.specs.Drawing.{box_text, mark_of, parts_of, part_of, part_line, drawn_of}
 use Rattle.bounds.specs.Curve.{bound_at}
-use Rattle.bounds.specs.Point.{point_only}
 use Rattle.knots.specs.Walk.{next_span}
 use Rattle.knots.specs.Curve.{count_of}
 use Rattle.drawing.proofs.next_path.Goals as goal
@@ -21,7 +20,7 @@ returns-in-Range c = let all = let a = c.args in
     let k = parts_of (count_of a.points.now) in
     let j = part_of k a.part in
     let text : Float → Float → List ℕ = λ lower upper. box_text s j
-    (point_only (bound_at a.degree s a.knots.now a.points.now a.rational a.weights.now (mark_of lower upper j k) (mark_of lower upper (j + 1) k))) in
+    (bound_at a.degree s a.knots.now a.points.now a.rational a.weights.now (mark_of lower upper j k) (mark_of lower upper (j + 1) k)) in
     let shown = rw (
       c.bound_part-answer.ensures,
       c.part_in-taken.ensures.value,

@@ -17,89 +17,62 @@ small_derivatives-requires c = let a = c.args in
     let m = length a.ders.now in
     let h = sym c.in_reach.ensures ∙ c.if-not-in_reach.false in
     let r = reached m a.p a.n a.knots.now a.span h in
-    let cl = c.clear in
     record {
       p_nonzero = r.degree;
       p_bound = omega arith;
       p_le_span = r.low;
       p_in_bounds = r.long;
       n_bound = r.orders;
-      p_lt_w = r.room;
-      ders_len = cleared-long m _ cl.ensures r.rows;
+      ders_len = cleared-long m _ c.clear.ensures r.room;
     }
 
 pub returns-then-p-le7 : goal.returns-then-p-le7
 returns-then-p-le7 c = let a = c.args in
     let m = length a.ders.now in
     let h = sym c.in_reach.ensures ∙ c.if-not-in_reach.false in
-    let cl = c.clear in
-    answer-some a.p a.n a.knots.now a.span a.u m _ _ h cl.ensures c.small_derivatives.ensures
+    answer-some
+    a.p a.n a.knots.now a.span a.u m _ _ h c.clear.ensures c.small_derivatives.ensures
 
 pub middle_derivatives-requires : goal.middle_derivatives-requires
 middle_derivatives-requires c = let a = c.args in
     let m = length a.ders.now in
     let h = sym c.in_reach.ensures ∙ c.if-not-in_reach.false in
     let r = reached m a.p a.n a.knots.now a.span h in
-    let cl = c.clear in
     record {
       p_nonzero = r.degree;
       p_bound = omega arith;
       p_le_span = r.low;
       p_in_bounds = r.long;
       n_bound = r.orders;
-      p_lt_w = r.room;
-      ders_len = cleared-long m _ cl.ensures r.rows;
+      ders_len = cleared-long m _ c.clear.ensures r.room;
     }
 
 pub returns-then-p-le15 : goal.returns-then-p-le15
 returns-then-p-le15 c = let a = c.args in
     let m = length a.ders.now in
     let h = sym c.in_reach.ensures ∙ c.if-not-in_reach.false in
-    let cl = c.clear in
-    answer-some a.p a.n a.knots.now a.span a.u m _ _ h cl.ensures c.middle_derivatives.ensures
-
-pub wide_derivatives-requires : goal.wide_derivatives-requires
-wide_derivatives-requires c = let a = c.args in
-    let m = length a.ders.now in
-    let h = sym c.in_reach.ensures ∙ c.if-not-in_reach.false in
-    let r = reached m a.p a.n a.knots.now a.span h in
-    let cl = c.clear in
-    record {
-      p_nonzero = r.degree;
-      p_bound = omega arith;
-      p_le_span = r.low;
-      p_in_bounds = r.long;
-      n_bound = r.orders;
-      p_lt_w = r.room;
-      ders_len = cleared-long m _ cl.ensures r.rows;
-    }
-
-pub returns-then-p-le31 : goal.returns-then-p-le31
-returns-then-p-le31 c = let a = c.args in
-    let m = length a.ders.now in
-    let h = sym c.in_reach.ensures ∙ c.if-not-in_reach.false in
-    let cl = c.clear in
-    answer-some a.p a.n a.knots.now a.span a.u m _ _ h cl.ensures c.wide_derivatives.ensures
+    answer-some
+    a.p a.n a.knots.now a.span a.u m _ _ h c.clear.ensures
+    c.middle_derivatives.ensures
 
 pub large_derivatives-requires : goal.large_derivatives-requires
 large_derivatives-requires c = let a = c.args in
     let m = length a.ders.now in
     let h = sym c.in_reach.ensures ∙ c.if-not-in_reach.false in
     let r = reached m a.p a.n a.knots.now a.span h in
-    let cl = c.clear in
     record {
       p_nonzero = r.degree;
       p_bound = r.high;
       p_le_span = r.low;
       p_in_bounds = r.long;
       n_bound = r.orders;
-      p_lt_w = r.room;
-      ders_len = cleared-long m _ cl.ensures r.rows;
+      ders_len = cleared-long m _ c.clear.ensures r.room;
     }
 
 pub returns : goal.returns
 returns c = let a = c.args in
     let m = length a.ders.now in
     let h = sym c.in_reach.ensures ∙ c.if-not-in_reach.false in
-    let cl = c.clear in
-    answer-some a.p a.n a.knots.now a.span a.u m _ _ h cl.ensures c.large_derivatives.ensures
+    answer-some
+    a.p a.n a.knots.now a.span a.u m _ _ h c.clear.ensures
+    c.large_derivatives.ensures

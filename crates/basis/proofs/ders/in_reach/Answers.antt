@@ -1,11 +1,10 @@
 -- `basis::ders::in_reach-true` meets its contract.
 -- Assumes nothing.
-use Prim.Native.Nat.{◌+◌, ◌%◌}
+use Prim.Native.Nat.{◌+◌}
 use native.Mathlib.Omega.{arith}
 use lib.ListN.{length}
 use borrow.Author.Tests.{lt-ltb, le-ltb, lt-leb, le-leb}
 use Rattle.basis.specs.Ders.{in_reach}
-use borrow.Author.Tests.{eq-eqb, ne_eqb}
 use Rattle.basis.proofs.ders.in_reach.Goals as goal
 
 pub returns-then-p-eq0 : goal.returns-then-p-eq0
@@ -50,18 +49,6 @@ returns-then-knots-span-2 c = let a = c.args in
       le-ltb (a.span + a.p) (length a.knots.now) (omega arith),
     )
 
-pub returns-then-m-ne0 : goal.returns-then-m-ne0
-unfolding in_reach
-returns-then-m-ne0 c = let a = c.args in
-    simp (
-      lt-ltb 0 a.p (omega arith),
-      le-leb a.p 64 (omega arith),
-      le-leb a.n 2 (omega arith),
-      le-leb a.p a.span (omega arith),
-      lt-ltb (a.span + a.p) (length a.knots.now) (omega arith),
-      ne_eqb (a.m % 3) 0 (λ e. omega arith),
-    )
-
 pub returns : goal.returns
 unfolding in_reach
 returns c = let a = c.args in
@@ -71,5 +58,4 @@ returns c = let a = c.args in
       le-leb a.n 2 (omega arith),
       le-leb a.p a.span (omega arith),
       lt-ltb (a.span + a.p) (length a.knots.now) (omega arith),
-      eq-eqb (a.m % 3) 0 (omega arith),
     )

@@ -6,7 +6,7 @@ use Rattle.basis.proofs.AllDers.{InDers}
 use Rattle.basis.proofs.ders.raw_derivatives.Given as goal
 
 abbrev pub invariant-loop-r : goal.invariant-loop-r
-invariant-loop-r l = (l.r ≤ l.p + 1) × InDers l.w (cell l.v l.ndu) l.p l.n l.initial.ders l.ders l.r
+invariant-loop-r l = (l.r ≤ l.p + 1) × InDers (cell l.ndu) l.p l.n l.initial.ders l.ders l.r
 
 abbrev pub decreases-loop-r : goal.decreases-loop-r
 decreases-loop-r l = l.p + 1 - l.r

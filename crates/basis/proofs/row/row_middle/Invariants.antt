@@ -8,7 +8,7 @@ use Rattle.basis.proofs.Rows.{Places, InMiddle}
 use Rattle.basis.proofs.row.row_middle.Given as goal
 
 abbrev pub invariant-loop-j : goal.invariant-loop-j
-invariant-loop-j l = (l.pk + l.k ≡ l.p) × Places l.p l.r l.k l.initial.j l.end × InMiddle (cell l.w l.ndu) l.p l.r l.k (at l.from) l.initial.j l.end l.initial.to l.s l.to l.d l.j
+invariant-loop-j l = (l.pk + l.k ≡ l.p) × Places l.p l.r l.k l.initial.j l.end × InMiddle (cell l.ndu) l.p l.r l.k (at l.from) l.initial.j l.end l.initial.to l.s l.to l.d l.j
 
 abbrev pub decreases-loop-j : goal.decreases-loop-j
 decreases-loop-j l = l.end - l.j

@@ -13,13 +13,10 @@ use Rattle.evaluate.proofs.controls.row_sums.Goals as goal
 pub loop-j-init : goal.loop-j-init
 unfolding of_bits
 loop-j-init c = let a = c.args in
-    (omega arith, row-none true a.points.now a.rational a.weights.now a.scale a.first (cell a.width a.ders.now a.k))
+    (omega arith, row-none true a.points.now a.rational a.weights.now a.scale a.first (cell a.ders.now a.k))
 
 pub weight_at-w-requires : goal.weight_at-w-requires
-weight_at-w-requires c = λ g. let h = c.requires.p_in_bounds_3 g in omega arith
-
-pub overflow_add-j : goal.overflow_add-j
-overflow_add-j c = omega (arith, c.loop-j-test.true, c.before.before.before.before.before.before.before.before.before.before.before)
+weight_at-w-requires c = λ g. let h = c.requires.p_in_bounds_2 g in omega arith
 
 pub loop-j-preserved : goal.loop-j-preserved
 loop-j-preserved c = let a = c.args in
@@ -27,10 +24,10 @@ loop-j-preserved c = let a = c.args in
     let more =
     row_more true a.points.now a.rational a.weights.now a.scale a.first l.j
     c.point_at-o.ensures c.point_at-q.ensures c.weight_at-w.ensures in
-    (omega arith, more (cell a.width a.ders.now a.k) l.s _ _ l.invariant.1 c.term_of.ensures c.plus_of-s.ensures)
+    (omega arith, more (cell a.ders.now a.k) l.s _ _ l.invariant.1 c.term_of.ensures c.plus_of-s.ensures)
 
 pub returns : goal.returns
 returns c = let a = c.args in
     let l = c.loop-j in
     let e : l.j ≡ a.p + 1 = omega arith in
-    subst (λ (i : ℕ). l.s ≡ row_sums true a.points.now a.rational a.weights.now a.scale a.first (cell a.width a.ders.now a.k) i) e l.invariant.1
+    subst (λ (i : ℕ). l.s ≡ row_sums true a.points.now a.rational a.weights.now a.scale a.first (cell a.ders.now a.k) i) e l.invariant.1

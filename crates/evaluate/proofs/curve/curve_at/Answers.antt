@@ -1,31 +1,26 @@
 -- `evaluate::curve::curve_at` meets its contract.
 -- Assumes nothing.
+use Rattle.basis.proofs.Whole.{Reach}
 use mathlib.Core.Path.{refl}
 use native.Mathlib.Omega.{arith}
+use Rattle.evaluate.proofs.Curves.{curve-is}
 use Rattle.evaluate.proofs.curve.curve_at.Goals as goal
 
-pub curve_by-requires : goal.curve_by-requires
-curve_by-requires c = let q = c.requires in
+pub scale_at-scale-requires : goal.scale_at-scale-requires
+scale_at-scale-requires c = (λ g. let h = c.requires.span_in_bounds_2 g in omega arith)
+
+pub value_and_slope-s-requires : goal.value_and_slope-s-requires
+value_and_slope-s-requires c = let q = c.requires in
     record {
-      p_nonzero = q.p_nonzero;
-      p_bound = q.p_bound;
-      p_le_span = q.p_le_span;
-      p_in_bounds = q.p_in_bounds;
-      span_in_bounds = q.span_in_bounds;
-      span_in_bounds_2 = q.span_in_bounds_2;
-      p_lt_width = omega arith;
-      ders_len = refl;
+      p_bound = omega arith;
+      p_in_bounds = omega arith;
+      p_in_bounds_2 = λ g. let h = q.span_in_bounds_2 g in omega arith;
     }
 
-pub curve_by-requires-2 : goal.curve_by-requires-2
-curve_by-requires-2 c = let q = c.requires in
-    record {
-      p_nonzero = q.p_nonzero;
-      p_bound = q.p_bound;
-      p_le_span = q.p_le_span;
-      p_in_bounds = q.p_in_bounds;
-      span_in_bounds = q.span_in_bounds;
-      span_in_bounds_2 = q.span_in_bounds_2;
-      p_lt_width = omega arith;
-      ders_len = refl;
-    }
+pub returns : goal.returns
+returns c = let a = c.args in
+    let q = c.requires in
+    let reach : Reach 195 a.p 1 a.knots.now a.span = record { degree = q.p_nonzero; high = q.p_bound; orders = omega arith; low = q.p_le_span; long = q.p_in_bounds; room = refl } in
+    curve-is a.p 1 a.knots.now a.points.now a.rational a.weights.now a.span a.u reach _
+    c.basis_derivatives.ensures _ c.scale_at-scale.ensures (omega arith) _ _ _ _
+    c.point_at-o.ensures c.value_and_slope-s.ensures.value_value c.value_and_slope-s.ensures.slope_value c.quotient_of.ensures

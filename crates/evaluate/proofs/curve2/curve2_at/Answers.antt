@@ -2,30 +2,47 @@
 -- Assumes nothing.
 use mathlib.Core.Path.{refl}
 use native.Mathlib.Omega.{arith}
+use Rattle.basis.proofs.Whole.{Reach}
+use Rattle.evaluate.proofs.Curves.{curve2-is}
 use Rattle.evaluate.proofs.curve2.curve2_at.Goals as goal
 
-pub curve2_by-requires : goal.curve2_by-requires
-curve2_by-requires c = let q = c.requires in
+pub scale_at-scale-requires : goal.scale_at-scale-requires
+scale_at-scale-requires c = λ g. let h = c.requires.span_in_bounds_2 g in omega arith
+
+pub row_sums-a-requires : goal.row_sums-a-requires
+row_sums-a-requires c = let q = c.requires in
     record {
-      p_nonzero = q.p_nonzero;
-      p_bound = q.p_bound;
-      p_le_span = q.p_le_span;
-      p_in_bounds = q.p_in_bounds;
-      span_in_bounds = q.span_in_bounds;
-      span_in_bounds_2 = q.span_in_bounds_2;
-      p_lt_width = omega arith;
-      ders_len = refl;
+      k_bound = omega arith;
+      p_bound = omega arith;
+      p_in_bounds = omega arith;
+      p_in_bounds_2 = (λ g. let h = q.span_in_bounds_2 g in omega arith);
     }
 
-pub curve2_by-requires-2 : goal.curve2_by-requires-2
-curve2_by-requires-2 c = let q = c.requires in
+pub row_sums-d-requires : goal.row_sums-d-requires
+row_sums-d-requires c = let q = c.requires in
     record {
-      p_nonzero = q.p_nonzero;
-      p_bound = q.p_bound;
-      p_le_span = q.p_le_span;
-      p_in_bounds = q.p_in_bounds;
-      span_in_bounds = q.span_in_bounds;
-      span_in_bounds_2 = q.span_in_bounds_2;
-      p_lt_width = omega arith;
-      ders_len = refl;
+      k_bound = omega arith;
+      p_bound = omega arith;
+      p_in_bounds = omega arith;
+      p_in_bounds_2 = (λ g. let h = q.span_in_bounds_2 g in omega arith);
     }
+
+pub row_sums-e-requires : goal.row_sums-e-requires
+row_sums-e-requires c = let q = c.requires in
+    record {
+      k_bound = omega arith;
+      p_bound = omega arith;
+      p_in_bounds = omega arith;
+      p_in_bounds_2 = (λ g. let h = q.span_in_bounds_2 g in omega arith);
+    }
+
+pub returns : goal.returns
+returns c = let a = c.args in
+    let q = c.requires in
+    let reach : Reach 195 a.p 2 a.knots.now a.span = record { degree = q.p_nonzero; high = q.p_bound; orders = omega arith; low = q.p_le_span; long = q.p_in_bounds; room = refl } in
+    curve2-is
+    a.p 2 a.knots.now a.points.now a.rational a.weights.now a.span a.u reach _
+    c.basis_derivatives.ensures _ c.scale_at-scale.ensures
+    (omega arith)
+    _ _ _ _ _ c.point_at-o.ensures c.row_sums-a.ensures
+    c.row_sums-d.ensures c.row_sums-e.ensures c.quotient2_of.ensures

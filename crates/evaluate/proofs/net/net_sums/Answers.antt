@@ -15,8 +15,8 @@ loop-k-init c = let a = c.args in (
   omega arith,
   refl,
   net-none
-      a.points.now a.rational a.weights.now a.scale a.o a.net.columns a.net.a a.net.b (a.net.q + 1) (cell 65 a.u_ders.now a.i)
-      (cell 65 a.v_ders.now a.j),
+      a.points.now a.rational a.weights.now a.scale a.o a.net.columns a.net.a a.net.b (a.net.q + 1) (cell a.u_ders.now a.i)
+      (cell a.v_ders.now a.j),
 )
 
 pub overflow_add-h : goal.overflow_add-h
@@ -48,7 +48,7 @@ loop-k-preserved c = let a = c.args in
       omega arith,
       l.invariant.1,
       net-more
-          a.points.now a.rational a.weights.now a.scale a.o a.net.columns a.net.a a.net.b (a.net.q + 1) (cell 65 a.u_ders.now a.i) (cell 65 a.v_ders.now a.j)
+          a.points.now a.rational a.weights.now a.scale a.o a.net.columns a.net.a a.net.b (a.net.q + 1) (cell a.u_ders.now a.i) (cell a.v_ders.now a.j)
           l.k l.s _ l.invariant.2 c.net_row-s.ensures,
     )
 
@@ -57,6 +57,6 @@ returns c = let a = c.args in
     let l = c.loop-k in
     let e : l.k ≡ a.net.p + 1 = omega arith in
     subst
-    (λ (i : ℕ). l.s ≡ net_sums a.points.now a.rational a.weights.now a.scale a.o a.net.columns a.net.a a.net.b (cell 65 a.u_ders.now a.i)
-    (cell 65 a.v_ders.now a.j) (a.net.q + 1) i)
+    (λ (i : ℕ). l.s ≡ net_sums a.points.now a.rational a.weights.now a.scale a.o a.net.columns a.net.a a.net.b (cell a.u_ders.now a.i)
+    (cell a.v_ders.now a.j) (a.net.q + 1) i)
     e l.invariant.2

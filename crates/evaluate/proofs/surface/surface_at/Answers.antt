@@ -85,11 +85,10 @@ returns c = let a = c.args in
       orders = omega arith;
       low = q.p_le_s;
       long = q.p_in_bounds;
-      rows = refl;
-      room = omega arith;
+      room = refl;
     } in
     let along-v : Reach 195 a.q 1 a.v_knots.now a.t = record
-    { degree = q.q_nonzero; high = q.q_bound; orders = omega arith; low = q.q_le_t; long = q.q_in_bounds; rows = refl; room = omega arith } in
+    { degree = q.q_nonzero; high = q.q_bound; orders = omega arith; low = q.q_le_t; long = q.q_in_bounds; room = refl } in
     surface-is a.p a.q a.u_knots.now a.v_knots.now a.columns a.points.now a.rational a.weights.now a.s a.t a.u a.v _ _
     along-u
     c.basis_derivatives.ensures along-v

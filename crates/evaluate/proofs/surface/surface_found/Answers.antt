@@ -2,8 +2,7 @@
 -- Assumes nothing.
 use Prim.Native.Nat.{ℕ}
 use mathlib.Core.Path.{sym, ◌∙◌, ap₂, subst}
-use Rattle.knots.specs.Span.{clamped}
-use Rattle.knots.specs.Search.{searched}
+use Rattle.knots.specs.Span.{clamped, searched}
 use Rattle.evaluate.specs.Surface.{surface_of, surface_found}
 use Rattle.evaluate.proofs.Steps.{Found, found}
 use Rattle.evaluate.proofs.Surfaces.{surface-shaped, points-net, weights-net}

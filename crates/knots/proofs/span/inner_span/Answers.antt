@@ -1,21 +1,24 @@
--- `knots::span::inner_span` meets its contract: each return is a case of the definition.
+-- `knots::span::inner_span` meets its contract: what is left to search is the window, which halves.
 -- Assumes nothing.
-use mathlib.Core.Path.{sym, ◌∙◌}
-use Rattle.doubles.proofs.TestFacts.{Tn-of}
-use Rattle.knots.specs.Search.{place_by}
-use Rattle.knots.proofs.Evenly.{inner-nan, inner-even, inner-else}
+use Prim.Native.Nat.{◌-◌}
+use native.Mathlib.Omega.{arith}
+use Rattle.knots.proofs.Halving.{window-start, window-lower, window-upper, window-end}
 use Rattle.knots.proofs.span.inner_span.Goals as goal
 
-pub returns-then-is_nan : goal.returns-then-is_nan
-returns-then-is_nan c = c.bisect.ensures ∙ inner-nan _ _ _ _ _ c.even_sum-x.ensures (sym c.is_nan.ensures ∙ c.if-is_nan.true)
+pub loop-high-init : goal.loop-high-init
+loop-high-init c = window-start _ _ _ _ (omega arith)
 
-pub float_to_bits-s : goal.float_to_bits-s
-float_to_bits-s c = Tn-of _ (sym c.is_nan.ensures ∙ c.if-is_nan.false)
+pub loop-high-smaller-then-v-knots : goal.loop-high-smaller-then-v-knots
+loop-high-smaller-then-v-knots c = omega arith
 
-pub returns-then-lies_at : goal.returns-then-lies_at
-unfolding place_by
-returns-then-lies_at c = inner-even _ _ _ _ _ c.even_sum-x.ensures (sym c.is_nan.ensures ∙ c.if-is_nan.false) (sym c.lies_at.ensures ∙ c.if-lies_at.true)
+pub loop-high-preserved-then-v-knots : goal.loop-high-preserved-then-v-knots
+loop-high-preserved-then-v-knots c = window-lower _ _ _ _ _ _ _ c.loop-high.invariant (omega arith) c.if-v-knots.true
+
+pub loop-high-smaller : goal.loop-high-smaller
+loop-high-smaller c = omega arith
+
+pub loop-high-preserved : goal.loop-high-preserved
+loop-high-preserved c = window-upper _ _ _ _ _ _ _ c.loop-high.invariant (omega arith) c.if-v-knots.false
 
 pub returns : goal.returns
-unfolding place_by
-returns c = c.bisect-2.ensures ∙ inner-else _ _ _ _ _ c.even_sum-x.ensures (sym c.is_nan.ensures ∙ c.if-is_nan.false) (sym c.lies_at.ensures ∙ c.if-lies_at.false)
+returns c = window-end _ _ _ _ _ _ _ c.loop-high.invariant (omega arith)

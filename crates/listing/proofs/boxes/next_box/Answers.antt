@@ -9,7 +9,6 @@ use borrow.Author.Rules.{rules}
 use Rattle.knots.specs.Walk.{next_span}
 use Rattle.knots.specs.Curve.{count_of}
 use Rattle.listing.proofs.Ranges.{next-shown, end-shown}
-use Rattle.listing.specs.Asked.{asked}
 use Rattle.listing.specs.Boxes.{box_line, box_of}
 use Rattle.bounds.specs.Curve.{bound_at}
 use Rattle.listing.proofs.boxes.next_box.Goals as goal
@@ -18,9 +17,8 @@ pub returns-in-Range : goal.returns-in-Range
 unfolding box_of
 returns-in-Range c = let all = let a = c.args in
     let s = c.in-Range.span in
-    let text : Float → Float → List ℕ = λ lower upper. box_line s lower upper
-    (asked a.speeds (bound_at a.degree s a.knots.now a.points.now a.rational a.weights.now lower upper)) in
-    let shown = rw c.bound_asked-answer.ensures at c.box_line-length.ensures in
+    let text : Float → Float → List ℕ = λ lower upper. box_line a.speeds s lower upper (bound_at a.degree s a.knots.now a.points.now a.rational a.weights.now lower upper) in
+    let shown = rw c.bound_span-answer.ensures.value at c.box_line-length.ensures in
     next-shown (box_of a.speeds a.degree a.knots.now a.points.now a.rational a.weights.now) a.knots.now
     (next_span a.degree (count_of a.points.now) a.knots.now a.«from») 2304 text
     (sym c.in-Range.is ∙ c.next_range.ensures) refl shown in

@@ -19,8 +19,9 @@ pub returns-in-Are : goal.returns-in-Are
 unfolding outcome ends_room
 returns-in-Are c = let a = c.put_all_ends-next.ensures in
     let b = c.put_all_ends.ensures in
-    rw c.in-Are.is (record {
-      stored = both_stored a.stored b.stored;
+    rw c.in-Are.is
+    (record {
+      stored = rw c.shown_of-t.ensures at (both_stored a.stored b.stored);
       upper_bound = omega arith;
     })
 

@@ -13,7 +13,7 @@ use Rattle.made.proofs.iso.iso_fill.Goals as goal
 pub loop-k-init : goal.loop-k-init
 loop-k-init c = let a = c.args in
     iso-start
-    (iso_sums a.points.now a.rational a.weights.now a.strip.constant_u a.strip.columns a.strip.first (cell 65 a.ders.now 0) (a.strip.p + 1)) a.count
+    (iso_sums a.points.now a.rational a.weights.now a.strip.constant_u a.strip.columns a.strip.first (cell a.ders.now 0) (a.strip.p + 1)) a.count
     a.out_points.now a.out_weights.now
 
 pub iso_sums-h-requires : goal.iso_sums-h-requires
@@ -37,7 +37,7 @@ returns-then-not-is_weight c = let a = c.args in
     let l = c.loop-k in
     let q = c.requires in
     iso-stop
-    (iso_sums a.points.now a.rational a.weights.now a.strip.constant_u a.strip.columns a.strip.first (cell 65 a.ders.now 0) (a.strip.p + 1)) a.count
+    (iso_sums a.points.now a.rational a.weights.now a.strip.constant_u a.strip.columns a.strip.first (cell a.ders.now 0) (a.strip.p + 1)) a.count
     a.out_points.now a.out_weights.now l.out_points l.out_weights l.k l.invariant c.loop-k-test.true q.count_in_bounds q.count_in_bounds_2 _
     c.iso_sums-h.ensures (sym c.is_weight.ensures ∙ c.if-not-is_weight.true)
 
@@ -60,7 +60,7 @@ loop-k-preserved c = let a = c.args in
     let l = c.loop-k in
     let q = c.requires in
     iso-more
-    (iso_sums a.points.now a.rational a.weights.now a.strip.constant_u a.strip.columns a.strip.first (cell 65 a.ders.now 0) (a.strip.p + 1))
+    (iso_sums a.points.now a.rational a.weights.now a.strip.constant_u a.strip.columns a.strip.first (cell a.ders.now 0) (a.strip.p + 1))
     a.count
     a.out_points.now
     a.out_weights.now
@@ -87,5 +87,5 @@ pub returns : goal.returns
 returns c = let a = c.args in
     let l = c.loop-k in
     iso-end
-    (iso_sums a.points.now a.rational a.weights.now a.strip.constant_u a.strip.columns a.strip.first (cell 65 a.ders.now 0) (a.strip.p + 1)) a.count
+    (iso_sums a.points.now a.rational a.weights.now a.strip.constant_u a.strip.columns a.strip.first (cell a.ders.now 0) (a.strip.p + 1)) a.count
     a.out_points.now a.out_weights.now l.out_points l.out_weights l.k l.invariant c.loop-k-test.false

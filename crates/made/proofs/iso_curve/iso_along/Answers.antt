@@ -34,10 +34,10 @@ iso_fill-good-requires c = let a = c.args in
       p_bound = q.degree_bound;
       p_bound_2 = omega arith;
       by_index = strip-in
-          a.points.now a.rational a.weights.now a.held.constant_u a.held.columns (length a.points.now / 3) a.held.degree
-          c.span_of-span.result a.held.count a.held.other_count f b q.by_index;
+              a.points.now a.rational a.weights.now a.held.constant_u a.held.columns (length a.points.now / 3) a.held.degree
+              c.span_of-span.result a.held.count a.held.other_count f b q.by_index;
       iso_reach = (λ e. strip-in a.points.now a.rational a.weights.now a.held.constant_u a.held.columns (length a.weights.now) a.held.degree
-          c.span_of-span.result a.held.count a.held.other_count f b (q.k_in_bounds e));
+                c.span_of-span.result a.held.count a.held.other_count f b (q.k_in_bounds e));
       count_in_bounds = q.other_count_in_bounds;
       count_in_bounds_2 = q.other_count_in_bounds_2;
       count_bound = q.other_count_bound;
@@ -55,7 +55,7 @@ returns-then-not-good c = let d = c.span_of-span in
     let f = s.0.from in
     let b = s.0.below in
     let l = q.valid_knots.long in
-    let reach : Reach 195 a.held.degree 0 a.fixed.now d.result = record { degree = q.valid_knots.degree; high = q.degree_bound; orders = omega arith; low = f; long = omega arith; rows = refl; room = omega arith } in
+    let reach : Reach 195 a.held.degree 0 a.fixed.now d.result = record { degree = q.valid_knots.degree; high = q.degree_bound; orders = omega arith; low = f; long = omega arith; room = refl } in
     along-stopped
     _ _ (side_from a.held.degree a.held.count a.fixed.now a.held.other_degree a.held.other_count a.other.now) a.out_points.now a.out_weights.now _ _ _
     (hull-is
@@ -103,7 +103,7 @@ returns c = let d = c.span_of-span in
     let f = s.0.from in
     let b = s.0.below in
     let l = q.valid_knots.long in
-    let reach : Reach 195 a.held.degree 0 a.fixed.now d.result = record { degree = q.valid_knots.degree; high = q.degree_bound; orders = omega arith; low = f; long = omega arith; rows = refl; room = omega arith } in
+    let reach : Reach 195 a.held.degree 0 a.fixed.now d.result = record { degree = q.valid_knots.degree; high = q.degree_bound; orders = omega arith; low = f; long = omega arith; room = refl } in
     along-formed
     _ _ (side_from a.held.degree a.held.count a.fixed.now a.held.other_degree a.held.other_count a.other.now) a.out_points.now a.out_weights.now _ _ _
     (hull-is
