@@ -7,10 +7,10 @@ use Rattle.drawing.proofs.view_of.Goals as goal
 pub returns : goal.returns
 unfolding view_of
 returns c = rw (
-      c.extent-2.ensures,
-      c.extent.ensures,
-      c.extreme-top.ensures,
-      c.extreme-bottom.ensures,
-      c.extreme-right.ensures,
-      c.extreme-left.ensures,
-    ) refl
+  c.extent-2.ensures,
+  c.extent.ensures,
+  c.extreme-top.ensures,
+  c.extreme-bottom.ensures,
+  c.extreme-right.ensures,
+  c.extreme-left.ensures,
+) refl

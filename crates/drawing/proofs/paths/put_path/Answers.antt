@@ -17,6 +17,6 @@ returns c = let a = c.put_part-a.ensures in
       c.hi-2.ensures,
     ) at c.put_sides.ensures in
     record {
-      stored = both_stored a.stored (both_stored (b.roomy (search rules)) sides.0);
+      stored = both_stored a.stored (both_stored (b.roomy (search rules)) sides.stored);
       upper_bound = search rules;
     }

@@ -18,7 +18,7 @@ returns-then-refusal-ne0 c = simp
 pub returns : goal.returns
 unfolding along_start
 returns c = simp (
-      sym c.iso_outside.ensures ∙ c.if-iso_outside.false,
-      skip c.room_refusal-refusal.ensures c.if-refusal-ne0.false,
-    )
+  sym c.iso_outside.ensures ∙ c.if-iso_outside.false,
+  skip c.room_refusal-refusal.ensures c.if-refusal-ne0.false,
+)
     c.room_refusal.ensures

@@ -34,10 +34,10 @@ iso_fill-good-requires c = let a = c.args in
       p_bound = q.degree_bound;
       p_bound_2 = omega arith;
       by_index = strip-in
-              a.points.now a.rational a.weights.now a.held.constant_u a.held.columns (length a.points.now / 3) a.held.degree
-              c.span_of-span.result a.held.count a.held.other_count f b q.by_index;
+          a.points.now a.rational a.weights.now a.held.constant_u a.held.columns (length a.points.now / 3) a.held.degree
+          c.span_of-span.result a.held.count a.held.other_count f b q.by_index;
       iso_reach = (λ e. strip-in a.points.now a.rational a.weights.now a.held.constant_u a.held.columns (length a.weights.now) a.held.degree
-                c.span_of-span.result a.held.count a.held.other_count f b (q.k_in_bounds e));
+          c.span_of-span.result a.held.count a.held.other_count f b (q.k_in_bounds e));
       count_in_bounds = q.other_count_in_bounds;
       count_in_bounds_2 = q.other_count_in_bounds_2;
       count_bound = q.other_count_bound;

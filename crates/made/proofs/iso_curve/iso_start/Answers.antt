@@ -32,10 +32,10 @@ along_start-requires c = let a = c.args in
 pub returns-then-constant_u : goal.returns-then-constant_u
 unfolding iso_start
 returns-then-constant_u c = simp (
-      skip c.surface_refusal-surface.ensures c.if-surface-ne0.false,
-      skip c.degrees_refusal-degrees.ensures c.if-degrees-ne0.false,
-      c.if-constant_u.true,
-    )
+  skip c.surface_refusal-surface.ensures c.if-surface-ne0.false,
+  skip c.degrees_refusal-degrees.ensures c.if-degrees-ne0.false,
+  c.if-constant_u.true,
+)
     c.along_start.ensures
 
 pub along_start-requires-2 : goal.along_start-requires-2
@@ -51,8 +51,8 @@ along_start-requires-2 c = let a = c.args in
 pub returns : goal.returns
 unfolding iso_start
 returns c = simp (
-      skip c.surface_refusal-surface.ensures c.if-surface-ne0.false,
-      skip c.degrees_refusal-degrees.ensures c.if-degrees-ne0.false,
-      c.if-constant_u.false,
-    )
+  skip c.surface_refusal-surface.ensures c.if-surface-ne0.false,
+  skip c.degrees_refusal-degrees.ensures c.if-degrees-ne0.false,
+  c.if-constant_u.false,
+)
     c.along_start-2.ensures

@@ -49,9 +49,9 @@ made_refusal-requires c = let pr = c.requires in
 pub returns : goal.returns
 unfolding back_place back_number
 returns c = let a = c.args in
-    let q = c.requires.?.1.1.1.1 in
+    let q = c.requires in
     formed-is
-    a.degree a.knots.now a.points.now a.rational a.weights.now a.out_knots.now a.out_points.now a.out_weights.now _ _ _ q.0 q.1.0 q.1.1
+    a.degree a.knots.now a.points.now a.rational a.weights.now a.out_knots.now a.out_points.now a.out_weights.now _ _ _ q.out_knots_value q.out_points_value q.out_weights_value
     c.run_back.ensures
     c.run_back-2.ensures _
     c.given_len-w.ensures

@@ -19,18 +19,18 @@ returns-then-first-ne0 c = simp
 pub returns-then-second-ne0 : goal.returns-then-second-ne0
 unfolding reverse_start
 returns-then-second-ne0 c = simp (
-      skip c.curve_refusal-curve.ensures c.if-curve-ne0.false,
-      skip c.room_refusal-first.ensures c.if-first-ne0.false,
-      stop c.room_refusal-second.ensures c.if-second-ne0.true,
-    )
+  skip c.curve_refusal-curve.ensures c.if-curve-ne0.false,
+  skip c.room_refusal-first.ensures c.if-first-ne0.false,
+  stop c.room_refusal-second.ensures c.if-second-ne0.true,
+)
     c.room_refusal-second.ensures
 
 pub returns : goal.returns
 unfolding reverse_start
 returns c = simp (
-      skip c.curve_refusal-curve.ensures c.if-curve-ne0.false,
-      skip c.room_refusal-first.ensures c.if-first-ne0.false,
-      skip c.room_refusal-second.ensures c.if-second-ne0.false,
-    )
+  skip c.curve_refusal-curve.ensures c.if-curve-ne0.false,
+  skip c.room_refusal-first.ensures c.if-first-ne0.false,
+  skip c.room_refusal-second.ensures c.if-second-ne0.false,
+)
     (c.room_refusal.ensures
     ∙ ap (room_refusal c.args.c) c.given_len.ensures)
