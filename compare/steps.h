@@ -18,9 +18,8 @@ extern "C" {
 /* The search of tasulogi_find_span alone, for a u of the domain; on knots that are not valid some place, or the degree. */
 size_t tasulogi_step_span_of(size_t degree, size_t count, double u, const double *knots, size_t knots_n);
 
-/* The basis functions of a span and their derivatives up to order n, at most 2, into a run of three rows of as
- * many numbers, more than the degree. A run of any other length, and any input outside degrees 1 to 64 and the knots,
- * leaves +0.0. */
+/* The basis functions of a span and their derivatives up to order n, at most 2, into a run of 195 numbers: three rows
+ * of 65. A run of any other length, and any input outside degrees 1 to 64 and the knots, leaves +0.0. */
 void tasulogi_step_basis_derivatives(size_t span, double u, size_t degree, size_t n, const double *knots,
                                      size_t knots_n, double *out, size_t out_n);
 
