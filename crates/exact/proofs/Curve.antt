@@ -10,7 +10,8 @@ use Rattle.exact.specs.Spline.{Σq, basis, Knots, exact, whole}
 use Rattle.exact.proofs.Field.{qring, q-ring, q-combine₂, zero-mul, <-≤-trans, pos-ne, div-le-div, div-eq, one-mul}
 use Rattle.exact.proofs.Sum.{Σ-zero, Σ-split}
 use Rattle.exact.proofs.DeBoor.{basis-low, basis-high, curve, point-is, point-relative, deboor-is, deboor-low, deboor-high}
-use Rattle.exact.proofs.Source.{work, work-is, work-curve}
+use Rattle.exact.proofs.Source.{work}
+use Rattle.exact.proofs.SourceCurve.{work-is, work-curve}
 
 middle : (x y z m : ℚ) → x ≡ q0 → z ≡ q0 → x +q y +q z ≡ y
 middle x y z m h k = q-combine₂ q1 q1 h k (q-ring (x ∷ y ∷ z ∷ []) (search qring depth 20) tt)

@@ -11,7 +11,8 @@ use Rattle.exact.specs.Rational.{ℚ, ◌+q◌, ◌-q◌, ◌*q◌, ◌/q◌, ne
 use Rattle.exact.specs.Spline.{Σq, Knots, basis, whole, slope, dbasis, quotient, dexact, dwhole}
 use Rattle.exact.proofs.Field.{qring, q-ring, q-combine, q-combine₂, zero-mul, mul-zero, inv-ne-0}
 use Rattle.exact.proofs.Sum.{Σ-zero, Σ-split, Σ-scale, Σ-relative}
-use Rattle.exact.proofs.Source.{alpha, alpha-is, work, work-curve, next, cond_yes, cond_no}
+use Rattle.exact.proofs.Source.{alpha, alpha-is, work, cond_yes, cond_no}
+use Rattle.exact.proofs.SourceCurve.{work-curve, next}
 use Rattle.exact.proofs.Curve.{whole-curve}
 use Rattle.exact.proofs.Deriv.{rest, basis-at, dbasis-low, dbasis-high, dlevel, dlevel-is, ddeboor, dcurve, ddeboor-is, quotient-relative}
 

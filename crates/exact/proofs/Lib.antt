@@ -3,6 +3,7 @@ pub mod Field
 pub mod Sum
 pub mod DeBoor
 pub mod Source
+pub mod SourceCurve
 pub mod Curve
 pub mod Refined
 pub mod Local

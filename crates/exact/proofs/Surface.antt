@@ -9,7 +9,8 @@ use Rattle.exact.specs.Surface.{exact₂, sum₂, whole₂, dexact₂u, dexact�
 use Rattle.exact.proofs.Field.{qring, q-ring, ≤_trans, <-≤-trans, pos-ne, div-le-div, div-eq, one-mul, inv-ne-0}
 use Rattle.exact.proofs.Sum.{Σ-cong, Σ-mul, Σ-scale, Σ-relative, Σ-outer}
 use Rattle.exact.proofs.DeBoor.{relative, deboor-low, deboor-high}
-use Rattle.exact.proofs.Source.{work, work-is, work-curve}
+use Rattle.exact.proofs.Source.{work}
+use Rattle.exact.proofs.SourceCurve.{work-is, work-curve}
 use Rattle.exact.proofs.Curve.{whole-curve}
 use Rattle.exact.proofs.Deriv.{quotient-relative}
 use Rattle.exact.proofs.Jets.{dwork, dwhole-work, whole-work}
