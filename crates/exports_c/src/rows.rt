@@ -3,7 +3,7 @@ ghost use Rattle.std.specs.Prelude.{◌≡◌, length};
 ghost use Rattle.knots.specs.Span.{refusing, clamping};
 ghost use Rattle.many.specs.Rows.{answer};
 ghost use Rattle.many.specs.Points.{points_start, PointsMeet, Points2Meet};
-ghost use Rattle.many.specs.Spans.{spans_of, spans_start, SpansMeet, PointSpansMeet};
+ghost use Rattle.many.specs.Spans.{spans_of, spans_start, spans_start_by, SpansMeet, PointSpansMeet};
 ghost use Rattle.many.specs.RowsHold.{RowsHold, PointRowsHold};
 ghost use Rattle.exports.specs.Rows.{rows_number, rows_count};
 
@@ -94,9 +94,9 @@ pub extern "C" fn tasulogi_bound_spans(
     marks: &mut [u32],
     boxes: &mut [f64],
 ) -> u64
-    ensures value { result ≡ rows_count (answer (spans_start degree knots.now points.now rational weights.now 18 (length marks.old) (length boxes.old)) (length (spans_of degree knots.now points.now))) }
-    ensures spans_meet { SpansMeet degree knots.now points.now rational weights.now (length marks.old) (length boxes.old) marks.new boxes.new (answer (spans_start degree knots.now points.now rational weights.now 18 (length marks.old) (length boxes.old)) (length (spans_of degree knots.now points.now))) }
-    ensures rows_hold { RowsHold degree knots.now points.now rational weights.now marks.new boxes.new (answer (spans_start degree knots.now points.now rational weights.now 18 (length marks.old) (length boxes.old)) (length (spans_of degree knots.now points.now))) }
+    ensures value { result ≡ rows_count (answer (spans_start degree knots.now points.now rational weights.now (length marks.old) (length boxes.old)) (length (spans_of degree knots.now points.now))) }
+    ensures spans_meet { SpansMeet degree knots.now points.now rational weights.now (length marks.old) (length boxes.old) marks.new boxes.new (answer (spans_start degree knots.now points.now rational weights.now (length marks.old) (length boxes.old)) (length (spans_of degree knots.now points.now))) }
+    ensures rows_hold { RowsHold degree knots.now points.now rational weights.now marks.new boxes.new (answer (spans_start degree knots.now points.now rational weights.now (length marks.old) (length boxes.old)) (length (spans_of degree knots.now points.now))) }
 {
     exports::rows::tasulogi_bound_spans(degree, knots, points, rational, weights, marks, boxes)
 }
@@ -112,9 +112,9 @@ pub extern "C" fn tasulogi_bound_points(
     marks: &mut [u32],
     boxes: &mut [f64],
 ) -> u64
-    ensures value { result ≡ rows_count (answer (spans_start degree knots.now points.now rational weights.now 6 (length marks.old) (length boxes.old)) (length (spans_of degree knots.now points.now))) }
-    ensures point_spans_meet { PointSpansMeet degree knots.now points.now rational weights.now (length marks.old) (length boxes.old) marks.new boxes.new (answer (spans_start degree knots.now points.now rational weights.now 6 (length marks.old) (length boxes.old)) (length (spans_of degree knots.now points.now))) }
-    ensures point_rows_hold { PointRowsHold degree knots.now points.now rational weights.now marks.new boxes.new (answer (spans_start degree knots.now points.now rational weights.now 6 (length marks.old) (length boxes.old)) (length (spans_of degree knots.now points.now))) }
+    ensures value { result ≡ rows_count (answer (spans_start_by degree knots.now points.now rational weights.now 6 (length marks.old) (length boxes.old)) (length (spans_of degree knots.now points.now))) }
+    ensures point_spans_meet { PointSpansMeet degree knots.now points.now rational weights.now (length marks.old) (length boxes.old) marks.new boxes.new (answer (spans_start_by degree knots.now points.now rational weights.now 6 (length marks.old) (length boxes.old)) (length (spans_of degree knots.now points.now))) }
+    ensures point_rows_hold { PointRowsHold degree knots.now points.now rational weights.now marks.new boxes.new (answer (spans_start_by degree knots.now points.now rational weights.now 6 (length marks.old) (length boxes.old)) (length (spans_of degree knots.now points.now))) }
 {
     exports::rows::tasulogi_bound_points(degree, knots, points, rational, weights, marks, boxes)
 }

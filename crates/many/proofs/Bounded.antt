@@ -8,7 +8,7 @@ use mathlib.Core.List.{List, [], ◌∷◌, ◌++◌, append_assoc, append-nil}
 use native.Mathlib.Omega.{arith}
 use native.Mathlib.Nat.{eq-or-lt_of_le, le_trans, add-zero, add-suc, suc-mul, mul-le-mul_right}
 use native.Mathlib.Numerals.{add-one}
-use lib.ListN.{length, replicate, length-append, length-replicate}
+use lib.ListN.{length, drop, replicate, length-append, length-replicate}
 use lib.Seq.{sets}
 use lib.Ieee.{Float, lt, le}
 use lib.Ieee.Scale.{finite}
@@ -39,9 +39,10 @@ use Rattle.bounds.proofs.CurveHolds.{bound-holds, step-is-bound}
 use Rattle.runs.specs.Fraction.{coordinate_value}
 use Rattle.runs.proofs.Stores.{sets-three}
 use Rattle.many.proofs.Said.{box-says}
+use Rattle.many.specs.Rows.{rows_by}
 use Rattle.many.specs.Start.{table_refusal, rooms_refusal}
-use Rattle.many.specs.Spans.{spans_from, spans_of, box_width, bound_in, row_by, marks_of, box_of, mark_at, box_at, spans_start}
-use Rattle.many.specs.declared.box_row.BoxRow.{BoxRow}
+use Rattle.many.specs.Spans.{spans_from, spans_of, box_width, bound_in, row_by, marks_of, box_of, box_of_by, mark_at, box_at_by, spans_start, spans_start_by}
+use Rattle.many.specs.declared.boxes.BoxRow.{BoxRow}
 use Rattle.many.proofs.Rows.{InRows, in_start, in-more, rooms-open}
 
 -- ---- a row
@@ -51,24 +52,19 @@ all_of i = record { x = i; y = i; z = i }
 abbrev pub beside : Triple → Triple → NurbsBounds
 beside p t = record { point = p; du = t; dv = t }
 
+abbrev pub numbered_row : ℕ → NurbsBounds → BoxRow
+numbered_row n b = record { number = n; bounds = b }
+
 pub box-width-small : (d : Bool) → box_width d ≤ 18
 box-width-small true = omega arith
 box-width-small false = omega arith
 
 -- what the stores of a row leave
-module _ (d : Bool) (r : BoxRow) (l : List Float) (i w : ℕ) (l₁ : List Float) (e : w ≡ box_width d) (e₁ : l₁ ≡ stored_six l (i * w) r.bounds.point) where
-  -- c behind the point is what the flag asks for
-  is-box : (c : List Float) → cond d [] (six_of r.bounds.du ++ six_of r.bounds.dv) ≡ c → sets l (i * w) (six_of r.bounds.point ++ c) ≡ sets l (i * box_width d) (box_of d r)
-  is-box c h = ap₂ (λ (k : ℕ) (x : List Float). sets l (i * k) (six_of r.bounds.point ++ x)) e (sym h)
-
-  pub box-short : d ≡ true → l₁ ≡ sets l (i * box_width d) (box_of d r)
-  box-short f = e₁ ∙ is-box [] (ap (λ (x : Bool). cond x [] (six_of r.bounds.du ++ six_of r.bounds.dv)) f)
-
-  pub box-long : d ≡ false → (l₂ l₃ : List Float) → l₂ ≡ stored_six l₁ (i * w + 6) r.bounds.du → l₃ ≡ stored_six l₂ (i * w + 12) r.bounds.dv → l₃ ≡ sets l (i * box_width d) (box_of d r)
-  box-long f l₂ l₃ e₂ e₃ =
-      (e₃ ∙ ap (λ (m : List Float). stored_six m (i * w + 12) r.bounds.dv) (e₂ ∙ ap (λ (m : List Float). stored_six m (i * w + 6) r.bounds.du) e₁))
-      ∙ (sets-three (six_of r.bounds.point) (six_of r.bounds.du) (six_of r.bounds.dv) l (i * w) (i * w + 6) (i * w + 12) refl (omega arith)
-      ∙ is-box (six_of r.bounds.du ++ six_of r.bounds.dv) (ap (λ (x : Bool). cond x [] (six_of r.bounds.du ++ six_of r.bounds.dv)) f))
+pub box-stored : (r : BoxRow) (l : List Float) (i : ℕ) (l₁ l₂ l₃ : List Float) → l₁ ≡ stored_six l (i * 18) r.bounds.point → l₂ ≡ stored_six l₁ (i * 18 + 6) r.bounds.du → l₃ ≡ stored_six l₂ (i * 18 + 12) r.bounds.dv
+    → l₃ ≡ sets l (i * 18) (box_of r)
+box-stored r l i l₁ l₂ l₃ e₁ e₂ e₃ =
+    (e₃ ∙ ap (λ (m : List Float). stored_six m (i * 18 + 12) r.bounds.dv) (e₂ ∙ ap (λ (m : List Float). stored_six m (i * 18 + 6) r.bounds.du) e₁))
+    ∙ sets-three (six_of r.bounds.point) (six_of r.bounds.du) (six_of r.bounds.dv) l (i * 18) (i * 18 + 6) (i * 18 + 12) refl (omega arith)
 
 -- ---- the list of spans
 module _ (ks : List Float) where
@@ -188,7 +184,7 @@ module _ (d : Bool) (p : ℕ) (ks ps : List Float) (g : Bool) (ws : List Float) 
     pub upto : s ≤ count_of ps
     pub count : i ≡ length (spans_from (s - p) ks p)
     pub marks : InRows (mark_at p ks ps g ws) 2 m₀ (spans_from (s - p) ks p) (i * 2) m₁
-    pub boxes : InRows (box_at p ks ps g ws d) (box_width d) b₀ (spans_from (s - p) ks p) (i * box_width d) b₁
+    pub boxes : InRows (box_at_by p ks ps g ws d) (box_width d) b₀ (spans_from (s - p) ks p) (i * box_width d) b₁
 
 module _ (d : Bool) (p : ℕ) (ks ps : List Float) (g : Bool) (ws : List Float) (v : ValidCurve p ks ps g ws) where
   -- the step on a span answers what bound_curve answers on its closed range
@@ -200,7 +196,7 @@ module _ (d : Bool) (p : ℕ) (ks ps : List Float) (g : Bool) (ws : List Float) 
   abbrev w : ℕ
   w = box_width d
 
-  fits : (s : ℕ) → length (box_at p ks ps g ws d s) ≡ w
+  fits : (s : ℕ) → length (box_at_by p ks ps g ws d s) ≡ w
   fits s = (box-says d (bound_in p ks ps g ws s)).count
 
   module _ (m₀ : List ℕ) (b₀ : List Float) where
@@ -216,7 +212,7 @@ module _ (d : Bool) (p : ℕ) (ks ps : List Float) (g : Bool) (ws : List Float) 
           upto = omega arith;
           count = ap length z;
           marks = subst (λ (l : List ℕ). InRows (mark_at p ks ps g ws) 2 m₀ l 0 m₀) z (in_start (mark_at p ks ps g ws) 2 (λ s. refl) m₀);
-          boxes = subst (λ (l : List ℕ). InRows (box_at p ks ps g ws d) w b₀ l (0 * w) b₀) z (subst (λ (k : ℕ). InRows (box_at p ks ps g ws d) w b₀ [] k b₀) n (in_start (box_at p ks ps g ws d) w fits b₀));
+          boxes = subst (λ (l : List ℕ). InRows (box_at_by p ks ps g ws d) w b₀ l (0 * w) b₀) z (subst (λ (k : ℕ). InRows (box_at_by p ks ps g ws d) w b₀ [] k b₀) n (in_start (box_at_by p ks ps g ws d) w fits b₀));
         }
 
     module _ (m₁ : List ℕ) (b₁ : List Float) (i s : ℕ) (I : InSpans d p ks ps g ws m₀ b₀ m₁ b₁ i s) (l : s < count_of ps) where
@@ -229,7 +225,7 @@ module _ (d : Bool) (p : ℕ) (ks ps : List Float) (g : Bool) (ws : List Float) 
             upto = omega arith;
             count = count-not ks p s a i I.count h;
             marks = subst (λ (l : List ℕ). InRows (mark_at p ks ps g ws) 2 m₀ l (i * 2) m₁) z I.marks;
-            boxes = subst (λ (l : List ℕ). InRows (box_at p ks ps g ws d) w b₀ l (i * w) b₁) z I.boxes;
+            boxes = subst (λ (l : List ℕ). InRows (box_at_by p ks ps g ws d) w b₀ l (i * w) b₁) z I.boxes;
           }
 
       -- a row more has room
@@ -253,7 +249,7 @@ module _ (d : Bool) (p : ℕ) (ks ps : List Float) (g : Bool) (ws : List Float) 
 
       pub spans-more : nonempty ks s ≡ true → length (spans_of p ks ps) * 2 ≤ length m₀ → length (spans_of p ks ps) * w ≤ length b₀
           → (x : BoxRow) → x ≡ row_by d (bound_at p s ks ps g ws (at ks s) (at ks (s + 1)))
-          → (m₂ : List ℕ) (b₂ : List Float) → m₂ ≡ sets m₁ (i * 2) (marks_of s x) → b₂ ≡ sets b₁ (i * w) (box_of d x) → InSpans d p ks ps g ws m₀ b₀ m₂ b₂ (i + 1) (s + 1)
+          → (m₂ : List ℕ) (b₂ : List Float) → m₂ ≡ sets m₁ (i * 2) (marks_of s x) → b₂ ≡ sets b₁ (i * w) (box_of_by d x) → InSpans d p ks ps g ws m₀ b₀ m₂ b₂ (i + 1) (s + 1)
       spans-more h lm lb x ex m₂ b₂ em eb =
           let f = I.from in
           let z = spans-here ks p s f h in
@@ -274,21 +270,21 @@ module _ (d : Bool) (p : ℕ) (ks ps : List Float) (g : Bool) (ws : List Float) 
                 (ap (marks_of s) row ∙ ap (λ (n : ℕ). s ∷ n ∷ []) says.number) (omega arith) (omega arith) z);
             boxes =
                 subst
-                (λ (y : List Float). InRows (box_at p ks ps g ws d) w b₀ (spans_from (s + 1 - p) ks p) ((i + 1) * w) y) (sym eb)
+                (λ (y : List Float). InRows (box_at_by p ks ps g ws d) w b₀ (spans_from (s + 1 - p) ks p) ((i + 1) * w) y) (sym eb)
                 (in-more
-                (box_at p ks ps g ws d) w fits b₀ (spans_from (s - p) ks p) (spans_from (s + 1 - p) ks p) s (i * w) ((i + 1) * w) b₁ (box_of d x) I.boxes
-                (ap (box_of d) row ∙ says.numbers) room next z);
+                (box_at_by p ks ps g ws d) w fits b₀ (spans_from (s - p) ks p) (spans_from (s + 1 - p) ks p) s (i * w) ((i + 1) * w) b₁ (box_of_by d x) I.boxes
+                (ap (box_of_by d) row ∙ says.numbers) room next z);
           }
 
     -- all are done
     pub spans-end : (m₁ : List ℕ) (b₁ : List Float) (i s : ℕ) → InSpans d p ks ps g ws m₀ b₀ m₁ b₁ i s → count_of ps ≤ s
-        → InRows (mark_at p ks ps g ws) 2 m₀ (spans_of p ks ps) (length (spans_of p ks ps) * 2) m₁ × InRows (box_at p ks ps g ws d) w b₀ (spans_of p ks ps) (length (spans_of p ks ps) * w) b₁
+        → InRows (mark_at p ks ps g ws) 2 m₀ (spans_of p ks ps) (length (spans_of p ks ps) * 2) m₁ × InRows (box_at_by p ks ps g ws d) w b₀ (spans_of p ks ps) (length (spans_of p ks ps) * w) b₁
     spans-end m₁ b₁ i s I l =
         let u = I.upto in
         let e : s ≡ count_of ps = omega arith in
         let c : i ≡ length (spans_of p ks ps) = I.count ∙ ap (λ (k : ℕ). length (spans_from (k - p) ks p)) e in (
           subst (λ (k : ℕ). InRows (mark_at p ks ps g ws) 2 m₀ (spans_of p ks ps) (k * 2) m₁) c (subst (λ (k : ℕ). InRows (mark_at p ks ps g ws) 2 m₀ (spans_from (k - p) ks p) (i * 2) m₁) e I.marks),
-          subst (λ (k : ℕ). InRows (box_at p ks ps g ws d) w b₀ (spans_of p ks ps) (k * w) b₁) c (subst (λ (k : ℕ). InRows (box_at p ks ps g ws d) w b₀ (spans_from (k - p) ks p) (i * w) b₁) e I.boxes),
+          subst (λ (k : ℕ). InRows (box_at_by p ks ps g ws d) w b₀ (spans_of p ks ps) (k * w) b₁) c (subst (λ (k : ℕ). InRows (box_at_by p ks ps g ws d) w b₀ (spans_from (k - p) ks p) (i * w) b₁) e I.boxes),
         )
 
 -- ---- the bounds of each row hold the point and its derivative
@@ -308,14 +304,23 @@ module _ (p : ℕ) (ks ps : List Float) (g : Bool) (ws : List Float) where
       let c = v.triples in
       omega (arith, a, b, c)
 
-  pub table-stops : (w a b : ℕ) (r : Refusal) → r ≡ table_refusal p ks ps g ws → (r.number ≡ 0 → ⊥) → r ≡ spans_start p ks ps g ws w a b
-  unfolding spans_start
+  pub table-stops : (w a b : ℕ) (r : Refusal) → r ≡ table_refusal p ks ps g ws → (r.number ≡ 0 → ⊥) → r ≡ spans_start_by p ks ps g ws w a b
+  unfolding spans_start_by
   table-stops w a b r e h = e ∙ sym (simp (stop e h))
+
+  -- the lent run after the loop
+  abbrev pub after : Bool → List Float → List Float
+  after d b₀ = let n = length (spans_of p ks ps) in rows_by (box_at_by p ks ps g ws d) (spans_of p ks ps) ++ drop (n * box_width d) b₀
+
+  -- eighteen numbers a box
+  pub start-same : (a b : ℕ) → spans_start_by p ks ps g ws 18 a b ≡ spans_start p ks ps g ws a b
+  unfolding spans_start spans_start_by
+  start-same a b = refl
 
   -- lent runs by their own lengths
   pub rooms-stop : (w a b : ℕ) (m₀ : List ℕ) (b₀ : List Float) → m₀ ≡ replicate a 0 → b₀ ≡ zeros b → (t : Refusal) → t ≡ table_refusal p ks ps g ws → t.number ≡ 0
-      → (n : ℕ) → n ≡ length (spans_of p ks ps) → (r : Refusal) → r ≡ rooms_refusal (length m₀) (n * 2) (length b₀) (n * w) → r ≡ spans_start p ks ps g ws w a b
-  unfolding spans_start
+      → (n : ℕ) → n ≡ length (spans_of p ks ps) → (r : Refusal) → r ≡ rooms_refusal (length m₀) (n * 2) (length b₀) (n * w) → r ≡ spans_start_by p ks ps g ws w a b
+  unfolding spans_start_by
   rooms-stop w a b m₀ b₀ cm cb t et ht n en r er =
       er ∙ (ap₂ (λ (x y : ℕ). rooms_refusal x (n * 2) y (n * w)) (ap length cm ∙ length-replicate a 0) (ap length cb ∙ length-replicate b zero+)
       ∙ (ap (λ (k : ℕ). rooms_refusal a (k * 2) b (k * w)) en ∙ sym (simp (skip et ht))))

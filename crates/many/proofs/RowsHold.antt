@@ -21,7 +21,7 @@ use Rattle.knots.specs.declared.refusal.Refusal.{Refusal}
 use Rattle.knots.proofs.Refusals.{row-both, or_else-none}
 use Rattle.runs.specs.Fraction.{coordinate_value}
 use Rattle.jets.specs.Three.{Three}
-use Rattle.bounds.specs.Holds.{Holding, Boxed, PointBoxed, at-t, NotIdle}
+use Rattle.bounds.specs.Holds.{Holding, Boxed, PointBoxed, at-t, HoldsOn, NotIdle}
 use Rattle.bounds.specs.Point.{point_only}
 use Rattle.bounds.specs.Numbers.{six_of, bounded_refusal, bounded_values, point_refusal, point_values}
 use Rattle.bounds.specs.Eighteen.{triple_by, bounds_by}
@@ -32,15 +32,15 @@ use Rattle.bounds.specs.declared.answer.Bounded.TheVariants as B
 use Rattle.bounds.proofs.Idle.{Other, idle, or_else-other, curve-other, bound-idle}
 use Rattle.bounds.proofs.Numbered.{Numbered, bound-numbered}
 use Rattle.many.specs.Numbers.{many_answer_refusal}
-use Rattle.many.specs.Rows.{rows_by, row_of, left}
+use Rattle.many.specs.Rows.{rows_by, row_of, left, RowsMeet}
 use Rattle.many.specs.Start.{table_refusal, rooms_refusal}
-use Rattle.many.specs.Spans.{spans_from, spans_of, box_width, bound_in, mark_at, box_at, spans_start, BoxesMeet, SpansMeet, PointSpansMeet}
-use Rattle.many.specs.RowsHold.{answer_at, EachHolds, BoxHolds, PointBoxHolds, RowsHold, PointRowsHold}
+use Rattle.many.specs.Spans.{spans_from, spans_of, box_width, bound_in, mark_at, box_at, box_at_by, spans_start_by, BoxesMeet, SpansMeet, PointSpansMeet}
+use Rattle.many.specs.RowsHold.{answer_at, answer_at_by, EachHolds, PointBoxHolds, RowsHold, PointRowsHold}
 use Rattle.many.specs.declared.answer.ManyAnswer.{ManyAnswer}
 use Rattle.many.specs.declared.answer.ManyAnswer.TheVariants.{Rows, Refused}
 use Rattle.many.proofs.Said.{box-says}
 use Rattle.many.proofs.Rows.{table-open}
-use Rattle.many.proofs.Bounded.{row-holds}
+use Rattle.many.proofs.Bounded.{row-holds, start-same}
 
 -- number j of row i
 rows_at : {X Y : Type 0} (f : X → List Y) (w : ℕ) → ((x : X) → length (f x) ≡ w) → (z : Y) (d : X) (xs : List X) (ys : List Y) (i j : ℕ) → i < length xs → j < w
@@ -139,12 +139,16 @@ abbrev count_in : ManyAnswer → ℕ
 count_in (Rows n) = n
 count_in (Refused r) = 0
 
--- what is said of row i, of span s, by the flag
+-- what is said of row i, of span s
+abbrev BoxHolds : ℕ → List Float → List Float → Bool → List Float → List ℕ → List Float → ℕ → ℕ → Type 0
+BoxHolds p ks ps g ws marks boxes s i = let B = answer_at marks boxes i in HoldsOn p s ks (count_of ps) g ws (at ks s) (at ks (s + 1)) (coordinate_value ps) B × NotIdle (bounded_refusal B).number
+
+-- the same by the flag
 abbrev RowHolds : Bool → ℕ → List Float → List Float → Bool → List Float → List ℕ → List Float → ℕ → ℕ → Type 0
 RowHolds true = PointBoxHolds
 RowHolds false = BoxHolds
 
-row_by : (d : Bool) (p : ℕ) (ks ps : List Float) (g : Bool) (ws : List Float) (marks : List ℕ) (boxes : List Float) (s i : ℕ) → let B = answer_at (box_width d) marks boxes i in
+row_by : (d : Bool) (p : ℕ) (ks ps : List Float) (g : Bool) (ws : List Float) (marks : List ℕ) (boxes : List Float) (s i : ℕ) → let B = answer_at_by (box_width d) marks boxes i in
     ((t : ℚ) → val (at ks s) ≤q t → t ≤q val (at ks (s + 1)) → RowBoxed d B (λ k. at-t p ks (count_of ps) g ws s t (coordinate_value ps k))) → NotIdle (row_refusal d B).number
     → RowHolds d p ks ps g ws marks boxes s i
 row_by true p ks ps g ws marks boxes s i h n = (h, n)
@@ -154,8 +158,8 @@ module _ (d : Bool) (p : ℕ) (ks ps : List Float) (g : Bool) (ws : List Float) 
   abbrev w : ℕ
   w = box_width d
 
-  start-other : (a b : ℕ) → Other (spans_start p ks ps g ws w a b)
-  unfolding spans_start
+  start-other : (a b : ℕ) → Other (spans_start_by p ks ps g ws w a b)
+  unfolding spans_start_by
   start-other a b = or_else-other (table_refusal p ks ps g ws) (rooms_refusal a _ b _) (table-other p ks ps g ws) (rooms-other a _ b _)
 
   -- what is said of row i, of span s
@@ -164,7 +168,7 @@ module _ (d : Bool) (p : ℕ) (ks ps : List Float) (g : Bool) (ws : List Float) 
 
   module _ (a b : ℕ) (marks : List ℕ) (boxes : List Float) (A : ManyAnswer) (M : BoxesMeet p ks ps g ws d a b marks boxes A) where
     abbrev r : Refusal
-    r = spans_start p ks ps g ws w a b
+    r = spans_start_by p ks ps g ws w a b
 
     abbrev spans : List ℕ
     spans = spans_of p ks ps
@@ -184,21 +188,21 @@ module _ (d : Bool) (p : ℕ) (ks ps : List Float) (g : Bool) (ws : List Float) 
       unfolding left
       marks-are = M.numbers ∙ rw e
 
-      boxes-are : boxes ≡ rows_by (box_at p ks ps g ws d) spans ++ replicate (b - length (rows_by (box_at p ks ps g ws d) spans)) zero+
+      boxes-are : boxes ≡ rows_by (box_at_by p ks ps g ws d) spans ++ replicate (b - length (rows_by (box_at_by p ks ps g ws d) spans)) zero+
       unfolding left
       boxes-are = M.rows ∙ rw e
 
       mark-at : (j : ℕ) → j < 2 → get_or marks (i * 2 + j) 0 ≡ get_or (mark_at p ks ps g ws s) j 0
       mark-at j m = ap (λ (l : List ℕ). get_or l (i * 2 + j) 0) marks-are ∙ rows_at (mark_at p ks ps g ws) 2 (λ s. refl) 0 0 spans _ i j l m
 
-      box-at : (j : ℕ) → j < w → at boxes (i * w + j) ≡ at (box_at p ks ps g ws d s) j
-      box-at j m = ap (λ (l : List Float). at l (i * w + j)) boxes-are ∙ rows_at (box_at p ks ps g ws d) w (λ s. (box-says d (bound_in p ks ps g ws s)).count) nan 0 spans _ i j l m
+      box-at : (j : ℕ) → j < w → at boxes (i * w + j) ≡ at (box_at_by p ks ps g ws d s) j
+      box-at j m = ap (λ (l : List Float). at l (i * w + j)) boxes-are ∙ rows_at (box_at_by p ks ps g ws d) w (λ s. (box-says d (bound_in p ks ps g ws s)).count) nan 0 spans _ i j l m
 
-      back : Back d (answer_at w marks boxes i) (bound_in p ks ps g ws s)
+      back : Back d (answer_at_by w marks boxes i) (bound_in p ks ps g ws s)
       back = read_back d (get_or marks (i * 2 + 1) 0) (λ j. at boxes (i * w + j)) (bound_in p ks ps g ws s) (mark-at 1 (omega arith)) (bound-numbered p ks ps ws g (at ks s) (at ks (s + 1))) box-at
 
       row_is : Row marks boxes s i
-      unfolding spans_start
+      unfolding spans_start_by
       row_is =
           let v = table-open p ks ps g ws (or_else-none (table_refusal p ks ps g ws) _ e).0 in
           let c = v.knots.count in
@@ -219,8 +223,15 @@ module _ (d : Bool) (p : ℕ) (ks ps : List Float) (g : Bool) (ws : List Float) 
 
 -- both promises of each call
 module _ (p : ℕ) (ks ps : List Float) (g : Bool) (ws : List Float) (a b : ℕ) (marks : List ℕ) (boxes : List Float) (A : ManyAnswer) where
+  -- eighteen numbers a box
+  abbrev Meet : Refusal → Type 0
+  Meet r = RowsMeet r (spans_of p ks ps) (mark_at p ks ps g ws) (box_at p ks ps g ws) a b marks boxes A
+
+  pub spans-meet : BoxesMeet p ks ps g ws false a b marks boxes A → SpansMeet p ks ps g ws a b marks boxes A
+  spans-meet M = subst Meet (start-same p ks ps g ws a b) M
+
   pub spans-promised : SpansMeet p ks ps g ws a b marks boxes A → SpansMeet p ks ps g ws a b marks boxes A × RowsHold p ks ps g ws marks boxes A
-  spans-promised M = (M, rows-hold false p ks ps g ws a b marks boxes A M)
+  spans-promised M = let h = rows-hold false p ks ps g ws a b marks boxes A (subst Meet (sym (start-same p ks ps g ws a b)) M) in (M, record { idle = h.idle; each = h.each })
 
   pub points-promised : PointSpansMeet p ks ps g ws a b marks boxes A → PointSpansMeet p ks ps g ws a b marks boxes A × PointRowsHold p ks ps g ws marks boxes A
   points-promised M = (M, rows-hold true p ks ps g ws a b marks boxes A M)

@@ -18,7 +18,7 @@ use Rattle.bounds.specs.declared.answer.Bounded.{Bounded}
 use Rattle.bounds.specs.declared.answer.Bounded.TheVariants as B
 use Rattle.many.specs.Rows.{row_of}
 use Rattle.many.specs.Points.{width, number_at, numbers_at, point_row, point_row2, row_at, numbers_of}
-use Rattle.many.specs.Spans.{box_width, row_by, box_of}
+use Rattle.many.specs.Spans.{box_width, row_by, box_of_by}
 
 -- a row with its number, its values and their count
 pub record Says {N : Type 0} (n m : N) {A : Type 0} (row values : A) (long : A → ℕ) (w : ℕ) : Type 0 where
@@ -40,7 +40,7 @@ row-says c p ks ps g ws true t = let s = point2-says (eval2_of c p ks ps g ws t)
 row-says c p ks ps g ws false t = let s = point-says (eval_of c p ks ps g ws t) in record { number = ap (λ (n : ℕ). n ∷ []) s.number; numbers = s.numbers; count = s.count }
 
 pub box-says : (d : Bool) (a : Bounded)
-    → Says (row_by d a).number (bounded_refusal a).number (box_of d (row_by d a)) (row_of (box_width d) (cond d (point_values (point_only a)) (bounded_values a))) length (box_width d)
+    → Says (row_by d a).number (bounded_refusal a).number (box_of_by d (row_by d a)) (row_of (box_width d) (cond d (point_values (point_only a)) (bounded_values a))) length (box_width d)
 box-says true (B.Are b) = record { number = refl; numbers = refl; count = refl }
 box-says true (B.Refused r) = record { number = refl; numbers = refl; count = refl }
 box-says false (B.Are b) = record { number = refl; numbers = refl; count = refl }

@@ -14,9 +14,20 @@ use Rattle.many.specs.Numbers.{many_answer_refusal}
 use Rattle.many.specs.declared.answer.ManyAnswer.{ManyAnswer}
 use Rattle.many.specs.declared.answer.ManyAnswer.TheVariants.{Rows}
 
--- row i of both runs, w numbers a box, read back as an answer: its bounds where its number is 0
-abbrev pub answer_at : ℕ → List ℕ → List Float → ℕ → Bounded
-answer_at w marks boxes i = let n = get_or marks (i * 2 + 1) 0 in cond (eqb n 0) (Are (bounds_by (λ j. at boxes (i * w + j)))) (Refused (numbered n))
+-- row i of both runs, read back as an answer: its bounds where its number is 0
+abbrev pub answer_at : List ℕ → List Float → ℕ → Bounded
+answer_at marks boxes i = let n = get_or marks (i * 2 + 1) 0 in cond (eqb n 0) (Are (bounds_by (λ j. at boxes (i * 18 + j)))) (Refused (numbered n))
+
+pub record RowsHold (p : ℕ) (ks ps : List Float) (g : Bool) (ws : List Float) (marks : List ℕ) (boxes : List Float) (A : ManyAnswer) : Type 0 where
+  pub idle : NotIdle (many_answer_refusal A).number
+  pub each : (n : ℕ) → A ≡ Rows n → (i : ℕ) → i < n →
+      let s = get_or marks (i * 2) 0 in
+      let B = answer_at marks boxes i in
+      HoldsOn p s ks (count_of ps) g ws (at ks s) (at ks (s + 1)) (coordinate_value ps) B × NotIdle (bounded_refusal B).number
+
+-- row i where a box has w numbers
+abbrev pub answer_at_by : ℕ → List ℕ → List Float → ℕ → Bounded
+answer_at_by w marks boxes i = let m = get_or marks (i * 2 + 1) 0 in cond (eqb m 0) (Are (bounds_by (λ j. at boxes (i * w + j)))) (Refused (numbered m))
 
 -- Row s i is said of each row i, s its span
 pub record EachHolds (Row : ℕ → ℕ → Type 0) (marks : List ℕ) (A : ManyAnswer) : Type 0 where
@@ -24,14 +35,8 @@ pub record EachHolds (Row : ℕ → ℕ → Type 0) (marks : List ℕ) (A : Many
   pub each : (n : ℕ) → A ≡ Rows n → (i : ℕ) → i < n → Row (get_or marks (i * 2) 0) i
 
 module _ (p : ℕ) (ks ps : List Float) (g : Bool) (ws : List Float) (marks : List ℕ) (boxes : List Float) where
-  abbrev pub BoxHolds : ℕ → ℕ → Type 0
-  BoxHolds s i = let B = answer_at 18 marks boxes i in HoldsOn p s ks (count_of ps) g ws (at ks s) (at ks (s + 1)) (coordinate_value ps) B × NotIdle (bounded_refusal B).number
-
   abbrev pub PointBoxHolds : ℕ → ℕ → Type 0
-  PointBoxHolds s i = let B = point_only (answer_at 6 marks boxes i) in PointHoldsOn p s ks (count_of ps) g ws (at ks s) (at ks (s + 1)) (coordinate_value ps) B × NotIdle (point_refusal B).number
-
-  abbrev pub RowsHold : ManyAnswer → Type 0
-  RowsHold = EachHolds BoxHolds marks
+  PointBoxHolds s i = let B = point_only (answer_at_by 6 marks boxes i) in PointHoldsOn p s ks (count_of ps) g ws (at ks s) (at ks (s + 1)) (coordinate_value ps) B × NotIdle (point_refusal B).number
 
   abbrev pub PointRowsHold : ManyAnswer → Type 0
   PointRowsHold = EachHolds PointBoxHolds marks

@@ -1,6 +1,6 @@
 -- The answers of `bound_spans` and `bound_points`: for each nonempty span what `bound_curve` and `bound_point` answer on its closed range, in a row.
 -- Assumes nothing.
-use Rattle.std.specs.Prelude.{ℕ, zero, suc, ◌+◌, ◌-◌, ◌*◌, Bool, true, false, cond, List, [], ◌∷◌, ◌++◌, length, Float}
+use Rattle.std.specs.Prelude.{ℕ, zero, suc, ◌+◌, ◌-◌, ◌*◌, Bool, true, cond, List, [], ◌∷◌, ◌++◌, length, Float}
 use Rattle.doubles.specs.Run.{at}
 use Rattle.doubles.specs.Value.{zero+}
 use Rattle.interval.specs.declared.Interval.{Interval}
@@ -20,7 +20,7 @@ use Rattle.bounds.specs.declared.answer.PointBounded.TheVariants as P
 use Rattle.many.specs.Rows.{RowsMeet, row_of}
 use Rattle.many.specs.Start.{table_refusal, rooms_refusal}
 use Rattle.many.specs.declared.answer.ManyAnswer.{ManyAnswer}
-use Rattle.many.specs.declared.box_row.BoxRow.{BoxRow}
+use Rattle.many.specs.declared.boxes.BoxRow.{BoxRow}
 
 -- the nonempty spans among the k places from s on, and those of a curve
 unfoldable pub spans_from : ℕ → List Float → ℕ → List ℕ
@@ -39,23 +39,31 @@ module _ (p : ℕ) (ks ps : List Float) (g : Bool) (ws : List Float) where
   abbrev pub bound_in : ℕ → Bounded
   bound_in s = bound_of p ks ps g ws (at ks s) (at ks (s + 1))
 
-  -- the span with the number of its refusal or 0, and the box, or the point's part of it
+  -- the span with the number of its refusal or 0, and the box
   abbrev pub mark_at : ℕ → List ℕ
   mark_at s = s ∷ (bounded_refusal (bound_in s)).number ∷ []
 
-  abbrev pub box_at : Bool → ℕ → List Float
-  box_at d s = row_of (box_width d) (cond d (point_values (point_only (bound_in s))) (bounded_values (bound_in s)))
+  abbrev pub box_at : ℕ → List Float
+  box_at s = row_of 18 (bounded_values (bound_in s))
 
-  -- the curve's, 31, 30 for lent runs of a and b numbers where a box has w
-  unfoldable pub spans_start : ℕ → ℕ → ℕ → Refusal
-  spans_start w a b = let n = length (spans_of p ks ps) in or_else (table_refusal p ks ps g ws) (rooms_refusal a (n * 2) b (n * w))
+  -- the box, or the point's part of it
+  abbrev pub box_at_by : Bool → ℕ → List Float
+  box_at_by d s = row_of (box_width d) (cond d (point_values (point_only (bound_in s))) (bounded_values (bound_in s)))
+
+  -- the curve's, 31, 30 for lent runs of a and b numbers
+  unfoldable pub spans_start : ℕ → ℕ → Refusal
+  spans_start a b = let n = length (spans_of p ks ps) in or_else (table_refusal p ks ps g ws) (rooms_refusal a (n * 2) b (n * 18))
+
+  -- the same where a box has w numbers
+  unfoldable pub spans_start_by : ℕ → ℕ → ℕ → Refusal
+  spans_start_by w a b = let n = length (spans_of p ks ps) in or_else (table_refusal p ks ps g ws) (rooms_refusal a (n * 2) b (n * w))
 
   -- the promises
-  abbrev pub BoxesMeet : Bool → ℕ → ℕ → List ℕ → List Float → ManyAnswer → Type 0
-  BoxesMeet d a b = RowsMeet (spans_start (box_width d) a b) (spans_of p ks ps) mark_at (box_at d) a b
-
   abbrev pub SpansMeet : ℕ → ℕ → List ℕ → List Float → ManyAnswer → Type 0
-  SpansMeet = BoxesMeet false
+  SpansMeet a b = RowsMeet (spans_start a b) (spans_of p ks ps) mark_at box_at a b
+
+  abbrev pub BoxesMeet : Bool → ℕ → ℕ → List ℕ → List Float → ManyAnswer → Type 0
+  BoxesMeet d a b = RowsMeet (spans_start_by (box_width d) a b) (spans_of p ks ps) mark_at (box_at_by d) a b
 
   abbrev pub PointSpansMeet : ℕ → ℕ → List ℕ → List Float → ManyAnswer → Type 0
   PointSpansMeet = BoxesMeet true
@@ -67,20 +75,20 @@ no_interval = record { lo = zero+; hi = zero+ }
 abbrev pub no_triple : Triple
 no_triple = record { x = no_interval; y = no_interval; z = no_interval }
 
+abbrev pub no_bounds : NurbsBounds
+no_bounds = record { point = no_triple; du = no_triple; dv = no_triple }
+
 abbrev pub point_bounds : Triple → NurbsBounds
 point_bounds t = record { point = t; du = no_triple; dv = no_triple }
 
-abbrev pub bare : ℕ → NurbsBounds → BoxRow
-bare n b = record { number = n; bounds = b }
-
 -- what is stored of an answer: no box where it is refused
 abbrev pub box_row : Bounded → BoxRow
-box_row (Are b) = bare 0 b
-box_row (Refused r) = bare r.number (point_bounds no_triple)
+box_row (Are b) = record { number = 0; bounds = b }
+box_row (Refused r) = record { number = r.number; bounds = no_bounds }
 
 abbrev pub point_box_row : PointBounded → BoxRow
-point_box_row (P.Are t) = bare 0 (point_bounds t)
-point_box_row (P.Refused r) = bare r.number (point_bounds no_triple)
+point_box_row (P.Are t) = record { number = 0; bounds = point_bounds t }
+point_box_row (P.Refused r) = record { number = r.number; bounds = no_bounds }
 
 abbrev pub row_by : Bool → Bounded → BoxRow
 row_by d a = cond d (point_box_row (point_only a)) (box_row a)
@@ -88,5 +96,8 @@ row_by d a = cond d (point_box_row (point_only a)) (box_row a)
 abbrev pub marks_of : ℕ → BoxRow → List ℕ
 marks_of s r = s ∷ r.number ∷ []
 
-abbrev pub box_of : Bool → BoxRow → List Float
-box_of d r = six_of r.bounds.point ++ cond d [] (six_of r.bounds.du ++ six_of r.bounds.dv)
+abbrev pub box_of : BoxRow → List Float
+box_of r = six_of r.bounds.point ++ (six_of r.bounds.du ++ six_of r.bounds.dv)
+
+abbrev pub box_of_by : Bool → BoxRow → List Float
+box_of_by d r = six_of r.bounds.point ++ cond d [] (six_of r.bounds.du ++ six_of r.bounds.dv)

@@ -1,20 +1,89 @@
 // The bounds of a curve, or of its point alone, on each of its nonempty spans.
-ghost use Rattle.std.specs.Prelude.{◌≡◌, ◌++◌, ◌+◌, ◌-◌, ◌*◌, ◌<◌, ◌≤◌, length, drop};
+ghost use Rattle.std.specs.Prelude.{◌≡◌, true, ◌++◌, ◌+◌, ◌-◌, ◌*◌, ◌<◌, ◌≤◌, length, drop};
 ghost use Rattle.std.proofs.lemmas.List.Edits.{sets};
 ghost use Rattle.bounds.specs.Curve.{bound_at};
 ghost use Rattle.knots.specs.Curve.{ValidCurve};
 ghost use Rattle.many.specs.Rows.{rows_by};
-ghost use Rattle.many.specs.Spans.{spans_from, spans_of, box_width, row_by, marks_of, box_of, mark_at, box_at, BoxesMeet, SpansMeet, PointSpansMeet};
+ghost use Rattle.many.specs.Spans.{spans_from, spans_of, box_width, no_triple, no_bounds, point_bounds, box_row, point_box_row, row_by, marks_of, box_of, box_of_by, mark_at, box_at, box_at_by, BoxesMeet, SpansMeet, PointSpansMeet};
 ghost use Rattle.many.specs.RowsHold.{RowsHold, PointRowsHold};
 
 use crate::answer::ManyAnswer;
-use crate::box_row::{BoxRow, box_width, point_row_of, row_of};
 use crate::start::{rooms_refusal, table_refusal};
 use crate::store::clear_numbers;
+use bounds::answer::{Bounded, NurbsBounds, PointBounded, Triple};
 use bounds::curve::bound_span;
 use bounds::point::point_span;
 use bounds::store::store_triple;
+use interval::Interval;
 use knots::clear::clear;
+
+// What is stored of one answer: the number of its refusal or 0, then the box. Where the point alone is asked for, du and dv are not stored.
+#[derive(Clone, Copy)]
+struct BoxRow {
+    number: u32,
+    bounds: NurbsBounds,
+}
+
+// How many numbers a row has.
+fn box_width(alone: bool) -> usize
+    ensures { result ≡ box_width alone }
+{
+    if alone {
+        return 6;
+    }
+    18
+}
+
+fn no_triple() -> Triple
+    ensures { result ≡ no_triple }
+{
+    let i = Interval::point(0.0);
+    Triple { x: i, y: i, z: i }
+}
+
+fn point_bounds(point: Triple) -> NurbsBounds
+    ensures { result ≡ point_bounds point }
+{
+    let t = no_triple();
+    NurbsBounds {
+        point,
+        du: t,
+        dv: t,
+    }
+}
+
+fn no_bounds() -> NurbsBounds
+    ensures { result ≡ no_bounds }
+{
+    point_bounds(no_triple())
+}
+
+fn row_of(a: Bounded) -> BoxRow
+    ensures { result ≡ box_row a }
+{
+    match a {
+        Bounded::Are(bounds) => BoxRow { number: 0, bounds },
+        Bounded::Refused(r) => BoxRow {
+            number: r.number,
+            bounds: no_bounds(),
+        },
+    }
+}
+
+fn point_row_of(a: PointBounded) -> BoxRow
+    ensures { result ≡ point_box_row a }
+{
+    match a {
+        PointBounded::Are(point) => BoxRow {
+            number: 0,
+            bounds: point_bounds(point),
+        },
+        PointBounded::Refused(r) => BoxRow {
+            number: r.number,
+            bounds: no_bounds(),
+        },
+    }
+}
 
 // The row of span s on the range from lo to hi.
 fn row_on(
@@ -37,24 +106,50 @@ fn row_on(
 }
 
 // Row i of both runs, for span s.
-fn put_row(alone: bool, marks: &mut [u32], boxes: &mut [f64], i: usize, s: usize, row: BoxRow)
+fn put_row(marks: &mut [u32], boxes: &mut [f64], i: usize, s: usize, row: BoxRow)
     requires i_in_bounds { i * 2 + 1 < length marks.old }
     requires i_bound { i < 1048576 }
     requires s_bound { s < 1048576 }
     ensures marks_after { marks.new ≡ sets marks.old (i * 2) (marks_of s row) }
-    ensures boxes_after { boxes.new ≡ sets boxes.old (i * box_width alone) (box_of alone row) }
+    ensures boxes_after { boxes.new ≡ sets boxes.old (i * 18) (box_of row) }
 {
     let m = i * 2;
     marks[m] = s as u32;
     marks[m + 1] = row.number;
-    let at = i * box_width(alone);
+    let at = i * 18;
     let b = row.bounds;
     store_triple(boxes, at, b.point);
-    if alone {
-        return;
-    }
     store_triple(boxes, at + 6, b.du);
     store_triple(boxes, at + 12, b.dv);
+}
+
+// The same of the point alone.
+fn put_point_row(marks: &mut [u32], boxes: &mut [f64], i: usize, s: usize, row: BoxRow)
+    requires i_in_bounds { i * 2 + 1 < length marks.old }
+    requires i_bound { i < 1048576 }
+    requires s_bound { s < 1048576 }
+    ensures marks_after { marks.new ≡ sets marks.old (i * 2) (marks_of s row) }
+    ensures boxes_after { boxes.new ≡ sets boxes.old (i * 6) (box_of_by true row) }
+{
+    let m = i * 2;
+    marks[m] = s as u32;
+    marks[m + 1] = row.number;
+    store_triple(boxes, i * 6, row.bounds.point);
+}
+
+// Row i of both runs, whole or of the point alone.
+fn put_row_by(alone: bool, marks: &mut [u32], boxes: &mut [f64], i: usize, s: usize, row: BoxRow)
+    requires i_in_bounds { i * 2 + 1 < length marks.old }
+    requires i_bound { i < 1048576 }
+    requires s_bound { s < 1048576 }
+    ensures marks_after { marks.new ≡ sets marks.old (i * 2) (marks_of s row) }
+    ensures boxes_after { boxes.new ≡ sets boxes.old (i * box_width alone) (box_of_by alone row) }
+{
+    if alone {
+        put_point_row(marks, boxes, i, s, row);
+        return;
+    }
+    put_row(marks, boxes, i, s, row);
 }
 
 // How many of degree..=count-1 are nonempty spans.
@@ -77,7 +172,7 @@ fn span_count(degree: usize, count: usize, knots: &[f64]) -> usize
 }
 
 // A row for each nonempty span, on a curve that was validated.
-fn bound_each(
+fn bound_each_by(
     alone: bool,
     degree: usize,
     knots: &[f64],
@@ -91,7 +186,7 @@ fn bound_each(
     requires points_in_bounds { length (spans_of degree knots.now points.now) * 2 ≤ length marks.old }
     requires alone_in_bounds { length (spans_of degree knots.now points.now) * box_width alone ≤ length boxes.old }
     ensures marks_after { marks.new ≡ rows_by (mark_at degree knots.now points.now rational weights.now) (spans_of degree knots.now points.now) ++ drop (length (spans_of degree knots.now points.now) * 2) marks.old }
-    ensures boxes_after { boxes.new ≡ rows_by (box_at degree knots.now points.now rational weights.now alone) (spans_of degree knots.now points.now) ++ drop (length (spans_of degree knots.now points.now) * box_width alone) boxes.old }
+    ensures boxes_after { boxes.new ≡ rows_by (box_at_by degree knots.now points.now rational weights.now alone) (spans_of degree knots.now points.now) ++ drop (length (spans_of degree knots.now points.now) * box_width alone) boxes.old }
 {
     let count = points.len() / 3;
     let mut i = 0usize;
@@ -101,13 +196,34 @@ fn bound_each(
         let hi = knots[s + 1];
         if lo < hi {
             let row = row_on(alone, degree, s, knots, points, rational, weights, lo, hi);
-            put_row(alone, marks, boxes, i, s, row);
+            put_row_by(alone, marks, boxes, i, s, row);
             i += 1;
             s += 1;
             continue;
         }
         s += 1;
     }
+}
+
+// The same of whole boxes.
+fn bound_each(
+    degree: usize,
+    knots: &[f64],
+    points: &[f64],
+    rational: bool,
+    weights: &[f64],
+    marks: &mut [u32],
+    boxes: &mut [f64],
+)
+    requires valid_curve { ValidCurve degree knots.now points.now rational weights.now }
+    requires marks_in_bounds { length (spans_of degree knots.now points.now) * 2 ≤ length marks.old }
+    requires boxes_in_bounds { length (spans_of degree knots.now points.now) * 18 ≤ length boxes.old }
+    ensures marks_after { marks.new ≡ rows_by (mark_at degree knots.now points.now rational weights.now) (spans_of degree knots.now points.now) ++ drop (length (spans_of degree knots.now points.now) * 2) marks.old }
+    ensures boxes_after { boxes.new ≡ rows_by (box_at degree knots.now points.now rational weights.now) (spans_of degree knots.now points.now) ++ drop (length (spans_of degree knots.now points.now) * 18) boxes.old }
+{
+    bound_each_by(
+        false, degree, knots, points, rational, weights, marks, boxes,
+    );
 }
 
 // A row for each nonempty span, one validation for all.
@@ -135,9 +251,11 @@ fn bound_all(
     if room.number != 0 {
         return ManyAnswer::Refused(room);
     }
-    bound_each(
-        alone, degree, knots, points, rational, weights, marks, boxes,
-    );
+    if alone {
+        bound_each_by(true, degree, knots, points, rational, weights, marks, boxes);
+        return ManyAnswer::Rows(n);
+    }
+    bound_each(degree, knots, points, rational, weights, marks, boxes);
     ManyAnswer::Rows(n)
 }
 

@@ -2,7 +2,6 @@
 #![tactic(auto)]
 
 pub mod answer;
-mod box_row;
 pub mod boxes;
 pub mod points;
 mod row;

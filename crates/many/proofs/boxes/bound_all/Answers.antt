@@ -1,14 +1,15 @@
 -- `many::boxes::bound_all` meets its contract.
 -- Assumes nothing.
 use lib.ListN.{length}
-use Prim.Native.Nat.{ℕ, ◌≤◌}
+use Prim.Native.Nat.{ℕ, ◌*◌, ◌≤◌}
+use mathlib.Core.Bool.{Bool}
 use native.Mathlib.Omega.{arith}
-use mathlib.Core.Path.{refl, sym, ◌∙◌, ap}
+use mathlib.Core.Path.{refl, sym, ◌∙◌, ap, subst}
 use Rattle.knots.specs.declared.refusal.Refusal.{Refusal}
-use Rattle.many.specs.Spans.{spans_of, box_width, bound_in, mark_at, box_at, spans_start}
+use Rattle.many.specs.Spans.{spans_of, box_width, bound_in, mark_at, box_at_by, spans_start_by}
 use Rattle.many.proofs.Said.{box-says}
 use Rattle.many.proofs.Rows.{meets-refused, meets-answered, table-open, small_product}
-use Rattle.many.proofs.Bounded.{box-width-small, rows_few, table-stops, rooms-stop, spans-fits}
+use Rattle.many.proofs.Bounded.{box-width-small, rows_few, after, table-stops, rooms-stop, spans-fits}
 use Rattle.many.proofs.boxes.bound_all.Goals as goal
 
 pub returns-then-table-ne0 : goal.returns-then-table-ne0
@@ -17,7 +18,7 @@ returns-then-table-ne0 c = let a = c.args in
     let b = c.clear in
     let t = c.table_refusal-table in
     meets-refused
-    (mark_at a.degree a.knots.now a.points.now a.rational a.weights.now) 2 (λ s. refl) (box_at a.degree a.knots.now a.points.now a.rational a.weights.now a.alone) (box_width a.alone)
+    (mark_at a.degree a.knots.now a.points.now a.rational a.weights.now) 2 (λ s. refl) (box_at_by a.degree a.knots.now a.points.now a.rational a.weights.now a.alone) (box_width a.alone)
     (λ s. (box-says a.alone (bound_in a.degree a.knots.now a.points.now a.rational a.weights.now s)).count)
     (spans_of a.degree a.knots.now a.points.now) (length a.marks.now) (length a.boxes.now)
     m.new.numbers b.new.xs m.ensures b.ensures _ _
@@ -55,14 +56,43 @@ returns-then-room-ne0 c = let a = c.args in
     let w = c.box_width-w in
     let r = c.rooms_refusal-room in
     meets-refused
-    (mark_at a.degree a.knots.now a.points.now a.rational a.weights.now) 2 (λ s. refl) (box_at a.degree a.knots.now a.points.now a.rational a.weights.now a.alone) (box_width a.alone)
+    (mark_at a.degree a.knots.now a.points.now a.rational a.weights.now) 2 (λ s. refl) (box_at_by a.degree a.knots.now a.points.now a.rational a.weights.now a.alone) (box_width a.alone)
     (λ s. (box-says a.alone (bound_in a.degree a.knots.now a.points.now a.rational a.weights.now s)).count)
     (spans_of a.degree a.knots.now a.points.now) (length a.marks.now) (length a.boxes.now)
     m.new.numbers b.new.xs m.ensures b.ensures _ _
     (rooms-stop a.degree a.knots.now a.points.now a.rational a.weights.now
     w.result (length a.marks.now) (length a.boxes.now) m.new.numbers b.new.xs m.ensures b.ensures _ t.ensures c.if-table-ne0.false _ n.ensures _ r.ensures
-    ∙ ap (λ (k : ℕ). spans_start a.degree a.knots.now a.points.now a.rational a.weights.now k (length a.marks.now) (length a.boxes.now)) w.ensures)
+    ∙ ap (λ (k : ℕ). spans_start_by a.degree a.knots.now a.points.now a.rational a.weights.now k (length a.marks.now) (length a.boxes.now)) w.ensures)
     c.if-room-ne0.true
+
+pub bound_each_by-requires : goal.bound_each_by-requires
+bound_each_by-requires c = let a = c.args in
+    let t = c.table_refusal-table in
+    let f = spans-fits a.degree a.knots.now a.points.now a.rational a.weights.now c.box_width-w.result _ _ _ c.span_count-n.ensures _ c.rooms_refusal-room.ensures c.if-room-ne0.false in
+    record {
+      valid_curve = table-open a.degree a.knots.now a.points.now a.rational a.weights.now (sym (ap (λ (x : Refusal). x.number) t.ensures) ∙ c.if-table-ne0.false);
+      points_in_bounds = f.0;
+      alone_in_bounds = subst (λ (k : ℕ). length (spans_of a.degree a.knots.now a.points.now) * k ≤ length c.clear.new.xs) (c.box_width-w.ensures ∙ ap box_width c.if-alone.true) f.1;
+    }
+
+pub returns-then-alone : goal.returns-then-alone
+returns-then-alone c = let a = c.args in
+    let m = c.clear_numbers in
+    let b = c.clear in
+    let t = c.table_refusal-table in
+    let n = c.span_count-n in
+    let w = c.box_width-w in
+    let r = c.rooms_refusal-room in
+    meets-answered
+    (mark_at a.degree a.knots.now a.points.now a.rational a.weights.now) 2 (λ s. refl) (box_at_by a.degree a.knots.now a.points.now a.rational a.weights.now a.alone) (box_width a.alone)
+    (λ s. (box-says a.alone (bound_in a.degree a.knots.now a.points.now a.rational a.weights.now s)).count)
+    (spans_of a.degree a.knots.now a.points.now) (length a.marks.now) (length a.boxes.now)
+    m.new.numbers b.new.xs m.ensures b.ensures _ _
+    (rooms-stop a.degree a.knots.now a.points.now a.rational a.weights.now
+    w.result (length a.marks.now) (length a.boxes.now) m.new.numbers b.new.xs m.ensures b.ensures _ t.ensures c.if-table-ne0.false _ n.ensures _ r.ensures
+    ∙ ap (λ (k : ℕ). spans_start_by a.degree a.knots.now a.points.now a.rational a.weights.now k (length a.marks.now) (length a.boxes.now)) w.ensures)
+    c.if-room-ne0.false _ _ _ _ _ n.ensures refl refl c.bound_each_by.ensures.marks_after
+    (c.bound_each_by.ensures.boxes_after ∙ ap (λ (d : Bool). after a.degree a.knots.now a.points.now a.rational a.weights.now d b.new.xs) (sym c.if-alone.true))
 
 pub bound_each-requires : goal.bound_each-requires
 bound_each-requires c = let a = c.args in
@@ -70,15 +100,9 @@ bound_each-requires c = let a = c.args in
     let f = spans-fits a.degree a.knots.now a.points.now a.rational a.weights.now c.box_width-w.result _ _ _ c.span_count-n.ensures _ c.rooms_refusal-room.ensures c.if-room-ne0.false in
     record {
       valid_curve = table-open a.degree a.knots.now a.points.now a.rational a.weights.now (sym (ap (λ (x : Refusal). x.number) t.ensures) ∙ c.if-table-ne0.false);
-      points_in_bounds = f.0;
-      alone_in_bounds = rw (← c.box_width-w.ensures) f.1;
+      marks_in_bounds = f.0;
+      boxes_in_bounds = subst (λ (k : ℕ). length (spans_of a.degree a.knots.now a.points.now) * k ≤ length c.clear.new.xs) (c.box_width-w.ensures ∙ ap box_width c.if-alone.false) f.1;
     }
-
-pub shape_of-marks : goal.shape_of-marks
-shape_of-marks c = c.marks-2-1.given ∙ c.marks-1.given
-
-pub shape_of-boxes : goal.shape_of-boxes
-shape_of-boxes c = c.boxes-2-1.given ∙ c.boxes-1.given
 
 pub returns : goal.returns
 returns c = let a = c.args in
@@ -89,11 +113,12 @@ returns c = let a = c.args in
     let w = c.box_width-w in
     let r = c.rooms_refusal-room in
     meets-answered
-    (mark_at a.degree a.knots.now a.points.now a.rational a.weights.now) 2 (λ s. refl) (box_at a.degree a.knots.now a.points.now a.rational a.weights.now a.alone) (box_width a.alone)
+    (mark_at a.degree a.knots.now a.points.now a.rational a.weights.now) 2 (λ s. refl) (box_at_by a.degree a.knots.now a.points.now a.rational a.weights.now a.alone) (box_width a.alone)
     (λ s. (box-says a.alone (bound_in a.degree a.knots.now a.points.now a.rational a.weights.now s)).count)
     (spans_of a.degree a.knots.now a.points.now) (length a.marks.now) (length a.boxes.now)
     m.new.numbers b.new.xs m.ensures b.ensures _ _
     (rooms-stop a.degree a.knots.now a.points.now a.rational a.weights.now
     w.result (length a.marks.now) (length a.boxes.now) m.new.numbers b.new.xs m.ensures b.ensures _ t.ensures c.if-table-ne0.false _ n.ensures _ r.ensures
-    ∙ ap (λ (k : ℕ). spans_start a.degree a.knots.now a.points.now a.rational a.weights.now k (length a.marks.now) (length a.boxes.now)) w.ensures)
-    c.if-room-ne0.false _ _ _ _ _ n.ensures refl refl c.bound_each.ensures.marks_after c.bound_each.ensures.boxes_after
+    ∙ ap (λ (k : ℕ). spans_start_by a.degree a.knots.now a.points.now a.rational a.weights.now k (length a.marks.now) (length a.boxes.now)) w.ensures)
+    c.if-room-ne0.false _ _ _ _ _ n.ensures refl refl c.bound_each.ensures.marks_after
+    (c.bound_each.ensures.boxes_after ∙ ap (λ (d : Bool). after a.degree a.knots.now a.points.now a.rational a.weights.now d b.new.xs) (sym c.if-alone.false))

@@ -1,7 +1,6 @@
 -- `many::points::eval_each` meets its contract.
 -- Assumes nothing.
 use native.Mathlib.Omega.{arith}
-use Prim.Native.Nat.{◌-◌}
 use mathlib.Core.Path.{refl, ◌∙◌, ap}
 use mathlib.Core.List.{[], ◌∷◌}
 use Rattle.doubles.specs.Run.{at}

@@ -1,6 +1,5 @@
 -- Every number is set to 0.
 -- Assumes nothing.
-use Prim.Native.Nat.{◌-◌}
 use Rattle.knots.proofs.Fill.{filled_more, filled-all}
 use Rattle.many.proofs.store.clear_numbers.Goals as goal
 

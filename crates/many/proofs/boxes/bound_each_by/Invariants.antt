@@ -1,10 +1,10 @@
--- `many::boxes::bound_each` meets its contract.
+-- `many::boxes::bound_each_by` meets its contract.
 -- Assumes nothing.
 use Prim.Native.Nat.{◌-◌}
 use mathlib.Core.Path.{◌≡◌}
 use Rattle.knots.specs.Curve.{count_of}
 use Rattle.many.proofs.Bounded.{InSpans}
-use Rattle.many.proofs.boxes.bound_each.Given as goal
+use Rattle.many.proofs.boxes.bound_each_by.Given as goal
 
 abbrev pub invariant-loop-s : goal.invariant-loop-s
 invariant-loop-s l = (l.count ≡ count_of l.points) × InSpans l.alone l.degree l.knots l.points l.rational l.weights l.initial.marks l.initial.boxes l.marks l.boxes l.i l.s
