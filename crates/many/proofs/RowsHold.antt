@@ -211,8 +211,8 @@ module _ (d : Bool) (p : ℕ) (ks ps : List Float) (g : Bool) (ws : List Float) 
           let h = row-holds p ks ps g ws v s z.first (omega arith) z.wide in
           row_by d p ks ps g ws marks boxes s i (λ t from upto. back.boxed _ (h t from upto)) (subst NotIdle back.number (bound-idle p ks ps ws g (at ks s) (at ks (s + 1))))
 
-    pub rows-hold : EachHolds (Row marks boxes) marks A
-    rows-hold = record { idle = start-idle; each = λ n e. go n (eqb r.number 0) (eqb-true r.number 0) (sym M.answered ∙ e) }
+    pub rows-hold-by : EachHolds (Row marks boxes) marks A
+    rows-hold-by = record { idle = start-idle; each = λ n e. go n (eqb r.number 0) (eqb-true r.number 0) (sym M.answered ∙ e) }
       where
         go : (n : ℕ) (x : Bool) → (x ≡ true → r.number ≡ 0) → cond x (Rows (length spans)) (Refused r) ≡ Rows n → (i : ℕ) → i < n → Row marks boxes (get_or marks (i * 2) 0) i
         go n false z e i l = absurd (subst Answered (sym e) tt)
@@ -230,8 +230,12 @@ module _ (p : ℕ) (ks ps : List Float) (g : Bool) (ws : List Float) (a b : ℕ)
   pub spans-meet : BoxesMeet p ks ps g ws false a b marks boxes A → SpansMeet p ks ps g ws a b marks boxes A
   spans-meet M = subst Meet (start-same p ks ps g ws a b) M
 
-  pub spans-promised : SpansMeet p ks ps g ws a b marks boxes A → SpansMeet p ks ps g ws a b marks boxes A × RowsHold p ks ps g ws marks boxes A
-  spans-promised M = let h = rows-hold false p ks ps g ws a b marks boxes A (subst Meet (sym (start-same p ks ps g ws a b)) M) in (M, record { idle = h.idle; each = h.each })
+  module _ (M : SpansMeet p ks ps g ws a b marks boxes A) where
+    pub rows-hold : RowsHold p ks ps g ws marks boxes A
+    rows-hold = let h = rows-hold-by false p ks ps g ws a b marks boxes A (subst Meet (sym (start-same p ks ps g ws a b)) M) in record { idle = h.idle; each = h.each }
+
+    pub spans-promised : SpansMeet p ks ps g ws a b marks boxes A × RowsHold p ks ps g ws marks boxes A
+    spans-promised = (M, rows-hold)
 
   pub points-promised : PointSpansMeet p ks ps g ws a b marks boxes A → PointSpansMeet p ks ps g ws a b marks boxes A × PointRowsHold p ks ps g ws marks boxes A
-  points-promised M = (M, rows-hold true p ks ps g ws a b marks boxes A M)
+  points-promised M = (M, rows-hold-by true p ks ps g ws a b marks boxes A M)
