@@ -84,16 +84,26 @@ fn asked(
     text.or(outside)
 }
 
+/// A curve as it is made, and behind one in four another that is flattened.
 fn curve(desk: &mut Desk) -> Option<String> {
+    let case = CurveCase::made(&mut desk.r, &CARE);
+    let text = bounded(desk, &case);
+    if text.is_some() || desk.r.below(4) != 0 {
+        return text;
+    }
     let mut case = CurveCase::made(&mut desk.r, &CARE);
     flat::flattened(&mut desk.r, &mut case.table);
+    bounded(desk, &case)
+}
+
+fn bounded(desk: &mut Desk, case: &CurveCase) -> Option<String> {
     case.table.features(&mut desk.tally.features);
     flat::features(&case.table, &mut desk.tally.features[FEATURES.len()..]);
     desk.tally.count(case.table.doubles().take(400).chain([&case.range.0, &case.range.1]));
-    let look = |desk: &mut Desk, b: &[f64]| exact::curve(&mut desk.r, &case, b, &mut desk.tally);
+    let look = |desk: &mut Desk, b: &[f64]| exact::curve(&mut desk.r, case, b, &mut desk.tally);
     let want = case.rust();
     let text = asked(desk, 0, &want, false, |out| case.ours(out), || case.literal(), look);
-    text.or(point(desk, &case, &want))
+    text.or(point(desk, case, &want))
 }
 
 /// The point alone, beside the same answer of the Rust's.

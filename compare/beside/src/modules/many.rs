@@ -194,7 +194,9 @@ fn case(_: Place, desk: &mut Desk) -> Option<String> {
     match desk.r.below(4) {
         0 => points(desk, Order::One, mode),
         1 => points(desk, Order::Two, mode),
-        2 => spans(desk, false),
-        _ => spans(desk, true),
+        _ => {
+            let text = spans(desk, false);
+            if text.is_some() || desk.r.below(2) != 0 { text } else { spans(desk, true) }
+        }
     }
 }
