@@ -11,7 +11,8 @@ use lib.Signed.{◌≤ℤ◌, lt_z, lt_z_no}
 use lib.Ieee.{Float, nan, inf, fin, Format, low, up, down, round, add, mul, div, unlike, fits}
 use lib.Ieee.Fits.{down_pos, up_pos, round-fits}
 use lib.Ieee.Scale.{finite}
-use Rattle.ring.specs.Int.{◌⊞◌, ◌⊠◌, ⊟◌, z1, zring, z-ring, den, ◌∗◌, den-mul, den-0, nonneg, nonneg-times}
+use Rattle.ring.specs.Int.{◌⊞◌, ◌⊠◌, ⊟◌, z1, den, ◌∗◌, den-mul, den-0, nonneg, nonneg-times}
+use Rattle.ring.proofs.Solver.{zring, z-ring}
 use Rattle.exact.specs.Rational.{ℚ, frac, ◌+q◌, ◌*q◌, ◌≤q◌}
 use Rattle.exact.proofs.Laws.{frac-eq, frac-add, frac-mul}
 use Rattle.exact.proofs.Field.{≤-refl, frac-le}

@@ -9,7 +9,8 @@ use lib.IntN.{ℤ, pos}
 use lib.Dec.{T, ltb, ltb→lt, nltb→le}
 use lib.Ieee.{Float, nan, inf, fin, Format, up, down, round, sum, add, sub, mul, fits, neg}
 use lib.Ieee.Fits.{down_pos, add-fits}
-use Rattle.ring.specs.Int.{◌⊞◌, ⊟◌, zring, z-ring}
+use Rattle.ring.specs.Int.{◌⊞◌, ⊟◌}
+use Rattle.ring.proofs.Solver.{zring, z-ring}
 use Rattle.exact.specs.Rational.{ℚ, frac, ◌+q◌, ◌-q◌, ◌*q◌, negq, ◌≤q◌}
 use Rattle.exact.proofs.Field.{≤_trans, ≤-eq, +-mono, sub_is}
 use Rattle.doubles.specs.Value.{signed, ratio, val, Lower, Upper, Number, ◌⊑◌}

@@ -12,7 +12,8 @@ use lib.IntN.{ℤ, pos, negsuc}
 use lib.Ieee.Scale.{finite}
 use lib.Ieee.Fits.{down_pos, up_pos}
 use lib.Ieee.{Float, nan, inf, fin, up, down, lt, below, unlike}
-use Rattle.ring.specs.Int.{◌⊞◌, ◌⊠◌, ⊟◌, z0, zring, z-ring, den, ◌∗◌, suc-prod, nonneg}
+use Rattle.ring.specs.Int.{◌⊞◌, ◌⊠◌, ⊟◌, z0, den, ◌∗◌, suc-prod, nonneg}
+use Rattle.ring.proofs.Solver.{zring, z-ring}
 use Rattle.exact.specs.Rational.{frac, ◌+q◌, ◌-q◌, ◌*q◌, negq, inv, nn, q0, q1, ◌≤q◌, ◌<q◌}
 use Rattle.exact.proofs.Laws.{frac-0, frac-add, frac-mul, frac-neg}
 use Rattle.exact.proofs.Field.{not-both}

@@ -10,9 +10,9 @@ use Prim.Native.Nat.{ℕ}
 use lib.Dec.{T, T_prop}
 use lib.IntN.{ℤ}
 use Rattle.ring.specs.Ring as Ring
-use Rattle.ring.specs.Solved as Solved
-use Rattle.ring.specs.Solved.{atoms}
-use Rattle.ring.specs.Solved.{Re}
+use Rattle.ring.proofs.Solved as Solved
+use Rattle.ring.proofs.Solved.{atoms}
+use Rattle.ring.proofs.Solved.{Re}
 use Rattle.ring.specs.Int.{◌⊞◌, ◌⊠◌, ⊟◌, den, nonneg, z0, z1, ◌∗◌}
 use Rattle.exact.specs.Rational.{ℚ, frac, ◌+q◌, ◌-q◌, ◌*q◌, ◌/q◌, negq, inv, q0, q1, nn, ◌≤q◌, ◌<q◌}
 use Rattle.exact.proofs.Laws.{ℚ-ring, nn-0, nn-add, nn-mul, nn-antisym, nn-total, mul-inv, inv-0}

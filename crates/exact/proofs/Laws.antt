@@ -9,7 +9,8 @@ use Prim.Native.Nat.{ℕ, zero, suc}
 use lib.Dec.{T, T_prop}
 use lib.IntN.{ℤ, pos, negsuc}
 use Rattle.ring.specs.Ring.{CommRing}
-use Rattle.ring.specs.Int.{◌⊞◌, ◌⊠◌, ⊟◌, z0, z1, zring, z-ring, den, ◌∗◌, den-mul, den-0, nonneg, nonneg-den, nonneg-add, nonneg-mul, nonneg-antisym, nonneg-total}
+use Rattle.ring.specs.Int.{◌⊞◌, ◌⊠◌, ⊟◌, z0, z1, den, ◌∗◌, den-mul, den-0, nonneg, nonneg-den, nonneg-add, nonneg-mul, nonneg-antisym, nonneg-total}
+use Rattle.ring.proofs.Solver.{zring, z-ring}
 use Rattle.exact.specs.Rational.{ℚ, frac, ◌+q◌, ◌*q◌, negq, q0, q1, inv, nn}
 
 pub ℚ-set : IsSet ℚ

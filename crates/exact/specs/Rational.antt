@@ -5,7 +5,8 @@ use std.Quotient.{cls, eq/, /_set, /_rec, /_rec₂}
 use Rattle.std.specs.Prelude.{◌≡◌, refl, Bool, not, ◌≢◌, [], ◌∷◌, ℕ, zero, suc, T, ℤ, pos, negsuc, nat_abs}
 use Rattle.std.proofs.Common.{sym, ◌∙◌, ap, true≢false, arith}
 use Rattle.std.proofs.Math.Bool.{Bool-set}
-use Rattle.ring.specs.Int.{◌⊞◌, ◌⊠◌, ⊟◌, z0, z1, zring, z-ring, z-combine, den, ◌∗◌, den-mul, nonneg, nonneg-times, den-cancel-0}
+use Rattle.ring.specs.Int.{◌⊞◌, ◌⊠◌, ⊟◌, z0, z1, z-combine, den, ◌∗◌, den-mul, nonneg, nonneg-times, den-cancel-0}
+use Rattle.ring.proofs.Solver.{zring, z-ring}
 
 -- num / (dm + 1)
 pub record Frac : Type 0 where

@@ -1,13 +1,10 @@
--- The integers as an ordered commutative ring, with operations that stay shut, and `zring`, the solver's list for them. Assumes nothing.
-use Rattle.std.specs.Prelude.{◌≡◌, refl, Bool, true, false, not, List, [], ◌∷◌, ℕ, zero, suc, ◌+◌, ◌*◌, T, ℤ, pos, negsuc, nat_abs}
+-- The integers as an ordered commutative ring, with operations that stay shut. Assumes nothing.
+use Rattle.std.specs.Prelude.{◌≡◌, refl, Bool, true, false, not, ℕ, zero, suc, ◌+◌, ◌*◌, T, ℤ, pos, negsuc, nat_abs}
 use Rattle.std.proofs.Common.{sym, ◌∙◌, ap, ap₂, arith}
 use Rattle.std.proofs.Math.IntN as Z
 use Rattle.std.proofs.Math.IntN.{suc_ℤ, pred_ℤ, ◌+ℤ◌, ◌*ℤ◌, ◌-ℤ◌}
 use Rattle.ring.specs.Ring as Ring
-use Rattle.ring.specs.Solved as Solved
 use Rattle.ring.specs.Ring.{CommRing}
-use Rattle.ring.specs.Solved.{atoms}
-use Rattle.ring.specs.Solved.{Re}
 
 infixl 6 ◌⊞◌
 infixl 7 ◌⊠◌
@@ -78,33 +75,8 @@ unfolding ◌⊞◌ ◌⊠◌ ⊟◌ z0 z1
   mul-add = mul-add;
 }
 
--- ---- the solver
-
-abbrev pub zr-add : {l : List ℤ} {x y : ℤ} → Re ℤ-ring l x → Re ℤ-ring l y → Re ℤ-ring l (x ⊞ y)
-zr-add {l} r s = Solved.re-add ℤ-ring l r s
-
-abbrev pub zr-mul : {l : List ℤ} {x y : ℤ} → Re ℤ-ring l x → Re ℤ-ring l y → Re ℤ-ring l (x ⊠ y)
-zr-mul {l} r s = Solved.re-mul ℤ-ring l r s
-
-abbrev pub zr-neg : {l : List ℤ} {x : ℤ} → Re ℤ-ring l x → Re ℤ-ring l (⊟ x)
-zr-neg {l} r = Solved.re-neg ℤ-ring l r
-
-abbrev pub zr-0 : {l : List ℤ} → Re ℤ-ring l z0
-zr-0 {l} = Solved.re-o ℤ-ring l
-
-abbrev pub zr-1 : {l : List ℤ} → Re ℤ-ring l z1
-zr-1 {l} = Solved.re-i ℤ-ring l
-
-pub ruleset zring = (atoms, zr-0, zr-1, zr-add, zr-mul, zr-neg)
-
-pub z-ring : (l : List ℤ) {x y : ℤ} (r : Re ℤ-ring l (x ⊞ ⊟ y)) → T (Ring.is_nil r.code) → x ≡ y
-z-ring l r h = Solved.ring ℤ-ring l r h
-
 pub z-combine : (k : ℤ) {u v x y : ℤ} → u ≡ v → x ⊞ k ⊠ v ≡ y ⊞ k ⊠ u → x ≡ y
 z-combine k h e = Ring.combine ℤ-ring k h e
-
-example : (a b c : ℤ) → (a ⊞ ⊟ b) ⊠ (a ⊞ b) ⊠ c ≡ a ⊠ a ⊠ c ⊞ ⊟ (b ⊠ b ⊠ c)
-example a b c = z-ring (a ∷ b ∷ c ∷ []) (search zring depth 20) tt
 
 -- ---- a positive denominator, by the number before it
 
@@ -183,7 +155,3 @@ unfolding ◌⊠◌ den z0
 den-cancel-0 (pos zero) d h = refl
 den-cancel-0 (pos (suc a)) d h = let e : suc a * suc d ≡ 0 = pos_inj h in absurd (omega (arith, suc-prod a d))
 den-cancel-0 (negsuc a) d h = let e : suc (a * d + a + d) ≡ 0 = ap nat_abs (rw suc-prod at h) in absurd (omega arith)
-
-pub den-cancel : (a b : ℤ) (d : ℕ) → a ⊠ den d ≡ b ⊠ den d → a ≡ b
-den-cancel a b d h = Ring.eq-of-sub ℤ-ring a b (den-cancel-0 (a ⊞ ⊟ b) d
-    (z-combine z1 h (z-ring (a ∷ b ∷ den d ∷ []) (search zring depth 20) tt)))

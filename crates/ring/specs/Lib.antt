@@ -1,3 +1,2 @@
 pub mod Ring
-pub mod Solved
 pub mod Int

@@ -1,4 +1,4 @@
--- `basis::ders::in_reach-true` meets its contract.
+-- `basis::ders::in_reach` meets its contract.
 -- Assumes nothing.
 use Prim.Native.Nat.{◌+◌}
 use native.Mathlib.Omega.{arith}
