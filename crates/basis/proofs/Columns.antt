@@ -1,6 +1,6 @@
 -- A turn of the loop that makes a column of the table of basis functions.
 -- Assumes nothing.
-use Prim.Native.Nat.{ℕ, ◌+◌, ◌-◌, ◌*◌, ◌≤◌, ◌<◌, zero-le}
+use Prim.Native.Nat.{ℕ, ◌+◌, ◌-◌, ◌*◌, ◌≤◌, ◌<◌}
 use mathlib.Core.Path.{◌≡◌, refl, ◌∙◌, ap, ap₂}
 use mathlib.Core.List.{List}
 use native.Mathlib.Omega.{arith}
@@ -16,7 +16,6 @@ use Rattle.basis.specs.Floats.{floats}
 
 -- t₀ is the table as the column is begun, and t as i of its functions are there
 pub record InColumn (j : ℕ) (l r : ℕ → Float) (t₀ t : List Float) (saved : Float) (i : ℕ) : Type 0 where
-  pub upto : i ≤ j
   pub long : length t ≡ length t₀
   pub carry : saved ≡ carry_of floats l r (λ k. cell t₀ k (j - 1)) j i
   pub column : (k : ℕ) → k < i → cell t k j ≡ part_of floats l r (λ k. cell t₀ k (j - 1)) j k
@@ -27,7 +26,6 @@ module _ (j : ℕ) (l r : ℕ → Float) (t₀ : List Float) where
   pub column-start : InColumn j l r t₀ t₀ floats.nought 0
   unfolding carry_of
   column-start = record {
-    upto = zero-le;
     long = refl;
     carry = refl;
     column = λ k b. absurd (omega arith);
@@ -51,7 +49,6 @@ module _ (j : ℕ) (l r : ℕ → Float) (t₀ : List Float) where
         ap (λ (m : ℕ). at t' m) place ∙ (put-row t j i i (j - 1) w (omega arith) (omega arith) (λ e. omega arith) ∙ H.rest i (j - 1) lt (omega arith)) in
         let share : sh ≡ share_of floats l r f j i = se ∙ ap₂ (λ (a b : Float). div binary64 a b) read we in
         record {
-          upto = omega arith;
           long = length-set t' (i * 65 + j) v ∙ L';
           carry = rw add-one (ap (λ (x : Float). mul binary64 (l (j - i)) x) share);
           column = below_more (λ k. cell (set t' (i * 65 + j) v) k j ≡ part_of floats l r f j k) i

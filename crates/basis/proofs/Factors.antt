@@ -17,16 +17,16 @@ use Rattle.exact.specs.Scheme.{derivative_of, table_of, factor_of}
 use Rattle.basis.specs.Floats.{floats}
 
 -- the columns below j are done
-pub record InScale (k p : ℕ) (f : Float) (t₀ t : List Float) (j : ℕ) : Type 0 where
+pub record InScale (k : ℕ) (f : Float) (t₀ t : List Float) (j : ℕ) : Type 0 where
   pub long : length t ≡ 195
   pub row : (i : ℕ) → i < j → cell t k i ≡ mul binary64 (cell t₀ k i) f
   pub rest : (h i : ℕ) → i < 65 → (h ≡ k → ⊥) ⊎ (j ≤ i) → cell t h i ≡ cell t₀ h i
 
 module _ (k p : ℕ) (K : k ≤ 2) (P : p ≤ 64) (f : Float) (t₀ : List Float) where
-  pub scale-start : length t₀ ≡ 195 → InScale k p f t₀ t₀ 0
+  pub scale-start : length t₀ ≡ 195 → InScale k f t₀ t₀ 0
   scale-start L = record { long = L; row = λ i b. absurd (omega arith); rest = λ h i J q. refl }
 
-  module _ (t : List Float) (j : ℕ) (b : j ≤ p) (I : InScale k p f t₀ t j) where
+  module _ (t : List Float) (j : ℕ) (b : j ≤ p) (I : InScale k f t₀ t j) where
     value : Float
     value = mul binary64 (cell t k j) f
 
@@ -43,14 +43,14 @@ module _ (k p : ℕ) (K : k ≤ 2) (P : p ≤ 64) (f : Float) (t₀ : List Float
     rest' h i J (inl q) = put-row t k j h i (mul binary64 (cell t k j) f) (omega arith) J q ∙ I.rest h i J (inl q)
     rest' h i J (inr l) = put-col t k j h i (mul binary64 (cell t k j) f) (omega arith) J (λ q. omega arith) ∙ I.rest h i J (inr (omega arith))
 
-    pub scale-more : InScale k p f t₀ (set t (k * 65 + j) (mul binary64 (cell t k j) f)) (j + 1)
+    pub scale-more : InScale k f t₀ (set t (k * 65 + j) (mul binary64 (cell t k j) f)) (j + 1)
     scale-more = record {
       long = length-set t (k * 65 + j) (mul binary64 (cell t k j) f) ∙ I.long;
       row = λ i l. row' i (eq-or-lt_of_le (omega arith));
       rest = rest';
     }
 
-  pub scale-end : (t : List Float) → InScale k p f t₀ t (p + 1) → Scaled k p f t₀ t
+  pub scale-end : (t : List Float) → InScale k f t₀ t (p + 1) → Scaled k p f t₀ t
   scale-end t I = record {
     long = I.long;
     row = λ j b. I.row j (omega arith);

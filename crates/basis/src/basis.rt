@@ -11,8 +11,7 @@ fn column(j: usize, left: &[f64; 65], right: &[f64; 65], ndu: &mut [f64])
     ensures { ColumnDone j (λ k. at left.now k) (λ k. at right.now k) ndu.old ndu.new }
 {
     let mut saved = 0.0;
-    let mut r = 0usize;
-    while r < j {
+    for r in 0..j {
         let i = r + 1;
         let k = j - r;
         let a = right[i];
@@ -25,7 +24,6 @@ fn column(j: usize, left: &[f64; 65], right: &[f64; 65], ndu: &mut [f64])
         let share = ndu[past] / width;
         ndu[up] = saved + a * share;
         saved = b * share;
-        r += 1;
     }
     let end = j * 65 + j;
     ndu[end] = saved;
@@ -42,13 +40,11 @@ pub fn table(span: usize, u: f64, p: usize, knots: &[f64], ndu: &mut [f64])
     let mut left = [0.0; 65];
     let mut right = [0.0; 65];
     ndu[0] = 1.0;
-    let mut j = 1usize;
-    while j <= p {
+    for j in 1..=p {
         let a = span + 1 - j;
         let b = span + j;
         left[j] = u - knots[a];
         right[j] = knots[b] - u;
         column(j, &left, &right, ndu);
-        j += 1;
     }
 }

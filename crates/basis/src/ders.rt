@@ -59,12 +59,10 @@ fn raw_derivatives(
     ensures { RawDers p n (left_of knots.now span u) (right_of knots.now span u) ders.old ders.new }
 {
     table(span, u, p, knots, ndu);
-    let mut r = 0usize;
-    while r <= p {
+    for r in 0..=p {
         let from = r * 65 + p;
         ders[r] = ndu[from];
         function_ders(r, p, n, ndu, ders);
-        r += 1;
     }
 }
 
@@ -75,11 +73,9 @@ fn scale_row(k: usize, p: usize, f: f64, ders: &mut [f64])
     requires ders_len { length ders.old ≡ 195 }
     ensures { Scaled k p f ders.old ders.new }
 {
-    let mut j = 0usize;
-    while j <= p {
+    for j in 0..=p {
         let i = k * 65 + j;
         ders[i] = ders[i] * f;
-        j += 1;
     }
 }
 

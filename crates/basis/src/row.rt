@@ -49,17 +49,14 @@ fn row_middle(
     ensures { MiddleDone (cell ndu.now) p r k (at from.now) to.old to.new s result }
 {
     let pk = p - k;
-    let end = middle_end(r, k, p);
     let mut d = s;
-    let mut j = first_place(r, k);
-    while j < end {
+    for j in first_place(r, k)..middle_end(r, k, p) {
         let i = shifted(r, k, j);
         let under = (pk + 1) * 65 + i;
         let over = i * 65 + pk;
         let x = (from[j] - from[j - 1]) / ndu[under];
         to[j] = x;
         d = d + x * ndu[over];
-        j += 1;
     }
     d
 }

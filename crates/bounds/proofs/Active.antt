@@ -25,7 +25,8 @@ use Rattle.interval.specs.Inside.{Inside}
 use Rattle.interval.specs.Ops.{point_of}
 use Rattle.interval.proofs.Contain.{point-inside}
 use Rattle.knots.specs.Below.{all_below}
-use Rattle.knots.specs.Refusal.{refuse, accepted, placed, or_else, knots-unordered, point-not-finite, weight-bad, length-bad}
+use Rattle.knots.specs.Refusal.{refuse, accepted, placed, or_else}
+use Rattle.knots.specs.declared.refusal.Reason.TheVariants.{KnotsUnordered, PointNotFinite, WeightBad, LengthBad}
 use Rattle.knots.specs.Knots.{all_finite, in_order, ordered}
 use Rattle.knots.specs.Curve.{count_of, is_weight, all_weights, any_long, Short, ValidCurve}
 use Rattle.knots.specs.Shape.{curve_shape}
@@ -147,9 +148,9 @@ module _ (p s : ℕ) (ks ps : List Float) (r : Bool) (ws : List Float) where
         let d = Sh.knots.degree in
         let L = Sh.knots.long in
         let t = Sh.triples in
-        let a = passed (not (ordered (part (s - p + 1) (s + p + 1) ks))) (placed _ (refuse knots-unordered)) _ (λ e. omega arith) k in
-        let b = passed (not (all_finite (part ((s - p) * 3) (s * 3 + 3) ps))) (placed _ (refuse point-not-finite)) _ (λ e. omega arith) a.1 in
-        let c = passed (r && not (all_weights (part (s - p) (s + 1) ws))) (placed _ (refuse weight-bad)) accepted (λ e. omega arith) b.1 in
+        let a = passed (not (ordered (part (s - p + 1) (s + p + 1) ks))) (placed _ (refuse KnotsUnordered)) _ (λ e. omega arith) k in
+        let b = passed (not (all_finite (part ((s - p) * 3) (s * 3 + 3) ps))) (placed _ (refuse PointNotFinite)) _ (λ e. omega arith) a.1 in
+        let c = passed (r && not (all_weights (part (s - p) (s + 1) ws))) (placed _ (refuse WeightBad)) accepted (λ e. omega arith) b.1 in
         let o = part-ordered ks (s - p + 1) (s + p + 1) (omega arith) (not-false _ a.0) in
         let f = part-all ps ((s - p) * 3) (s * 3 + 3) (omega arith) finite (not-false _ b.0) in
         record {
@@ -197,7 +198,7 @@ module _ (p s : ℕ) (ks ps : List Float) (r : Bool) (ws : List Float) where
     pub started : (start_refusal p s ks ps r ws lo hi).number ≡ 0 → Started
     unfolding start_refusal place_refusal taken_span
     started k =
-        let a = passed (any_long ks ps r ws) (refuse length-bad) _ (λ e. omega arith) k in
+        let a = passed (any_long ks ps r ws) (refuse LengthBad) _ (λ e. omega arith) k in
         let b = or_else-none (curve_shape p ks ps r ws) (place_refusal p s ks ps r ws lo hi) a.1 in
         go (shaped p ks ps r ws b.0) (short ks ps r ws a.0) (leb p s && ltb s (count_of ps)) refl b.1
       where

@@ -4,7 +4,7 @@ use mathlib.Core.Path.{◌≡◌, refl, sym, ◌∙◌, subst}
 use mathlib.Core.Bool.{Bool, true, false, ◌&&◌, cond}
 use mathlib.Core.Logic.{◌≢◌}
 use mathlib.Core.List.{List, [], ◌∷◌}
-use Prim.Native.Nat.{ℕ, zero, suc, ◌+◌, ◌-◌, ◌*◌, ◌/◌, ◌≤◌, ◌<◌}
+use Prim.Native.Nat.{ℕ, suc, ◌+◌, ◌-◌, ◌≤◌, ◌<◌}
 use native.Mathlib.Nat.{add-zero}
 use native.Mathlib.Numerals.{add-one}
 use native.Mathlib.Omega.{arith}
@@ -22,14 +22,9 @@ use Rattle.interval.proofs.Contain.{Formed}
 use Rattle.interval.specs.Inside.{Inside}
 use Rattle.interval.specs.Ops.{point_of, new_of, reciprocal_of}
 use Rattle.interval.specs.declared.Interval.{Interval}
-use Rattle.interval.specs.declared.Quotient.{Quotient}
-use Rattle.interval.specs.declared.Quotient.TheVariants as Q
-use Rattle.interval.specs.declared.New.TheVariants.{Made, Nothing}
 use Rattle.jets.specs.declared.jet.Jet.{Jet}
 use Rattle.jets.specs.declared.net.Control.{Control}
 use Rattle.bounds.specs.declared.start.Weights.{Weights}
-use Rattle.bounds.specs.declared.start.Weights.TheVariants as W
-use Rattle.jets.specs.declared.cartesian.BoundAnswer.{BoundAnswer}
 use Rattle.jets.specs.Net.{mix_jet, mix_of, net_of, refusal_levels, last_by, deboor_of}
 use Rattle.bounds.specs.Start.{weights_of, max_from, min_from, start_at, row_by, row_of}
 use Rattle.runs.specs.Point as P
@@ -55,6 +50,11 @@ use Rattle.runs.specs.Fraction.{weight_value, coordinate_value}
 use Rattle.knots.specs.Curve.{count_of, curve_refusal, ValidCurve}
 use Rattle.knots.proofs.Curves.{valid-curve}
 use Rattle.doubles.specs.Run.{val_at}
+use Rattle.std.specs.Prelude.{Some, None, Result, Ok, Err}
+use Rattle.interval.specs.declared.DivideError.{DivideError}
+use Rattle.interval.specs.declared.DivideError.TheVariants.{HoldsZero, Unbounded}
+use Rattle.jets.specs.declared.cartesian.Bounds.{Bounds}
+use Rattle.knots.specs.declared.refusal.Refusal.{Refusal}
 
 -- ---- on one span
 
@@ -169,7 +169,7 @@ module _ (p s : ℕ) (ks ps ws : List Float) (r : Bool) (lo hi : Float) (A : Act
   exact-eq : (P : ℕ → ℚ) → over (HT (H P)) (HT HW) (P b) ≡ EX P
   exact-eq P = three-eq (over (HT (H P)) (HT HW) (P b)) (EX P) (point-eq P) (deriv-eq P) (no-dv (work U t p s (H P) p p) wh)
 
-  abbrev Good : BoundAnswer → Type 0
+  abbrev Good : Result Bounds Refusal → Type 0
   Good A = Boxes A (EX (X ps)) (EX (Y ps)) (EX (Z ps))
 
   module _ (scale : Float) (bound : Interval) (cut : Cut (min_from (inf false) w (suc p)) (max_from zero+ w (suc p)) scale bound) where
@@ -183,16 +183,16 @@ module _ (p s : ℕ) (ks ps ws : List Float) (r : Bool) (lo hi : Float) (A : Act
       start-in m l =
           control-in (P.point_of ps (s - p + m)) (P.point_of ps (s - p)) (weight_at r ws (s - p + m)) q σ (A.points m l) first-finite (A.heavy m l).held k
 
-      run : (j : Jet) → JetIn j t q1 q0 → refusal_levels ks p s j 1 p ≡ 0 → (sel : Control → Jet) → ((α : Jet) (a b : Control) → sel (mix_of α a b) ≡ mix_jet α (sel a) (sel b))
+      run : (j : Jet) → JetIn j t q1 q0 → refusal_levels ks p s j 1 p ≡ Ok tt → (sel : Control → Jet) → ((α : Jet) (a b : Control) → sel (mix_of α a b) ≡ mix_jet α (sel a) (sel b))
           → (C : ℕ → ℚ) → ((m : ℕ) → m ≤ p → JetIn (sel (net m)) (C m) q0 q0) → JetIn (sel (net_of ks p s j net p p)) (work U t p s C p p) (dwork U t p s C (λ m. q0) p p) q0
       unfolding dwork
       run j h e sel mixes C start = net-in ks p s j knots A.first room (around-held A) t q1 q0 h sel mixes net C (dwork U t p s C (λ m. q0)) (λ l j. q0)
           (along U t p s C (λ m. q0)) (nowhere U t p s C) start (none ks p s j e) p p (omega arith)
 
-      levels-in : (j : Jet) → JetIn j t q1 q0 → (k : ℕ) → refusal_levels ks p s j 1 p ≡ k → Good (net_by (P.point_of ps (s - p)) bound (last_by k (net_of ks p s j net p p)))
+      levels-in : (j : Jet) → JetIn j t q1 q0 → (k : Result (Unit {0}) Refusal) → refusal_levels ks p s j 1 p ≡ k → Good (net_by (P.point_of ps (s - p)) bound (last_by k (net_of ks p s j net p p)))
       unfolding last_by mix_of
-      levels-in j h (suc k) e = subst Given e (levels-given ks p s j knots A.first room (around-held A) t q1 q0 h 0 p (omega arith))
-      levels-in j h zero e =
+      levels-in j h (Err k) e = subst Given e (levels-given ks p s j knots A.first room (around-held A) t q1 q0 h 0 p (omega arith))
+      levels-in j h (Ok k) e =
           boxes-eq (cartesian_of (net_of ks p s j net p p) (P.point_of ps (s - p)) bound) (over (HT (H (X ps))) (HT HW) (X ps b)) (over (HT (H (Y ps))) (HT HW) (Y ps b))
           (over (HT (H (Z ps))) (HT HW) (Z ps b))
           (EX (X ps)) (EX (Y ps)) (EX (Z ps)) (exact-eq (X ps)) (exact-eq (Y ps)) (exact-eq (Z ps))
@@ -203,17 +203,17 @@ module _ (p s : ℕ) (ks ps ws : List Float) (r : Bool) (lo hi : Float) (A : Act
           (run j h e (λ c. c.w) (λ α a b. refl) HW (λ m l. (start-in m l).w))
           (bound-in cut wh wh-low wh-high) first-finite)
 
-    row_in : (j : Jet) → JetIn j t q1 q0 → (a : Quotient) → Formed a (inv σ) → Good (net_by (P.point_of ps (s - p)) bound (row_by ps ws r (s - p) (P.point_of ps (s - p)) ks p s j a))
+    row_in : (j : Jet) → JetIn j t q1 q0 → (a : Result Interval DivideError) → Formed a (inv σ) → Good (net_by (P.point_of ps (s - p)) bound (row_by ps ws r (s - p) (P.point_of ps (s - p)) ks p s j a))
     unfolding deboor_of
-    row_in j h (Q.Is q) k = levels-in q k j h (refusal_levels ks p s j 1 p) refl
-    row_in j h Q.HoldsZero k = tt
-    row_in j h Q.Unbounded k = absurd k
+    row_in j h (Ok q) k = levels-in q k j h (refusal_levels ks p s j 1 p) refl
+    row_in j h (Err HoldsZero) k = tt
+    row_in j h (Err Unbounded) k = absurd k
 
     range-is-in : Good (range_is p s ks ps ws r lo hi scale bound (new_of lo hi))
     unfolding new_of row_of
     range-is-in = go (le lo hi)
       where
-        go : (x : Bool) → Good (range_is p s ks ps ws r lo hi scale bound (cond x (Made (record { lo = lo; hi = hi })) Nothing))
+        go : (x : Bool) → Good (range_is p s ks ps ws r lo hi scale bound (cond x (Some (record { lo = lo; hi = hi })) None))
         go true = row_in (parameter_of (record { lo = lo; hi = hi })) (param_in lo hi t Rv.lo-finite Rv.hi-finite from upto) (reciprocal_of (point_of scale)) (scale_in cut most-is.held)
         go false = tt
 
@@ -224,9 +224,9 @@ module _ (p s : ℕ) (ks ps ws : List Float) (r : Bool) (lo hi : Float) (A : Act
       (subst (λ k. Cuts (min_from (inf false) w (suc p)) (max_from zero+ w (suc p)) (weights_of w k)) (sym (add-one p))
       (range-in (min_from (inf false) w (suc p)) (max_from zero+ w (suc p)) least-is.held most-is.held (≤_trans wh-low wh-high)))
     where
-      go : (A : Weights) → Cuts (min_from (inf false) w (suc p)) (max_from zero+ w (suc p)) A → Good (weights_are p s ks ps ws r lo hi A)
-      go (W.Are scale bound) c = range-is-in scale bound c
-      go (W.Refused k) c = c
+      go : (A : Result Weights Refusal) → Cuts (min_from (inf false) w (suc p)) (max_from zero+ w (suc p)) A → Good (weights_are p s ks ps ws r lo hi A)
+      go (Ok w) c = range-is-in w.scale w.bound c
+      go (Err k) c = c
 
 -- ---- the whole answer
 

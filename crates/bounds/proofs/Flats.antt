@@ -1,6 +1,6 @@
 -- A net without derivatives in a run: what a store does to its points, and one turn of each loop over it. Assumes nothing.
 use Prim.Native.Nat.{ℕ, zero, suc, ◌+◌, ◌-◌, ◌*◌, ◌≤◌, ◌<◌}
-use mathlib.Core.Path.{◌≡◌, refl, sym, ◌∙◌, ap, ap₂, subst}
+use mathlib.Core.Path.{◌≡◌, refl, sym, ◌∙◌, ap, ap₂}
 use mathlib.Core.List.{List, [], ◌∷◌}
 use mathlib.Core.Logic.{inl, inr}
 use native.Mathlib.Nat.{eq-or-lt_of_le}
@@ -22,19 +22,16 @@ use Rattle.ends.proofs.Same.{times-same, exchanged}
 use Rattle.bounds.specs.Start.{moved_of}
 use Rattle.jets.specs.declared.jet.Jet.{Jet}
 use Rattle.jets.specs.declared.net.Control.{Control}
-use Rattle.jets.specs.declared.net.NetAnswer.TheVariants as N
-use Rattle.jets.specs.Net.{share_at, net_of, deboor_of}
-use Rattle.jets.proofs.Levels.{Walked, walked_start, walked-refused, walked_end, Stand}
+use Rattle.jets.specs.Net.{share_at, mix_by, refused_by, net_of, deboor_of}
+use Rattle.jets.proofs.Levels.{Walked, walked-down}
 use Rattle.ends.specs.declared.flat.Flat.{Flat}
-use Rattle.ends.specs.declared.flat.FlatAnswer.{FlatAnswer}
-use Rattle.ends.specs.declared.flat.FlatAnswer.TheVariants as A
 use Rattle.ends.specs.Good.{GoodPoint}
 use Rattle.ends.specs.Flat.{flat_of, flat_net, flat_neighbours}
-use Rattle.ends.proofs.Net.{net-good, flat-is, flat-refused}
-use Rattle.bounds.specs.declared.levels.Place.{Place}
-use Rattle.bounds.specs.Levels.{next_place}
-use Rattle.bounds.specs.Flat.{flat_at, eight_of, FilledTo, LevelsMeet}
-use Rattle.bounds.proofs.Steps.{left, turn, stand-next, walked_next}
+use Rattle.ends.proofs.Net.{net-good, flat-is}
+use Rattle.bounds.specs.Levels.{Reached}
+use Rattle.bounds.specs.Flat.{flat_at, eight_of, FilledTo}
+use Rattle.bounds.proofs.Steps.{walk_end, reached-end}
+use Rattle.std.specs.Prelude.{Ok}
 
 -- ---- a coordinate by its weight's factor
 pub moved_same : (p o : Float) (q : Interval) → is_factor (factor_of q) ≡ true → times_of (factor_of q) (ends_of (sub_of (point_of p) (point_of o))) ≡ ends_of (moved_of p o q).v
@@ -120,9 +117,6 @@ pub record InFlat (f : ℕ → Flat) (p k : ℕ) (net : List Float) (m : ℕ) : 
   pub high : m ≤ p + 1
   pub done : FilledTo f m net
 
-pub flat_start : (f : ℕ → Flat) (p : ℕ) (net : List Float) → InFlat f p (length net) net 0
-flat_start f p net = record { long = refl; high = omega arith; done = λ i h. absurd (omega arith) }
-
 pub flat-more : (f : ℕ → Flat) (p k : ℕ) (net : List Float) (m : ℕ) → InFlat f p k net m → m ≤ p → p * 8 + 8 ≤ k → (c : Flat) → c ≡ f m
     → (after : List Float) → after ≡ sets net (m * 8) (eight_of c) → InFlat f p k after (m + 1)
 flat-more f p k net m I h r c e after k' =
@@ -139,55 +133,27 @@ flat-more f p k net m I h r c e after k' =
     up_to : (i : ℕ) → i < m + 1 → i ≤ m
     up_to i q = omega arith
 
--- ---- the loop over all levels
-pub record InLevels (ks : List Float) (p s : ℕ) (t : Jet) (before net : List Float) (l j : ℕ) : Type 0 where
-  pub long : length net ≡ length before
-  pub stand : Stand p l j
-  pub walked : (c : ℕ → Control) → ((m : ℕ) → m ≤ p → GoodPoint (c m)) → FilledTo (λ m. flat_of (c m)) (p + 1) before → Walked ks p s t c flat_of (flat_at net) l j
+-- ---- the loop over a level's places
 
-module _ (ks : List Float) (p s : ℕ) (t : Jet) (before : List Float) where
-  pub levels-start : InLevels ks p s t before before 1 p
-  levels-start = record {
-    long = refl;
-    stand = record { low = omega arith; high = omega arith; top = omega arith; inner = λ x. x; last = λ x. refl };
-    walked = λ c G f. walked_start ks p s t c flat_of (flat_at before) (λ i h. f i (omega arith));
-  }
+module _ (ks : List Float) (p s : ℕ) (t : Jet) (c : ℕ → Control) (G : (m : ℕ) → m ≤ p → GoodPoint (c m)) (net : List Float) (l j : ℕ) (W : Walked ks p s t c flat_of (flat_at net) l j) (h : l ≤ p)
+    (r : p * 8 + 8 ≤ length net) (v : Flat) (is : flat_neighbours (share_at ks p s t l j) (flat_at net (j - 1)) (flat_at net j) ≡ Ok v) where
+  abbrev after : List Float
+  after = sets net (j * 8) (eight_of v)
 
-  module _ (net : List Float) (a : Place) (I : InLevels ks p s t before net a.level a.j) (h : a.level ≤ p) (small : p ≤ 64) where
-    -- where the numbers of both points stand
-    pub levels-in : p * 8 + 8 ≤ length before → ((a.j - 1) * 8 + 8 ≤ length net) × ((a.j - 1 ≤ 64) × ((a.j * 8 + 8 ≤ length net) × (a.j ≤ 64)))
-    levels-in r =
-        let m = I.stand.top in
-        let L = I.long in
-        (omega arith, (omega arith, (omega arith, omega arith)))
+  mixed : (v ≡ flat_of (mix_by (share_at ks p s t l j) (net_of ks p s t c (l - 1) (j - 1)) (net_of ks p s t c (l - 1) j))) × (refused_by (share_at ks p s t l j) ≡ Ok tt)
+  mixed =
+      let top = W.top in
+      flat-is (share_at ks p s t l j) _ _ v (net-good ks p s t c G (l - 1) (j - 1) (omega arith)) (net-good ks p s t c G (l - 1) j top)
+      (sym (ap₂ (flat_neighbours (share_at ks p s t l j)) (W.old (j - 1) (omega arith)) (W.old j (omega arith))) ∙ is)
 
-    pub levels-refused : (n : ℕ) → flat_neighbours (share_at ks p s t a.level a.j) (flat_at net (a.j - 1)) (flat_at net a.j) ≡ A.Refused n → LevelsMeet ks p s t before (A.Refused n)
-    levels-refused n e c G f = ap flat_net (walked-refused ks p s t c flat_of (flat_at net) a.level a.j (I.walked c G f) h n (flat-refused _ _ _ n e))
+  here : flat_at after j ≡ flat_of (mix_by (share_at ks p s t l j) (net_of ks p s t c (l - 1) (j - 1)) (net_of ks p s t c (l - 1) j))
+  here = let top = W.top in put_same net j v (omega arith) ∙ mixed.0
 
-    pub levels-next : (v : Flat) → flat_neighbours (share_at ks p s t a.level a.j) (flat_at net (a.j - 1)) (flat_at net a.j) ≡ A.Is v → p * 8 + 8 ≤ length before
-        → (after : List Float) → after ≡ sets net (a.j * 8) (eight_of v) → InLevels ks p s t before after (next_place p a).level (next_place p a).j
-    levels-next v e r after k =
-        let S = I.stand in
-        let L = I.long in
-        let T = S.top in
-        rw k (record {
-          long = put-long net a.j v ∙ L;
-          stand = stand-next a S h small;
-          walked = λ c G f. next c G (I.walked c G f);
-        })
-      where
-        next : (c : ℕ → Control) → ((m : ℕ) → m ≤ p → GoodPoint (c m)) → Walked ks p s t c flat_of (flat_at net) a.level a.j
-            → Walked ks p s t c flat_of (flat_at (sets net (a.j * 8) (eight_of v))) (next_place p a).level (next_place p a).j
-        next c G W =
-            let top = W.top in
-            let L = I.long in
-            let x = net_of ks p s t c (a.level - 1) (a.j - 1) in
-            let y = net_of ks p s t c (a.level - 1) a.j in
-            let z = flat-is (share_at ks p s t a.level a.j) x y v (net-good ks p s t c G (a.level - 1) (a.j - 1) (omega arith)) (net-good ks p s t c G (a.level - 1) a.j top)
-            (sym (ap₂ (flat_neighbours (share_at ks p s t a.level a.j)) (W.old (a.j - 1) (omega arith)) (W.old a.j (omega arith))) ∙ e) in
-            walked_next a W h (flat_at (sets net (a.j * 8) (eight_of v))) z.1 (put_same net a.j v (omega arith) ∙ z.0) (λ i n q. put_other net a.j v i n)
+  pub flat-down : l < j → Walked ks p s t c flat_of (flat_at after) l (j - 1)
+  flat-down = walked-down ks p s t c flat_of (flat_at net) l j W h (flat_at after) mixed.1 here (λ i n q. put_other net j v i n)
 
-  pub levels-end : (net : List Float) (l j : ℕ) → InLevels ks p s t before net l j → p < l → LevelsMeet ks p s t before (A.Is (flat_at net p))
-  levels-end net l j I h c G f =
-      let z = walked_end ks p s t c flat_of (flat_at net) l j (I.walked c G f) h in
-      ap A.Is z.0 ∙ sym (ap flat_net z.1)
+  pub flat-done : j ≤ l → Reached ks p s t flat_of c (flat_at after) (l + 1)
+  flat-done q = walk_end ks p s t flat_of c (flat_at net) l j W h q (flat_at after) mixed.1 here (λ i n q. put_other net j v i n)
+
+pub levels-end : (ks : List Float) (p s : ℕ) (t : Jet) (c : ℕ → Control) (net : List Float) (l : ℕ) → Reached ks p s t flat_of c (flat_at net) l → p < l → Ok (flat_at net p) ≡ flat_net (deboor_of ks p s t c)
+levels-end ks p s t c net l R h = let z = reached-end ks p s t flat_of c (flat_at net) l R h in ap Ok z.0 ∙ sym (ap flat_net z.1)

@@ -12,8 +12,9 @@ use borrow.Author.Tests.{eqb-true}
 use Rattle.exact.proofs.Field.{≤-refl}
 use Rattle.doubles.specs.Run.{at}
 use Rattle.doubles.specs.Value.{val}
-use Rattle.knots.specs.Refusal.{refuse, accepted, placed, or_else, along, degree-zero, few-points, knot-count, knots-unordered, domain-empty, domain-wide, knot-repeated, point-not-finite}
-use Rattle.knots.specs.Refusal.{weight-count, weight-bad, net-size, range-bad, range-in-no-span, length-bad, degree-high, points-uneven}
+use Rattle.knots.specs.Refusal.{refuse, accepted, placed, or_else, along}
+use Rattle.knots.specs.declared.refusal.Reason.TheVariants.{DegreeZero, FewPoints, KnotCount, KnotsUnordered, DomainEmpty, DomainWide, KnotRepeated, PointNotFinite}
+use Rattle.knots.specs.declared.refusal.Reason.TheVariants.{WeightCount, WeightBad, NetSize, RangeBad, RangeInNoSpan, LengthBad, DegreeHigh, PointsUneven}
 use Rattle.knots.specs.Knots.{all_finite, ordered, apart, order_refusal, knot_refusal}
 use Rattle.knots.specs.Curve.{count_of, over_long, any_long, all_weights, control_refusal, formed_refusal, curve_refusal}
 use Rattle.knots.specs.Shape.{weight_shape, knot_shape, curve_shape}
@@ -30,23 +31,22 @@ use Rattle.ranges.specs.Read.{read_refusal, place_refusal, start_refusal}
 use Rattle.jets.specs.Three.{Three}
 use Rattle.bounds.specs.Curve.{span_bound, unless, bound_of, bound_at}
 use Rattle.bounds.specs.Surface.{ranges_refusal, spans_bound, bounded_by, surface_of}
-use Rattle.jets.specs.declared.cartesian.BoundAnswer.{BoundAnswer}
-use Rattle.jets.specs.declared.cartesian.BoundAnswer.TheVariants as B
-use Rattle.bounds.specs.declared.answer.Bounded.{Bounded}
-use Rattle.bounds.specs.declared.answer.Bounded.TheVariants as C
-use Rattle.jets.proofs.NetIn.{Given}
+use Rattle.jets.proofs.NetIn.{Neither}
 use Rattle.jets.proofs.CartesianIn.{Boxes}
 use Rattle.ranges.proofs.SpanIn.{span-valid}
 use Rattle.bounds.proofs.Active.{valid-active, started}
 use Rattle.bounds.proofs.CurveHolds.{span-bound-in}
 use Rattle.bounds.proofs.SpansIn.{ranges-valid}
 use Rattle.bounds.proofs.SurfaceHolds.{spans-bound-in}
+use Rattle.std.specs.Prelude.{Result, Ok, Err}
+use Rattle.jets.specs.declared.cartesian.Bounds.{Bounds}
+use Rattle.bounds.specs.declared.answer.NurbsBounds.{NurbsBounds}
 
 -- ---- what is refused before the steps
 
 -- a refusal that is neither
 abbrev pub Other : Refusal → Type 0
-Other r = Given r.number
+Other r = Neither r.number
 
 pub or_else-other : (a b : Refusal) → Other a → Other b → Other (or_else a b)
 or_else-other a b h k = row-both Other (eqb a.number 0) b a k h
@@ -54,35 +54,35 @@ or_else-other a b h k = row-both Other (eqb a.number 0) b a k h
 range_other : (p n s : ℕ) (lo hi : Float) → Other (range_refusal p n s lo hi)
 unfolding range_refusal
 range_other p n s lo hi =
-    row-both Other (ltb 64 p) (refuse degree-high) _ tt
-    (row-both Other (not (finite lo)) (refuse range-bad) _ tt
-    (row-both Other (not (finite hi)) (refuse range-bad) _ tt
-    (row-both Other (lt hi lo) (refuse range-bad) _ tt
-    (row-both Other (eqb s n) (refuse range-in-no-span) accepted tt tt))))
+    row-both Other (ltb 64 p) (refuse DegreeHigh) _ tt
+    (row-both Other (not (finite lo)) (refuse RangeBad) _ tt
+    (row-both Other (not (finite hi)) (refuse RangeBad) _ tt
+    (row-both Other (lt hi lo) (refuse RangeBad) _ tt
+    (row-both Other (eqb s n) (refuse RangeInNoSpan) accepted tt tt))))
 
 -- of a span that was asked for: 30, 32, 1, 2, 3, 9, 4, 8, 10, 31, 24, 25
 shape-other : (p : ℕ) (ks ps : List Float) (g : Bool) (ws : List Float) → Other (curve_shape p ks ps g ws)
 unfolding curve_shape knot_shape weight_shape
 shape-other p ks ps g ws =
-    row-both Other (not (eqb (length ps % 3) 0)) (refuse points-uneven) _ tt
+    row-both Other (not (eqb (length ps % 3) 0)) (refuse PointsUneven) _ tt
     (or_else-other (knot_shape p (count_of ps) ks) (weight_shape (count_of ps) g ws)
-    (row-both Other (eqb p 0) (refuse degree-zero) _ tt
-    (row-both Other (leb (count_of ps) p) (refuse few-points) _ tt
-    (row-both Other (not (eqb (length ks) (count_of ps + p + 1))) (refuse knot-count) accepted tt tt)))
-    (row-both Other (g && not (eqb (length ws) (count_of ps))) (refuse weight-count) accepted tt tt))
+    (row-both Other (eqb p 0) (refuse DegreeZero) _ tt
+    (row-both Other (leb (count_of ps) p) (refuse FewPoints) _ tt
+    (row-both Other (not (eqb (length ks) (count_of ps + p + 1))) (refuse KnotCount) accepted tt tt)))
+    (row-both Other (g && not (eqb (length ws) (count_of ps))) (refuse WeightCount) accepted tt tt))
 
 read-other : (p s : ℕ) (ks ps : List Float) (g : Bool) (ws : List Float) → Other (read_refusal p s ks ps g ws)
 unfolding read_refusal
 read-other p s ks ps g ws =
-    row-both Other (not (ordered _)) (placed _ (refuse knots-unordered)) _ tt
-    (row-both Other (not (all_finite _)) (placed _ (refuse point-not-finite)) _ tt
-    (row-both Other (g && not (all_weights _)) (placed _ (refuse weight-bad)) accepted tt tt))
+    row-both Other (not (ordered _)) (placed _ (refuse KnotsUnordered)) _ tt
+    (row-both Other (not (all_finite _)) (placed _ (refuse PointNotFinite)) _ tt
+    (row-both Other (g && not (all_weights _)) (placed _ (refuse WeightBad)) accepted tt tt))
 
 start-other : (p s : ℕ) (ks ps : List Float) (g : Bool) (ws : List Float) (lo hi : Float) → Other (start_refusal p s ks ps g ws lo hi)
 unfolding start_refusal place_refusal
 start-other p s ks ps g ws lo hi =
     let n = count_of ps in
-    row-both Other (any_long ks ps g ws) (refuse length-bad) _ tt
+    row-both Other (any_long ks ps g ws) (refuse LengthBad) _ tt
     (or_else-other (curve_shape p ks ps g ws) (place_refusal p s ks ps g ws lo hi) (shape-other p ks ps g ws)
     (row-both Other (leb p s && ltb s n) (or_else (read_refusal p s ks ps g ws) (range_refusal p n (taken_span s n ks lo hi) lo hi)) (range_refusal p n n lo hi)
     (or_else-other (read_refusal p s ks ps g ws) (range_refusal p n (taken_span s n ks lo hi) lo hi) (read-other p s ks ps g ws) (range_other p n (taken_span s n ks lo hi) lo hi))
@@ -92,26 +92,26 @@ start-other p s ks ps g ws lo hi =
 knots-other : (p n : ℕ) (ks : List Float) → Other (knot_refusal p n ks)
 unfolding knot_refusal order_refusal
 knots-other p n ks =
-    row-both Other (eqb p 0) (refuse degree-zero) _ tt
-    (row-both Other (leb n p) (refuse few-points) _ tt
-    (row-both Other (not (eqb (length ks) (n + p + 1))) (refuse knot-count) _ tt
-    (row-both Other (not (ordered ks)) (placed _ (refuse knots-unordered)) _ tt
-    (row-both Other (le (at ks n) (at ks p)) (refuse domain-empty) _ tt
-    (row-both Other (not (finite (sub binary64 (at ks n) (at ks p)))) (refuse domain-wide) _ tt
-    (row-both Other (not (apart (p + 1) ks)) (placed _ (refuse knot-repeated)) accepted tt tt))))))
+    row-both Other (eqb p 0) (refuse DegreeZero) _ tt
+    (row-both Other (leb n p) (refuse FewPoints) _ tt
+    (row-both Other (not (eqb (length ks) (n + p + 1))) (refuse KnotCount) _ tt
+    (row-both Other (not (ordered ks)) (placed _ (refuse KnotsUnordered)) _ tt
+    (row-both Other (le (at ks n) (at ks p)) (refuse DomainEmpty) _ tt
+    (row-both Other (not (finite (sub binary64 (at ks n) (at ks p)))) (refuse DomainWide) _ tt
+    (row-both Other (not (apart (p + 1) ks)) (placed _ (refuse KnotRepeated)) accepted tt tt))))))
 
 controls-other : (n : ℕ) (ps : List Float) (g : Bool) (ws : List Float) → Other (control_refusal n ps g ws)
 unfolding control_refusal
 controls-other n ps g ws =
-    row-both Other (not (all_finite ps)) (placed _ (refuse point-not-finite)) _ tt
-    (row-both Other (g && not (eqb (length ws) n)) (refuse weight-count) _ tt
-    (row-both Other (g && not (all_weights ws)) (placed _ (refuse weight-bad)) accepted tt tt))
+    row-both Other (not (all_finite ps)) (placed _ (refuse PointNotFinite)) _ tt
+    (row-both Other (g && not (eqb (length ws) n)) (refuse WeightCount) _ tt
+    (row-both Other (g && not (all_weights ws)) (placed _ (refuse WeightBad)) accepted tt tt))
 
 pub curve-other : (p : ℕ) (ks ps : List Float) (g : Bool) (ws : List Float) → Other (curve_refusal p ks ps g ws)
 unfolding curve_refusal formed_refusal
 curve-other p ks ps g ws =
-    row-both Other (any_long ks ps g ws) (refuse length-bad) _ tt
-    (row-both Other (not (eqb (length ps % 3) 0)) (refuse points-uneven) _ tt
+    row-both Other (any_long ks ps g ws) (refuse LengthBad) _ tt
+    (row-both Other (not (eqb (length ps % 3) 0)) (refuse PointsUneven) _ tt
     (or_else-other (knot_refusal p (count_of ps) ks) (control_refusal (count_of ps) ps g ws) (knots-other p (count_of ps) ks) (controls-other (count_of ps) ps g ws)))
 
 -- of a surface: 30, 32, 11, 1 to 10; and of its ranges
@@ -119,31 +119,31 @@ surface-other : (p q : ℕ) (us vs : List Float) (m n : ℕ) (ps : List Float) (
 unfolding surface_refusal net_refusal
 surface-other p q us vs m n ps g ws =
     or_else-other (net_refusal us vs m n ps g ws) _
-    (row-both Other (over_long true us || any_long vs ps g ws) (refuse length-bad) _ tt
-    (row-both Other (not (eqb (length ps % 3) 0)) (refuse points-uneven) _ tt
-    (row-both Other (not (eqb (count_of ps) (m * n))) (refuse net-size) accepted tt tt)))
+    (row-both Other (over_long true us || any_long vs ps g ws) (refuse LengthBad) _ tt
+    (row-both Other (not (eqb (length ps % 3) 0)) (refuse PointsUneven) _ tt
+    (row-both Other (not (eqb (count_of ps) (m * n))) (refuse NetSize) accepted tt tt)))
     (or_else-other (along 0 (knot_refusal p m us)) _ (knots-other p m us)
     (or_else-other (along 1 (knot_refusal q n vs)) (control_refusal (count_of ps) ps g ws) (knots-other q n vs) (controls-other (count_of ps) ps g ws)))
 
 ranges-other : (p q nu nv us vs : ℕ) (ulo uhi vlo vhi : Float) → Other (ranges_refusal p q nu nv us vs ulo uhi vlo vhi)
 unfolding ranges_refusal
 ranges-other p q nu nv us vs ulo uhi vlo vhi =
-    row-both Other (ltb 64 q) (refuse degree-high) _ tt
+    row-both Other (ltb 64 q) (refuse DegreeHigh) _ tt
     (or_else-other (range_refusal p nu us ulo uhi) (range_refusal q nv vs vlo vhi) (range_other p nu us ulo uhi) (range_other q nv vs vlo vhi))
 
 -- ---- the whole answer
 
-pub idle : (n : ℕ) → Given n → NotIdle n
-idle n h = record { not-28 = λ e. subst Given e h; not-29 = λ e. subst Given e h }
+pub idle : (n : ℕ) → Neither n → NotIdle n
+idle n h = record { not-28 = λ e. subst Neither e h; not-29 = λ e. subst Neither e h }
 
-steps-other : (A : BoundAnswer) (X Y Z : Three) → Boxes A X Y Z → Other (bounded_refusal (bounded_of A))
-steps-other (B.Are b) X Y Z h = tt
-steps-other (B.Refused n) X Y Z h = h
+steps-other : (A : Result Bounds Refusal) (X Y Z : Three) → Boxes A X Y Z → Other (bounded_refusal (bounded_of A))
+steps-other (Ok b) X Y Z h = tt
+steps-other (Err n) X Y Z h = h
 
-unless-other : (f : Refusal) (A : Bounded) → Other f → (f.number ≡ 0 → Other (bounded_refusal A)) → Other (bounded_refusal (unless f A))
+unless-other : (f : Refusal) (A : Result NurbsBounds Refusal) → Other f → (f.number ≡ 0 → Other (bounded_refusal A)) → Other (bounded_refusal (unless f A))
 unless-other f A h k = go (eqb f.number 0) (eqb-true f.number 0)
   where
-    go : (b : Bool) → (b ≡ true → f.number ≡ 0) → Other (bounded_refusal (cond b A (C.Refused f)))
+    go : (b : Bool) → (b ≡ true → f.number ≡ 0) → Other (bounded_refusal (cond b A (Err f)))
     go true e = k (e refl)
     go false e = h
 

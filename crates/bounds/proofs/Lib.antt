@@ -11,3 +11,4 @@ pub mod Idle
 pub mod Promised
 pub mod Points
 pub mod Numbered
+pub mod Asked

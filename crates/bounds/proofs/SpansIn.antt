@@ -13,7 +13,7 @@ use Rattle.ranges.specs.Range.{span_over, range_refusal}
 use Rattle.bounds.specs.Surface.{ranges_refusal, SpansFit}
 use Rattle.ranges.proofs.SpanIn.{SpanValid, span-valid}
 use Rattle.knots.specs.Refusal as R
-use Rattle.knots.specs.Refusal.{degree-high}
+use Rattle.knots.specs.declared.refusal.Reason.TheVariants.{DegreeHigh}
 use Rattle.knots.specs.Surface.{ValidSurface}
 use Rattle.knots.proofs.Refusals.{passed, or_else-none}
 
@@ -29,7 +29,7 @@ pub ranges-valid : (p q : ℕ) (uk vk : List Float) (nu nv : ℕ) (ulo uhi vlo v
     → SpanValid p nu uk ulo uhi (span_over p nu uk ulo uhi) × SpanValid q nv vk vlo vhi (span_over q nv vk vlo vhi)
 unfolding ranges_refusal
 ranges-valid p q uk vk nu nv ulo uhi vlo vhi Ku Kv k =
-    let a = passed (ltb 64 q) (R.refuse degree-high) _ (λ e. omega arith) k in
+    let a = passed (ltb 64 q) (R.refuse DegreeHigh) _ (λ e. omega arith) k in
     let b = or_else-none (range_refusal p nu (span_over p nu uk ulo uhi) ulo uhi) (range_refusal q nv (span_over q nv vk vlo vhi) vlo vhi) a.1 in
     let m = Ku.count in
     let n = Kv.count in

@@ -3,7 +3,7 @@ use mathlib.Core.Path.{◌≡◌, refl, sym, subst}
 use mathlib.Core.Bool.{Bool, true, false, cond}
 use mathlib.Core.Logic.{◌≢◌}
 use mathlib.Core.List.{List}
-use Prim.Native.Nat.{ℕ, zero, suc, ◌+◌, ◌-◌, ◌*◌, ◌/◌, ◌≤◌, ◌<◌}
+use Prim.Native.Nat.{ℕ, suc, ◌+◌, ◌-◌, ◌*◌, ◌≤◌, ◌<◌}
 use native.Mathlib.Numerals.{add-one}
 use native.Mathlib.Omega.{arith}
 use lib.Dec.{T}
@@ -21,16 +21,10 @@ use Rattle.interval.proofs.Contain.{Formed}
 use Rattle.interval.specs.Inside.{Inside}
 use Rattle.interval.specs.Ops.{point_of, new_of, reciprocal_of}
 use Rattle.interval.specs.declared.Interval.{Interval}
-use Rattle.interval.specs.declared.Quotient.{Quotient}
-use Rattle.interval.specs.declared.Quotient.TheVariants as Q
-use Rattle.interval.specs.declared.New.TheVariants.{Made, Nothing}
 use Rattle.jets.specs.declared.jet.Jet.{Jet}
 use Rattle.jets.specs.declared.net.Control.{Control}
-use Rattle.jets.specs.declared.net.NetAnswer.{NetAnswer}
 use Rattle.bounds.specs.declared.start.Weights.{Weights}
-use Rattle.bounds.specs.declared.start.Weights.TheVariants as W
-use Rattle.jets.specs.declared.cartesian.BoundAnswer.{BoundAnswer}
-use Rattle.jets.specs.Net.{mix_jet, mix_of, net_of, refusal_levels, last_by, deboor_of, net_refused, net_control, refusal_up, filled_of}
+use Rattle.jets.specs.Net.{mix_jet, mix_of, net_of, refusal_levels, last_by, deboor_of, refused_by, net_control, refusal_up, filled_of}
 use Rattle.bounds.specs.Start.{range_of, start_at, row_by, row_of}
 use Rattle.runs.specs.Point as P
 use Rattle.jets.specs.Cartesian.{cartesian_of, net_by}
@@ -42,7 +36,7 @@ use Rattle.jets.specs.Three.{Three}
 use Rattle.bounds.specs.Holds.{grid, at-uv, SurfaceHolds}
 use Rattle.bounds.specs.Surface.{ranges_refusal, max_rows, min_rows, row_at, ranges_are, weights_by, spans_bound, bounded_by, surface_of}
 use Rattle.jets.proofs.JetIn.{JetIn, param_in, second-in}
-use Rattle.jets.proofs.NetIn.{Given, levels-given, none, along, across, nowhere, net-in, last-0, last-given, up-0, up-given}
+use Rattle.jets.proofs.NetIn.{Given, levels-given, none, along, across, nowhere, net-in, last-none, last-given, up-0, up-given}
 use Rattle.bounds.proofs.WeightIn.{Cut, Cuts, range-in, scale_in, bound-in, ControlIn, point-finite, control-in}
 use Rattle.jets.proofs.CartesianIn.{FinitePoint, Boxes, refuse-in, over, cartesian-in, boxes-eq, three-eq}
 use Rattle.bounds.proofs.Boxes.{X, Y, Z, boxed, unless-in}
@@ -53,6 +47,11 @@ use Rattle.runs.specs.Fraction.{weight_value, coordinate_value}
 use Rattle.bounds.specs.Answer.{bounded_of}
 use Rattle.knots.specs.Surface.{surface_refusal, ValidSurface}
 use Rattle.knots.proofs.Surfaces.{valid-surface}
+use Rattle.std.specs.Prelude.{Some, None, Result, Ok, Err}
+use Rattle.interval.specs.declared.DivideError.{DivideError}
+use Rattle.interval.specs.declared.DivideError.TheVariants.{HoldsZero, Unbounded}
+use Rattle.jets.specs.declared.cartesian.Bounds.{Bounds}
+use Rattle.knots.specs.declared.refusal.Refusal.{Refusal}
 
 -- ---- on two spans
 
@@ -161,7 +160,7 @@ module _ (p q us vs : ℕ) (uk vk : List Float) (nu nv : ℕ) (ps ws : List Floa
       (sym (exact₂-dv Iu.knots Iv.knots p (us - p) nu q (vs - q) nv Iu.base Iu.fits Iu.room Iv.base Iv.fits Iv.room w₂ (grid nv P) (P ((us - p) * nv + (vs - q))) σ
       (pos-ne σ-pos) u v sum-ne))
 
-  abbrev Good : BoundAnswer → Type 0
+  abbrev Good : Result Bounds Refusal → Type 0
   Good A = Boxes A (EX (X ps)) (EX (Y ps)) (EX (Z ps))
 
   abbrev iu : Interval
@@ -171,7 +170,7 @@ module _ (p q us vs : ℕ) (uk vk : List Float) (nu nv : ℕ) (ps ws : List Floa
   iv = record { lo = vlo; hi = vhi }
 
   module _ (scale : Float) (bound : Interval) (cut : Cut (min_rows w (suc q) (suc p)) (max_rows w (suc q) (suc p)) scale bound) where
-    abbrev row : ℕ → NetAnswer
+    abbrev row : ℕ → Result Control Refusal
     row m = row_at p q us vs uk vk nv ps ws r ulo uhi vlo vhi scale iv m
 
     abbrev start : Interval → ℕ → ℕ → Control
@@ -187,42 +186,42 @@ module _ (p q us vs : ℕ) (uk vk : List Float) (nu nv : ℕ) (ps ws : List Floa
         (finite-at ((us - p + m) * nv + (vs - q) + k) (here' m k l h)) (finite-at ((us - p) * nv + (vs - q)) first-here) (heavy ((us - p + m) * nv + (vs - q) + k) (here' m k l h)) d)
 
     -- a row along v: what it refuses
-    row-given : (m : ℕ) → m ≤ p → Given (net_refused (row m))
+    row-given : (m : ℕ) → m ≤ p → Given (refused_by (row m))
     unfolding row_at row_of deboor_of
     row-given m h = go (reciprocal_of (point_of scale)) (scale_in cut most-is.held)
       where
-        go : (a : Quotient) → Formed a (inv σ) → Given (net_refused (row_by ps ws r ((us - p + m) * nv + (vs - q)) (P.point_of ps ((us - p) * nv + (vs - q))) vk q vs (second_of iv) a))
-        go (Q.Is c) d = last-given (refusal_levels vk q vs (second_of iv) 1 q) (net_of vk q vs (second_of iv) (start c m) q q)
+        go : (a : Result Interval DivideError) → Formed a (inv σ) → Given (refused_by (row_by ps ws r ((us - p + m) * nv + (vs - q)) (P.point_of ps ((us - p) * nv + (vs - q))) vk q vs (second_of iv) a))
+        go (Ok c) d = last-given (refusal_levels vk q vs (second_of iv) 1 q) (net_of vk q vs (second_of iv) (start c m) q q)
             (levels-given vk q vs (second_of iv) Iv.knots Iv.low Iv.room Iv.held v q0 q1 (second-in vlo vhi v Sv.lo-finite Sv.hi-finite v-from v-upto) 0 q (omega arith))
-        go Q.HoldsZero d = tt
-        go Q.Unbounded d = absurd d
+        go (Err HoldsZero) d = tt
+        go (Err Unbounded) d = absurd d
 
     -- and what it holds
     module _ (sel : Control → Jet) (mixes : (α : Jet) (a b : Control) → sel (mix_of α a b) ≡ mix_jet α (sel a) (sel b)) (C : ℕ → ℕ → ℚ)
         (holds : (c : Interval) → Inside c (inv σ) → (m : ℕ) → m ≤ p → (k : ℕ) → k ≤ q → JetIn (sel (start c m k)) (C (us - p + m) (vs - q + k)) q0 q0) where
-      abbrev RowIn : ℕ → NetAnswer → Type 0
+      abbrev RowIn : ℕ → Result Control Refusal → Type 0
       RowIn m A =
-          net_refused A ≡ 0 → JetIn (sel (net_control A)) (work (val_at vk) v q vs (λ k. C (us - p + m) (vs - q + k)) q q) q0
+          refused_by A ≡ Ok tt → JetIn (sel (net_control A)) (work (val_at vk) v q vs (λ k. C (us - p + m) (vs - q + k)) q q) q0
           (dwork (val_at vk) v q vs (λ k. C (us - p + m) (vs - q + k)) (λ k. q0) q q)
 
-      by-scale : (m : ℕ) → m ≤ p → (a : Quotient) → Formed a (inv σ) → RowIn m (row_by ps ws r ((us - p + m) * nv + (vs - q)) (P.point_of ps ((us - p) * nv + (vs - q))) vk q vs (second_of iv) a)
+      by-scale : (m : ℕ) → m ≤ p → (a : Result Interval DivideError) → Formed a (inv σ) → RowIn m (row_by ps ws r ((us - p + m) * nv + (vs - q)) (P.point_of ps ((us - p) * nv + (vs - q))) vk q vs (second_of iv) a)
       unfolding deboor_of dwork
-      by-scale m h (Q.Is c) d ok =
-          let x = last-0 (refusal_levels vk q vs (second_of iv) 1 q) (net_of vk q vs (second_of iv) (start c m) q q) ok in
+      by-scale m h (Ok c) d ok =
+          let x = last-none (refusal_levels vk q vs (second_of iv) 1 q) (net_of vk q vs (second_of iv) (start c m) q q) ok in
           subst (λ c. JetIn (sel c) (work (val_at vk) v q vs (λ k. C (us - p + m) (vs - q + k)) q q) q0 (dwork (val_at vk) v q vs (λ k. C (us - p + m) (vs - q + k)) (λ k. q0) q q)) (sym x.1)
           (net-in vk q vs (second_of iv) Iv.knots Iv.low Iv.room Iv.held v q0 q1 (second-in vlo vhi v Sv.lo-finite Sv.hi-finite v-from v-upto) sel mixes (start c m)
           (λ k. C (us - p + m) (vs - q + k)) (λ l j. q0) (dwork (val_at vk) v q vs (λ k. C (us - p + m) (vs - q + k)) (λ k. q0))
           (nowhere (val_at vk) v q vs (λ k. C (us - p + m) (vs - q + k))) (along (val_at vk) v q vs (λ k. C (us - p + m) (vs - q + k)) (λ k. q0)) (holds c d m h)
           (none vk q vs (second_of iv) x.0) q q (omega arith))
-      by-scale m h Q.HoldsZero d ok = absurd (omega arith)
-      by-scale m h Q.Unbounded d ok = absurd d
+      by-scale m h (Err HoldsZero) d ok = cc
+      by-scale m h (Err Unbounded) d ok = absurd d
 
       row_in : (m : ℕ) → m ≤ p → RowIn m (row m)
       unfolding row_at row_of
       row_in m h = by-scale m h (reciprocal_of (point_of scale)) (scale_in cut most-is.held)
 
       -- and the column of the rows along u
-      column-in : refusal_up row (p + 1) 0 ≡ 0 → refusal_levels uk p us (parameter_of iu) 1 p ≡ 0
+      column-in : refusal_up row (p + 1) 0 ≡ Ok tt → refusal_levels uk p us (parameter_of iu) 1 p ≡ Ok tt
           → JetIn (sel (net_of uk p us (parameter_of iu) (λ m. net_control (row m)) p p)) (HT C).value (HT C).du (HT C).dv
       unfolding net net-du net-dv work dwork
       column-in clear ok =
@@ -232,15 +231,15 @@ module _ (p q us vs : ℕ) (uk vk : List Float) (nu nv : ℕ) (ps ws : List Floa
           (work (val_at uk) u p us (λ m. dwork (val_at vk) v q vs (λ k. C (us - p + m) (vs - q + k)) (λ k. q0) q q))
           (along (val_at uk) u p us (λ m. work (val_at vk) v q vs (λ k. C (us - p + m) (vs - q + k)) q q) (λ m. q0))
           (across (val_at uk) u p us (λ m. work (val_at vk) v q vs (λ k. C (us - p + m) (vs - q + k)) q q) (λ m. dwork (val_at vk) v q vs (λ k. C (us - p + m) (vs - q + k)) (λ k. q0) q q))
-          (λ m h. let z : 0 + m ≡ m = omega arith in row_in m h (subst (λ i. net_refused (row i) ≡ 0) z (up-0 row (p + 1) 0 clear m (omega arith))))
+          (λ m h. let z : 0 + m ≡ m = omega arith in row_in m h (subst (λ i. refused_by (row i) ≡ Ok tt) z (up-0 row (p + 1) 0 clear m (omega arith))))
           (none uk p us (parameter_of iu) ok) p p (omega arith)
 
-    levels-in : refusal_up row (p + 1) 0 ≡ 0 → (k : ℕ) → refusal_levels uk p us (parameter_of iu) 1 p ≡ k
+    levels-in : refusal_up row (p + 1) 0 ≡ Ok tt → (k : Result (Unit {0}) Refusal) → refusal_levels uk p us (parameter_of iu) 1 p ≡ k
         → Good (net_by (P.point_of ps ((us - p) * nv + (vs - q))) bound (last_by k (net_of uk p us (parameter_of iu) (λ m. net_control (row m)) p p)))
     unfolding last_by mix_of
-    levels-in clear (suc k) e =
+    levels-in clear (Err k) e =
         subst Given e (levels-given uk p us (parameter_of iu) Iu.knots Iu.low Iu.room Iu.held u q1 q0 (param_in ulo uhi u Su.lo-finite Su.hi-finite u-from u-upto) 0 p (omega arith))
-    levels-in clear zero e =
+    levels-in clear (Ok k) e =
         boxes-eq (cartesian_of (net_of uk p us (parameter_of iu) (λ m. net_control (row m)) p p) (P.point_of ps ((us - p) * nv + (vs - q))) bound)
         (over (HT (H (X ps))) (HT HW) (X ps ((us - p) * nv + (vs - q)))) (over (HT (H (Y ps))) (HT HW) (Y ps ((us - p) * nv + (vs - q))))
         (over (HT (H (Z ps))) (HT HW) (Z ps ((us - p) * nv + (vs - q))))
@@ -256,10 +255,10 @@ module _ (p q us vs : ℕ) (uk vk : List Float) (nu nv : ℕ) (ps ws : List Floa
     unfolding new_of deboor_of filled_of
     ranges_in = go (le vlo vhi) (le ulo uhi)
       where
-        go : (x y : Bool) → Good (ranges_are p q us vs uk vk nv ps ws r ulo uhi vlo vhi scale bound (cond x (Made iv) Nothing) (cond y (Made iu) Nothing))
+        go : (x y : Bool) → Good (ranges_are p q us vs uk vk nv ps ws r ulo uhi vlo vhi scale bound (cond x (Some iv) None) (cond y (Some iu) None))
         go true true =
             refuse-in (P.point_of ps ((us - p) * nv + (vs - q))) bound (refusal_up row (p + 1) 0) (deboor_of uk p us (parameter_of iu) (λ m. net_control (row m))) (EX (X ps)) (EX (Y ps)) (EX (Z ps))
-            (up-given row (p + 1) 0 (λ m l. let z : 0 + m ≡ m = omega arith in subst (λ i. Given (net_refused (row i))) (sym z) (row-given m (omega arith))))
+            (up-given row (p + 1) 0 (λ m l. let z : 0 + m ≡ m = omega arith in subst (λ i. Given (refused_by (row i))) (sym z) (row-given m (omega arith))))
             (λ clear. levels-in clear (refusal_levels uk p us (parameter_of iu) 1 p) refl)
         go true false = tt
         go false y = tt
@@ -271,9 +270,9 @@ module _ (p q us vs : ℕ) (uk vk : List Float) (nu nv : ℕ) (ps ws : List Floa
       (subst (λ i. Cuts (min_rows w (suc q) (suc p)) (max_rows w (suc q) (suc p)) (range_of (min_rows w (suc q) i) (max_rows w (suc q) i))) (sym (add-one p))
       (range-in (min_rows w (suc q) (suc p)) (max_rows w (suc q) (suc p)) least-is.held most-is.held (≤_trans wh-low wh-high))))
     where
-      go : (A : Weights) → Cuts (min_rows w (suc q) (suc p)) (max_rows w (suc q) (suc p)) A → Good (weights_by p q us vs uk vk nv ps ws r ulo uhi vlo vhi A)
-      go (W.Are scale bound) c = ranges_in scale bound c
-      go (W.Refused k) c = c
+      go : (A : Result Weights Refusal) → Cuts (min_rows w (suc q) (suc p)) (max_rows w (suc q) (suc p)) A → Good (weights_by p q us vs uk vk nv ps ws r ulo uhi vlo vhi A)
+      go (Ok w) c = ranges_in w.scale w.bound c
+      go (Err k) c = c
 
 -- ---- the whole answer
 

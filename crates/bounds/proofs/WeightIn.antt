@@ -3,7 +3,7 @@ use mathlib.Core.Path.{◌≡◌, refl, sym, subst}
 use mathlib.Core.Bool.{Bool, true, false, not, ◌||◌, cond}
 use mathlib.Core.Logic.{◌⊎◌, inl, inr}
 use mathlib.Core.List.{List}
-use Prim.Native.Nat.{ℕ, zero, suc, ◌+◌, ◌-◌, ◌*◌, ◌≤◌, ◌<◌}
+use Prim.Native.Nat.{ℕ, zero, suc, ◌+◌, ◌*◌, ◌<◌}
 use native.Mathlib.Nat.{eq-or-lt_of_le, le_of_suc-le-suc}
 use native.Mathlib.Omega.{arith}
 use lib.Dec.{T}
@@ -22,18 +22,20 @@ use Rattle.interval.proofs.Contain.{point-inside, sub-inside, mul-inside, ends-o
 use Rattle.interval.specs.Inside.{Inside}
 use Rattle.interval.specs.Ops.{point_of, mul_of, new_of, reciprocal_of, divide_of}
 use Rattle.interval.specs.declared.Interval.{Interval}
-use Rattle.interval.specs.declared.New.TheVariants.{Made, Nothing}
-use Rattle.interval.specs.declared.Quotient.{Quotient}
-use Rattle.interval.specs.declared.Quotient.TheVariants as Q
 use Rattle.jets.specs.declared.net.Control.{Control}
 use Rattle.runs.specs.declared.vector.Vector.{Vector}
 use Rattle.bounds.specs.declared.start.Weights.{Weights}
-use Rattle.bounds.specs.declared.start.Weights.TheVariants as W
 use Rattle.jets.proofs.NetIn.{Given}
 use Rattle.jets.proofs.CartesianIn.{FinitePoint}
 use Rattle.bounds.specs.Start.{max_from, min_from, are_by, range_by, range_of, moved_of, control_of}
 use Rattle.runs.specs.Point as P
 use Rattle.jets.proofs.JetIn.{JetIn, jet-const}
+use Rattle.std.specs.Prelude.{Some, None, Result, Ok, Err}
+use Rattle.interval.specs.declared.DivideError.{DivideError}
+use Rattle.interval.specs.declared.DivideError.TheVariants.{HoldsZero, Unbounded}
+use Rattle.knots.specs.declared.refusal.Refusal.{Refusal}
+use Rattle.knots.specs.declared.refusal.Reason.TheVariants.{WeightRatioLow}
+use Rattle.knots.specs.Refusal.{refuse}
 
 not_left : (x y : Bool) → T (not (x || y)) → T (not x)
 not_left true y h = h
@@ -159,9 +161,9 @@ pub record Cut (least most scale : Float) (bound : Interval) : Type 0 where
   pub one : bound.hi ≡ one+
 
 -- or a refusal that is not 28 and not 29
-abbrev pub Cuts : Float → Float → Weights → Type 0
-Cuts least most (W.Are scale bound) = Cut least most scale bound
-Cuts least most (W.Refused n) = Given n
+abbrev pub Cuts : Float → Float → Result Weights Refusal → Type 0
+Cuts least most (Ok w) = Cut least most w.scale w.bound
+Cuts least most (Err r) = Given (Err r)
 
 below_one : {x : ℚ} → x ≤q q1 → Upper one+ x
 below_one {x} h = subst (λ y. x ≤q y) (sym val-one) h
@@ -170,18 +172,18 @@ pub range-in : (least most : Float) → T (finite least) → T (finite most) →
 unfolding range_of new_of
 range-in least most f g u = go (divide_of (point_of least) (point_of most)) (divide-formed _ _ _ _ (point-inside least f) (point-inside most g))
   where
-    made : (q : Interval) → Inside q (val least /q val most) → (b : Bool) → T b → Cuts least most (are_by most (cond b (Made (record { lo = q.lo; hi = one+ })) Nothing))
+    made : (q : Interval) → Inside q (val least /q val most) → (b : Bool) → T b → Cuts least most (are_by most (cond b (Some (record { lo = q.lo; hi = one+ })) None))
     made q d true h = record { scaled = refl; low = d.low; one = refl }
     made q d false h = absurd h
 
-    test : (q : Interval) → Inside q (val least /q val most) → (b : Bool) → Cuts least most (cond b (W.Refused 27) (are_by most (new_of q.lo one+)))
+    test : (q : Interval) → Inside q (val least /q val most) → (b : Bool) → Cuts least most (cond b (Err (refuse WeightRatioLow)) (are_by most (new_of q.lo one+)))
     test q d true = tt
     test q d false = made q d (le q.lo one+) (ends-ordered q.lo one+ (val least /q val most) d.low (below_one u))
 
-    go : (q : Quotient) → Formed q (val least /q val most) → Cuts least most (range_by most q)
-    go (Q.Is q) d = test q d (le q.lo zero+)
-    go Q.HoldsZero d = tt
-    go Q.Unbounded d = absurd d
+    go : (q : Result Interval DivideError) → Formed q (val least /q val most) → Cuts least most (range_by most q)
+    go (Ok q) d = test q d (le q.lo zero+)
+    go (Err HoldsZero) d = tt
+    go (Err Unbounded) d = absurd d
 
 -- the reciprocal of the scale, and the weight's enclosure
 module _ {least most scale : Float} {bound : Interval} (cut : Cut least most scale bound) where

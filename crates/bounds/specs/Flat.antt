@@ -1,12 +1,12 @@
 -- A net without derivatives in a run: eight numbers a point. Definitions only.
-use Rattle.std.specs.Prelude.{ℕ, ◌+◌, ◌*◌, ◌≤◌, ◌<◌, ◌≡◌, List, [], ◌∷◌, Float}
+use Rattle.std.specs.Prelude.{ℕ, ◌+◌, ◌*◌, ◌≤◌, ◌<◌, ◌≡◌, List, [], ◌∷◌, Float, Result}
 use Rattle.doubles.specs.Run.{at}
 use Rattle.jets.specs.declared.jet.Jet.{Jet}
 use Rattle.jets.specs.declared.net.Control.{Control}
 use Rattle.jets.specs.Net.{deboor_of}
 use Rattle.ends.specs.declared.ends.Ends.{Ends}
 use Rattle.ends.specs.declared.flat.Flat.{Flat}
-use Rattle.ends.specs.declared.flat.FlatAnswer.{FlatAnswer}
+use Rattle.knots.specs.declared.refusal.Refusal.{Refusal}
 use Rattle.ends.specs.Flat.{flat_of, flat_net}
 use Rattle.ends.specs.Good.{GoodPoint}
 
@@ -26,5 +26,5 @@ abbrev pub FilledTo : (ℕ → Flat) → ℕ → List Float → Type 0
 FilledTo f n net = (i : ℕ) → i < n → flat_at net i ≡ f i
 
 -- the levels on a net that has the points of c, which are products
-abbrev pub LevelsMeet : List Float → ℕ → ℕ → Jet → List Float → FlatAnswer → Type 0
+abbrev pub LevelsMeet : List Float → ℕ → ℕ → Jet → List Float → Result Flat Refusal → Type 0
 LevelsMeet ks p s t net A = (c : ℕ → Control) → ((m : ℕ) → m ≤ p → GoodPoint (c m)) → FilledTo (λ m. flat_of (c m)) (p + 1) net → A ≡ flat_net (deboor_of ks p s t c)

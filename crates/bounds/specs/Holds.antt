@@ -1,6 +1,6 @@
 -- The promise of a bound: at every fraction of its closed range the exact point and its exact first derivatives, on the span taken, lie in the intervals; and 28 and 29 are given by none.
 -- The exact points are a parameter: P k i is coordinate k of point i.
-use Rattle.std.specs.Prelude.{ℕ, ◌+◌, ◌*◌, Bool, List, ◌≡◌, Float}
+use Rattle.std.specs.Prelude.{ℕ, ◌+◌, ◌*◌, Bool, List, ◌≡◌, Float, Result, Ok, Err}
 use Rattle.exact.specs.Rational.{ℚ, q0, ◌≤q◌}
 use Rattle.exact.specs.Spline.{exact, dexact}
 use Rattle.exact.specs.Surface.{exact₂, dexact₂u, dexact₂v}
@@ -8,16 +8,14 @@ use Rattle.doubles.specs.Value.{val}
 use Rattle.doubles.specs.Run.{val_at}
 use Rattle.interval.specs.Inside.{Inside}
 use Rattle.knots.specs.Curve.{count_of}
-use Rattle.knots.specs.Refusal.{refuse, quotient-none, weights-apart}
+use Rattle.knots.specs.Refusal.{refuse}
+use Rattle.knots.specs.declared.refusal.Reason.TheVariants.{QuotientNone, WeightsApart}
 use Rattle.ranges.specs.Range.{span_over}
 use Rattle.runs.specs.Fraction.{weight_value, coordinate_value}
 use Rattle.jets.specs.Three.{Three}
 use Rattle.bounds.specs.declared.answer.Triple.{Triple}
 use Rattle.bounds.specs.declared.answer.NurbsBounds.{NurbsBounds}
-use Rattle.bounds.specs.declared.answer.Bounded.{Bounded}
-use Rattle.bounds.specs.declared.answer.Bounded.TheVariants.{Are, Refused}
-use Rattle.bounds.specs.declared.answer.PointBounded.{PointBounded}
-use Rattle.bounds.specs.declared.answer.PointBounded.TheVariants as P
+use Rattle.knots.specs.declared.refusal.Refusal.{Refusal}
 
 -- three intervals hold three numbers: x, y and z
 pub record Holding (b : Triple) (e : ℕ → ℚ) : Type 0 where
@@ -32,9 +30,9 @@ pub record Enclosing (b : NurbsBounds) (e : ℕ → Three) : Type 0 where
   pub dv : Holding b.dv (λ k. (e k).dv)
 
 -- where an answer is bounds, they hold it
-abbrev pub Boxed : Bounded → (ℕ → Three) → Type 0
-Boxed (Are b) e = Enclosing b e
-Boxed (Refused r) e = Unit
+abbrev pub Boxed : Result NurbsBounds Refusal → (ℕ → Three) → Type 0
+Boxed (Ok b) e = Enclosing b e
+Boxed (Err r) e = Unit
 
 -- ---- a curve
 -- at t on span s: an exact coordinate and its derivative; 0 in the other direction
@@ -42,22 +40,22 @@ abbrev pub at-t : ℕ → List Float → ℕ → Bool → List Float → ℕ →
 at-t p ks n r ws s t P = record { value = exact (val_at ks) t s p n (weight_value r ws) P; du = dexact (val_at ks) t s p n (weight_value r ws) P; dv = q0 }
 
 -- at every fraction of the closed range, on span s
-abbrev pub HoldsOn : ℕ → ℕ → List Float → ℕ → Bool → List Float → Float → Float → (ℕ → ℕ → ℚ) → Bounded → Type 0
+abbrev pub HoldsOn : ℕ → ℕ → List Float → ℕ → Bool → List Float → Float → Float → (ℕ → ℕ → ℚ) → Result NurbsBounds Refusal → Type 0
 HoldsOn p s ks n r ws lo hi P A = (t : ℚ) → val lo ≤q t → t ≤q val hi → Boxed A (λ k. at-t p ks n r ws s t (P k))
 
 -- on the span that bound_curve takes, of its own points
-abbrev pub Holds : ℕ → List Float → List Float → Bool → List Float → Float → Float → Bounded → Type 0
+abbrev pub Holds : ℕ → List Float → List Float → Bool → List Float → Float → Float → Result NurbsBounds Refusal → Type 0
 Holds p ks ps r ws lo hi = HoldsOn p (span_over p (count_of ps) ks lo hi) ks (count_of ps) r ws lo hi (coordinate_value ps)
 
 -- the same of an answer for the point alone
-abbrev pub PointBoxed : PointBounded → (ℕ → ℚ) → Type 0
-PointBoxed (P.Are b) e = Holding b e
-PointBoxed (P.Refused r) e = Unit
+abbrev pub PointBoxed : Result Triple Refusal → (ℕ → ℚ) → Type 0
+PointBoxed (Ok b) e = Holding b e
+PointBoxed (Err r) e = Unit
 
-abbrev pub PointHoldsOn : ℕ → ℕ → List Float → ℕ → Bool → List Float → Float → Float → (ℕ → ℕ → ℚ) → PointBounded → Type 0
+abbrev pub PointHoldsOn : ℕ → ℕ → List Float → ℕ → Bool → List Float → Float → Float → (ℕ → ℕ → ℚ) → Result Triple Refusal → Type 0
 PointHoldsOn p s ks n r ws lo hi P A = (t : ℚ) → val lo ≤q t → t ≤q val hi → PointBoxed A (λ k. exact (val_at ks) t s p n (weight_value r ws) (P k))
 
-abbrev pub PointHolds : ℕ → List Float → List Float → Bool → List Float → Float → Float → PointBounded → Type 0
+abbrev pub PointHolds : ℕ → List Float → List Float → Bool → List Float → Float → Float → Result Triple Refusal → Type 0
 PointHolds p ks ps r ws lo hi = PointHoldsOn p (span_over p (count_of ps) ks lo hi) ks (count_of ps) r ws lo hi (coordinate_value ps)
 
 -- ---- a surface
@@ -75,15 +73,15 @@ module _ (p q us vs : ℕ) (uk vk : List Float) (nu nv : ℕ) (r : Bool) (ws : L
   }
 
   -- at every pair of fractions of the closed ranges
-  abbrev pub HoldsOver : Float → Float → Float → Float → (ℕ → ℕ → ℚ) → Bounded → Type 0
+  abbrev pub HoldsOver : Float → Float → Float → Float → (ℕ → ℕ → ℚ) → Result NurbsBounds Refusal → Type 0
   HoldsOver ulo uhi vlo vhi P A = (u v : ℚ) → val ulo ≤q u → u ≤q val uhi → val vlo ≤q v → v ≤q val vhi → Boxed A (λ k. at-uv u v (P k))
 
 -- on the spans that bound_surface takes, of its own points
-abbrev pub SurfaceHolds : ℕ → ℕ → List Float → List Float → ℕ → ℕ → List Float → Bool → List Float → Float → Float → Float → Float → Bounded → Type 0
+abbrev pub SurfaceHolds : ℕ → ℕ → List Float → List Float → ℕ → ℕ → List Float → Bool → List Float → Float → Float → Float → Float → Result NurbsBounds Refusal → Type 0
 SurfaceHolds p q uk vk nu nv ps r ws ulo uhi vlo vhi =
     HoldsOver p q (span_over p nu uk ulo uhi) (span_over q nv vk vlo vhi) uk vk nu nv r ws ulo uhi vlo vhi (coordinate_value ps)
 
 -- ---- a number that is neither 28 nor 29
 pub record NotIdle (n : ℕ) : Type 0 where
-  pub not-28 : n ≡ (refuse quotient-none).number → ⊥
-  pub not-29 : n ≡ (refuse weights-apart).number → ⊥
+  pub not-28 : n ≡ (refuse QuotientNone).number → ⊥
+  pub not-29 : n ≡ (refuse WeightsApart).number → ⊥

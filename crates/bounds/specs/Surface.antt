@@ -1,20 +1,16 @@
 -- The bounds of a surface: rows along v, then the column of rows along u, as in the source. Definitions only.
 use Prim.Native.Nat.{ℕ, zero, suc, ◌+◌, ◌-◌, ◌*◌, ◌≤◌, ◌<◌}
-use Rattle.std.specs.Prelude.{Bool, false, cond, List, ltb}
+use Rattle.std.specs.Prelude.{Bool, false, cond, List, ltb, Option, Some, None, Result, Ok, Err}
 use Rattle.std.specs.Float.Ieee.{Float}
 use Rattle.std.specs.Float.{inf}
 use Rattle.doubles.specs.Value.{zero+}
 use Rattle.interval.specs.Ops.{new_of}
 use Rattle.interval.specs.declared.Interval.{Interval}
-use Rattle.interval.specs.declared.New.{New}
-use Rattle.interval.specs.declared.New.TheVariants.{Made, Nothing}
 use Rattle.runs.specs.declared.vector.Vector.{Vector}
-use Rattle.jets.specs.declared.net.NetAnswer.{NetAnswer}
+use Rattle.jets.specs.declared.net.Control.{Control}
 use Rattle.bounds.specs.declared.start.Extremes.{Extremes}
 use Rattle.bounds.specs.declared.start.Weights.{Weights}
-use Rattle.bounds.specs.declared.start.Weights.TheVariants as W
-use Rattle.jets.specs.declared.cartesian.BoundAnswer.{BoundAnswer}
-use Rattle.jets.specs.declared.cartesian.BoundAnswer.TheVariants as B
+use Rattle.jets.specs.declared.cartesian.Bounds.{Bounds}
 use Rattle.jets.specs.Net.{filled_of}
 use Rattle.bounds.specs.Start.{max_from, min_from, range_of, row_of}
 use Rattle.runs.specs.Point as P
@@ -22,17 +18,17 @@ use Rattle.jets.specs.Cartesian.{net_by}
 use Rattle.ranges.specs.Range.{span_over, range_refusal}
 use Rattle.runs.specs.Weight.{weight_at}
 use Rattle.bounds.specs.Answer.{bounded_of}
-use Rattle.bounds.specs.declared.answer.Bounded.{Bounded}
+use Rattle.bounds.specs.declared.answer.NurbsBounds.{NurbsBounds}
 use Rattle.knots.specs.declared.refusal.Refusal.{Refusal}
 use Rattle.knots.specs.Refusal as R
-use Rattle.knots.specs.Refusal.{degree-high, range-bad}
+use Rattle.knots.specs.declared.refusal.Reason.TheVariants.{DegreeHigh, RangeBad}
 use Rattle.knots.specs.Surface.{surface_refusal}
 use Rattle.bounds.specs.Curve.{unless}
 use Rattle.jets.specs.Jet.{parameter_of, second_of}
 
 -- refusals of two ranges: 31, then 24, 25 for u and for v
 unfoldable pub ranges_refusal : ℕ → ℕ → ℕ → ℕ → ℕ → ℕ → Float → Float → Float → Float → Refusal
-ranges_refusal p q nu nv us vs ulo uhi vlo vhi = cond (ltb 64 q) (R.refuse degree-high) (R.or_else (range_refusal p nu us ulo uhi) (range_refusal q nv vs vlo vhi))
+ranges_refusal p q nu nv us vs ulo uhi vlo vhi = cond (ltb 64 q) (R.refuse DegreeHigh) (R.or_else (range_refusal p nu us ulo uhi) (range_refusal q nv vs vlo vhi))
 
 -- the largest of a net of weights, row by row, and the smallest
 unfoldable pub max_rows : (ℕ → ℕ → Float) → ℕ → ℕ → Float
@@ -56,31 +52,31 @@ module _ (p q us vs : ℕ) (uk vk : List Float) (nv : ℕ) (ps ws : List Float) 
   corner = P.point_of ps ((us - p) * nv + (vs - q))
 
   -- row m along v
-  unfoldable pub row_at : Float → Interval → ℕ → NetAnswer
+  unfoldable pub row_at : Float → Interval → ℕ → Result Control Refusal
   row_at scale iv m = row_of ps ws r (first_at m) corner scale vk q vs (second_of iv)
 
-  abbrev pub ranges_are : Float → Interval → New → New → BoundAnswer
-  ranges_are scale bound (Made iv) (Made iu) = net_by corner bound (filled_of uk p us (parameter_of iu) (λ m. row_at scale iv m))
-  ranges_are scale bound (Made iv) Nothing = B.Refused (R.refuse range-bad).number
-  ranges_are scale bound Nothing b = B.Refused (R.refuse range-bad).number
+  abbrev pub ranges_are : Float → Interval → Option Interval → Option Interval → Result Bounds Refusal
+  ranges_are scale bound (Some iv) (Some iu) = net_by corner bound (filled_of uk p us (parameter_of iu) (λ m. row_at scale iv m))
+  ranges_are scale bound (Some iv) None = Err (R.refuse RangeBad)
+  ranges_are scale bound None b = Err (R.refuse RangeBad)
 
-  abbrev pub weights_by : Weights → BoundAnswer
-  weights_by (W.Are scale bound) = ranges_are scale bound (new_of vlo vhi) (new_of ulo uhi)
-  weights_by (W.Refused n) = B.Refused n
+  abbrev pub weights_by : Result Weights Refusal → Result Bounds Refusal
+  weights_by (Ok w) = ranges_are w.scale w.bound (new_of vlo vhi) (new_of ulo uhi)
+  weights_by (Err n) = Err n
 
   -- the bounds on spans us and vs
-  unfoldable pub spans_bound : BoundAnswer
+  unfoldable pub spans_bound : Result Bounds Refusal
   unfolding row_at
   spans_bound = let w : ℕ → ℕ → Float = λ m k. weight_at r ws (first_at m + k) in weights_by (range_of (min_rows w (q + 1) (p + 1)) (max_rows w (q + 1) (p + 1)))
 
 -- the bounds of a valid surface on spans us and vs, or the first refusal of the ranges
-unfoldable pub bounded_by : ℕ → ℕ → ℕ → ℕ → List Float → List Float → ℕ → ℕ → List Float → Bool → List Float → Float → Float → Float → Float → Bounded
+unfoldable pub bounded_by : ℕ → ℕ → ℕ → ℕ → List Float → List Float → ℕ → ℕ → List Float → Bool → List Float → Float → Float → Float → Float → Result NurbsBounds Refusal
 unfolding spans_bound
 bounded_by p q us vs uk vk nu nv ps r ws ulo uhi vlo vhi =
     unless (ranges_refusal p q nu nv us vs ulo uhi vlo vhi) (bounded_of (spans_bound p q us vs uk vk nv ps ws r ulo uhi vlo vhi))
 
 -- the bounds of a surface, or the first refusal
-unfoldable pub surface_of : ℕ → ℕ → List Float → List Float → ℕ → ℕ → List Float → Bool → List Float → Float → Float → Float → Float → Bounded
+unfoldable pub surface_of : ℕ → ℕ → List Float → List Float → ℕ → ℕ → List Float → Bool → List Float → Float → Float → Float → Float → Result NurbsBounds Refusal
 unfolding bounded_by
 surface_of p q uk vk nu nv ps r ws ulo uhi vlo vhi =
     unless (surface_refusal p q uk vk nu nv ps r ws)

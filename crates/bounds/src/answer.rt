@@ -1,10 +1,9 @@
 // What a bound answers.
 ghost use Rattle.std.specs.Prelude.{◌≡◌};
-ghost use Rattle.bounds.specs.Answer.{triple_of, bounds_of, bounded_of, point_bounded_of};
+ghost use Rattle.bounds.specs.Answer.{triple_of, bounds_of};
 
 use interval::Interval;
-use jets::cartesian::{BoundAnswer, Bounds};
-use knots::refusal::{Refusal, refuse};
+use jets::cartesian::Bounds;
 
 // An interval for each coordinate.
 #[derive(Clone, Copy)]
@@ -22,32 +21,14 @@ pub struct NurbsBounds {
     pub dv: Triple,
 }
 
-#[derive(Clone, Copy)]
-pub enum Bounded {
-    Are(NurbsBounds),
-    Refused(Refusal),
-}
-
-// Three intervals, as of the point alone, or the number of a refusal.
-#[derive(Clone, Copy)]
-pub enum PointAnswer {
-    Are(Triple),
-    Refused(u32),
-}
-
-#[derive(Clone, Copy)]
-pub enum PointBounded {
-    Are(Triple),
-    Refused(Refusal),
-}
-
 fn triple_of(x: Interval, y: Interval, z: Interval) -> Triple
     ensures { result ≡ triple_of x y z }
 {
     Triple { x, y, z }
 }
 
-fn bounds_of(b: Bounds) -> NurbsBounds
+// By point and derivatives, and not by coordinate.
+pub(crate) fn bounds_of(b: Bounds) -> NurbsBounds
     ensures { result ≡ bounds_of b }
 {
     let x = b.x;
@@ -57,22 +38,4 @@ fn bounds_of(b: Bounds) -> NurbsBounds
     let du = triple_of(x.du, y.du, z.du);
     let dv = triple_of(x.dv, y.dv, z.dv);
     NurbsBounds { point, du, dv }
-}
-
-pub fn answer_of(a: BoundAnswer) -> Bounded
-    ensures { result ≡ bounded_of a }
-{
-    match a {
-        BoundAnswer::Are(b) => Bounded::Are(bounds_of(b)),
-        BoundAnswer::Refused(n) => Bounded::Refused(refuse(n)),
-    }
-}
-
-pub fn point_answer(a: PointAnswer) -> PointBounded
-    ensures { result ≡ point_bounded_of a }
-{
-    match a {
-        PointAnswer::Are(t) => PointBounded::Are(t),
-        PointAnswer::Refused(n) => PointBounded::Refused(refuse(n)),
-    }
 }

@@ -6,13 +6,14 @@ ghost use Rattle.runs.specs.Fraction.{coordinate_value};
 ghost use Rattle.bounds.specs.Numbers.{bounded_refusal};
 ghost use Rattle.bounds.specs.Holds.{Holds, HoldsOn, NotIdle};
 
-use crate::answer::{Bounded, answer_of};
+use crate::answer::{NurbsBounds, bounds_of};
 use crate::levels::Along;
-use crate::start::{Weights, row_of, weights_of};
-use interval::{Interval, New};
-use jets::cartesian::{BoundAnswer, cartesian_of};
+use crate::start::{row_of, weights_of};
+use interval::Interval;
+use jets::cartesian::{Bounds, cartesian_of};
 use jets::jet::parameter;
 use knots::curve::curve_refusal;
+use knots::refusal::{Reason, Refusal, refuse};
 use ranges::range::{range_refusal, span_over};
 use ranges::read::start_refusal;
 use runs::points::point_at;
@@ -27,7 +28,7 @@ fn on_span(
     rational: bool,
     lo: f64,
     hi: f64,
-) -> BoundAnswer
+) -> Result<Bounds, Refusal>
     requires degree_bound { degree ≤ 64 }
     requires degree_le_s { degree ≤ s }
     requires degree_in_bounds { s + degree < length knots.now }
@@ -35,21 +36,15 @@ fn on_span(
     ensures { result ≡ span_bound degree s knots.now points.now weights.now rational lo hi }
 {
     let first = s - degree;
-    match weights_of(rational, weights, first, degree + 1) {
-        Weights::Are(scale, bound) => {
-            let o = point_at(points, first);
-            match Interval::new(lo, hi) {
-                New::Made(range) => {
-                    let t = parameter(range);
-                    let along = Along { degree, span: s, t };
-                    let net = row_of(points, weights, rational, first, o, scale, knots, along);
-                    cartesian_of(net, o, bound)
-                }
-                New::Nothing => BoundAnswer::Refused(24),
-            }
-        }
-        Weights::Refused(n) => BoundAnswer::Refused(n),
-    }
+    let w = weights_of(rational, weights, first, degree + 1)?;
+    let o = point_at(points, first);
+    let Some(range) = Interval::new(lo, hi) else {
+        return Err(refuse(Reason::RangeBad));
+    };
+    let t = parameter(range);
+    let along = Along { degree, span: s, t };
+    let h = row_of(points, weights, rational, first, o, w.scale, knots, along)?;
+    cartesian_of(h, o, w.bound)
 }
 
 // The bounds of a curve over the closed range [lo, hi], which one nonempty span must contain. The first such span is taken, so a range that is one inner knot belongs to the span before it. They hold the exact point and its exact first derivative at every fraction of the range, and dv holds 0. 28 and 29 are never given.
@@ -61,22 +56,17 @@ pub fn bound_curve(
     weights: &[f64],
     lo: f64,
     hi: f64,
-) -> Bounded
+) -> Result<NurbsBounds, Refusal>
     ensures value { result ≡ bound_of degree knots.now points.now rational weights.now lo hi }
     ensures holds { Holds degree knots.now points.now rational weights.now lo hi result }
     ensures not_idle { NotIdle (bounded_refusal result).number }
 {
-    let refusal = curve_refusal(degree, knots, points, rational, weights);
-    if refusal.number != 0 {
-        return Bounded::Refused(refusal);
-    }
+    curve_refusal(degree, knots, points, rational, weights)?;
     let count = points.len() / 3;
     let s = span_over(degree, count, knots, lo, hi);
-    let outside = range_refusal(degree, count, s, lo, hi);
-    if outside.number != 0 {
-        return Bounded::Refused(outside);
-    }
-    answer_of(on_span(degree, s, knots, points, weights, rational, lo, hi))
+    range_refusal(degree, count, s, lo, hi)?;
+    let b = on_span(degree, s, knots, points, weights, rational, lo, hi)?;
+    Ok(bounds_of(b))
 }
 
 // The bounds on a span that is asked for by its index: no number but the span's own is read, so that a walk over all spans of a valid curve validates once. Where it answers, its bounds hold the exact point and derivative, and dv holds 0, whatever the rest of the table is. 28 and 29 are never given.
@@ -89,14 +79,12 @@ pub fn bound_span(
     weights: &[f64],
     lo: f64,
     hi: f64,
-) -> Bounded
+) -> Result<NurbsBounds, Refusal>
     ensures value { result ≡ bound_at degree span knots.now points.now rational weights.now lo hi }
     ensures holds_on { HoldsOn degree span knots.now (count_of points.now) rational weights.now lo hi (coordinate_value points.now) result }
     ensures not_idle { NotIdle (bounded_refusal result).number }
 {
-    let refusal = start_refusal(degree, span, knots, points, rational, weights, lo, hi);
-    if refusal.number != 0 {
-        return Bounded::Refused(refusal);
-    }
-    answer_of(on_span(degree, span, knots, points, weights, rational, lo, hi))
+    start_refusal(degree, span, knots, points, rational, weights, lo, hi)?;
+    let b = on_span(degree, span, knots, points, weights, rational, lo, hi)?;
+    Ok(bounds_of(b))
 }

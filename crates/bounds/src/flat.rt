@@ -1,19 +1,22 @@
 // The net of a row without derivatives, in a run of eight numbers a point, and de Boor's levels on it.
-ghost use Rattle.std.specs.Prelude.{◌≡◌, ◌+◌, ◌*◌, ◌≤◌, ◌<◌, length};
+ghost use Rattle.std.specs.Prelude.{◌≡◌, ℕ, ◌+◌, ◌*◌, ◌≤◌, ◌<◌, length};
 ghost use Rattle.std.proofs.lemmas.List.Edits.{sets};
 ghost use Rattle.jets.specs.Net.{share_at, deboor_of};
 ghost use Rattle.jets.specs.Jet.{parameter_of};
+ghost use Rattle.jets.specs.declared.net.Control.{Control};
 ghost use Rattle.interval.specs.Ops.{point_of, sub_of};
 ghost use Rattle.ends.specs.Ends.{ends_of, times_of};
 ghost use Rattle.ends.specs.Flat.{flat_of, flat_net, flat_neighbours};
 ghost use Rattle.bounds.specs.Start.{moved_of, control_of, start_at, row_of};
+ghost use Rattle.ends.specs.Good.{GoodPoint};
+ghost use Rattle.bounds.specs.Levels.{LevelMeets};
 ghost use Rattle.bounds.specs.Flat.{flat_at, eight_of, FilledTo, LevelsMeet};
 
-use crate::levels::{Place, next_place};
 use ends::ends::{Ends, ends_of};
 use ends::factor::{Factor, factor_of, is_factor, times};
-use ends::flat::{Flat, FlatAnswer, flat_step};
-use interval::{Interval, Quotient};
+use ends::flat::{Flat, flat_step};
+use interval::Interval;
+use knots::refusal::Refusal;
 use runs::points::point_at;
 use runs::vector::Vector;
 use runs::weights::weight_at;
@@ -127,56 +130,63 @@ fn fill_flat(
     ensures net_len_unchanged { length net.new ≡ length net.old }
     ensures filled_to { FilledTo (λ m. flat_of (start_at points.now weights.now rational base o r m)) (degree + 1) net.new }
 {
-    let mut m = 0usize;
-    while m <= degree {
+    for m in 0..=degree {
         let i = base + m;
         let c = flat_control(point_at(points, i), o, weight_at(rational, weights, i), r);
         put_flat(net, m, c);
-        m += 1;
     }
 }
 
 // Two neighbours under the share of a place.
-fn flat_step_at(along: Within, knots: &[f64], at: Place, a: Flat, b: Flat) -> FlatAnswer
+fn flat_step_at(
+    along: Within,
+    knots: &[f64],
+    level: usize,
+    j: usize,
+    a: Flat,
+    b: Flat,
+) -> Result<Flat, Refusal>
     requires degree_le_span { along.degree ≤ along.span }
     requires degree_in_bounds { along.span + along.degree < length knots.now }
-    requires level_nonzero { 0 < at.level }
-    requires level_le_j { at.level ≤ at.j }
-    requires j_le_degree { at.j ≤ along.degree }
-    ensures { result ≡ flat_neighbours (share_at knots.now along.degree along.span (parameter_of along.t) at.level at.j) a b }
+    requires level_nonzero { 0 < level }
+    requires level_le_j { level ≤ j }
+    requires j_le_degree { j ≤ along.degree }
+    ensures { result ≡ flat_neighbours (share_at knots.now along.degree along.span (parameter_of along.t) level j) a b }
 {
-    let low = along.span - along.degree + at.j;
-    let high = along.span + at.j - at.level + 1;
+    let low = along.span - along.degree + j;
+    let high = along.span + j - level + 1;
     flat_step(along.t, knots[low], knots[high], a, b)
 }
 
+// One level of a net, from the degree down since a point takes the one before it as the level found it.
+fn flat_level(knots: &[f64], along: Within, level: usize, net: &mut [f64]) -> Result<(), Refusal>
+    requires degree_bound { along.degree ≤ 64 }
+    requires degree_le_span { along.degree ≤ along.span }
+    requires degree_in_bounds { along.span + along.degree < length knots.now }
+    requires level_nonzero { 0 < level }
+    requires level_le_degree { level ≤ along.degree }
+    requires degree_in_bounds_2 { along.degree * 8 + 8 ≤ length net.old }
+    ensures { (c : ℕ → Control) → ((m : ℕ) → m ≤ along.degree → GoodPoint (c m)) → LevelMeets knots.now along.degree along.span (parameter_of along.t) flat_of c level (flat_at net.old) (flat_at net.new) result }
+{
+    for j in (level..=along.degree).rev() {
+        let c = flat_step_at(along, knots, level, j, flat_at(net, j - 1), flat_at(net, j))?;
+        put_flat(net, j, c);
+    }
+    Ok(())
+}
+
 // All levels on a net that was filled.
-fn flat_levels(knots: &[f64], along: Within, net: &mut [f64]) -> FlatAnswer
+fn flat_levels(knots: &[f64], along: Within, net: &mut [f64]) -> Result<Flat, Refusal>
     requires degree_bound { along.degree ≤ 64 }
     requires degree_le_span { along.degree ≤ along.span }
     requires degree_in_bounds { along.span + along.degree < length knots.now }
     requires degree_in_bounds_2 { along.degree * 8 + 8 ≤ length net.old }
     ensures { LevelsMeet knots.now along.degree along.span (parameter_of along.t) net.old result }
 {
-    let degree = along.degree;
-    let mut at = Place {
-        level: 1,
-        j: degree,
-    };
-    while at.level <= degree {
-        let j = at.j;
-        let k = j - 1;
-        match flat_step_at(along, knots, at, flat_at(net, k), flat_at(net, j)) {
-            FlatAnswer::Is(c) => {
-                put_flat(net, j, c);
-            }
-            FlatAnswer::Refused(n) => {
-                return FlatAnswer::Refused(n);
-            }
-        }
-        at = next_place(at, degree);
+    for level in 1..=along.degree {
+        flat_level(knots, along, level, net)?;
     }
-    FlatAnswer::Is(flat_at(net, degree))
+    Ok(flat_at(net, along.degree))
 }
 
 // The net of a row, and all levels on it, in a lent run.
@@ -190,7 +200,7 @@ fn flat_by(
     knots: &[f64],
     along: Within,
     net: &mut [f64],
-) -> FlatAnswer
+) -> Result<Flat, Refusal>
     requires degree_bound { along.degree ≤ 64 }
     requires degree_le_span { along.degree ≤ along.span }
     requires degree_in_bounds { along.span + along.degree < length knots.now }
@@ -212,7 +222,7 @@ fn flat_small(
     r: Interval,
     knots: &[f64],
     along: Within,
-) -> FlatAnswer
+) -> Result<Flat, Refusal>
     requires degree_bound { along.degree ≤ 7 }
     requires degree_le_span { along.degree ≤ along.span }
     requires degree_in_bounds { along.span + along.degree < length knots.now }
@@ -235,7 +245,7 @@ fn flat_large(
     r: Interval,
     knots: &[f64],
     along: Within,
-) -> FlatAnswer
+) -> Result<Flat, Refusal>
     requires degree_bound { along.degree ≤ 64 }
     requires degree_le_span { along.degree ≤ along.span }
     requires degree_in_bounds { along.span + along.degree < length knots.now }
@@ -258,22 +268,17 @@ pub fn flat_row(
     scale: f64,
     knots: &[f64],
     along: Within,
-) -> FlatAnswer
+) -> Result<Flat, Refusal>
     requires degree_bound { along.degree ≤ 64 }
     requires degree_le_span { along.degree ≤ along.span }
     requires degree_in_bounds { along.span + along.degree < length knots.now }
     requires degree_bound_2 { base + along.degree < 2097152 }
     ensures { result ≡ flat_net (row_of points.now weights.now rational base o scale knots.now along.degree along.span (parameter_of along.t)) }
 {
-    match interval::reciprocal(Interval::point(scale)) {
-        Quotient::Is(r) => {
-            if along.degree <= 7 {
-                flat_small(points, weights, rational, base, o, r, knots, along)
-            } else {
-                flat_large(points, weights, rational, base, o, r, knots, along)
-            }
-        }
-        Quotient::HoldsZero => FlatAnswer::Refused(26),
-        Quotient::Unbounded => FlatAnswer::Refused(28),
+    let r = interval::reciprocal(Interval::point(scale))?;
+    if along.degree <= 7 {
+        flat_small(points, weights, rational, base, o, r, knots, along)
+    } else {
+        flat_large(points, weights, rational, base, o, r, knots, along)
     }
 }

@@ -5,17 +5,18 @@ ghost use Rattle.runs.specs.Weight.{weight_at};
 ghost use Rattle.bounds.specs.Start.{row_of, range_of};
 ghost use Rattle.bounds.specs.Surface.{max_rows, min_rows, net_extremes, RowsFit, SpansFit, spans_bound};
 
-use crate::levels::{Along, Place, next_place, step_at};
+use crate::levels::{Along, all_levels};
 use crate::start::{Extremes, Weights, extreme_weights, no_extremes, range_of, row_of};
-use interval::{Interval, New};
-use jets::cartesian::{BoundAnswer, cartesian_of};
+use interval::Interval;
+use jets::cartesian::{Bounds, cartesian_of};
 use jets::jet::{parameter, second};
-use jets::net::{NetAnswer, zero_control};
+use jets::net::{Control, zero_control};
+use knots::refusal::{Reason, Refusal, refuse};
 use runs::points::point_at;
 use runs::vector::Vector;
 
 // One parameter of a surface: its degree, its count of points and a closed range.
-#[derive(Clone, Copy)]
+#[derive(Clone, Copy, Debug, PartialEq)]
 pub struct Side {
     pub degree: usize,
     pub count: usize,
@@ -37,11 +38,8 @@ fn net_extremes(
     ensures { result ≡ net_extremes (λ m k. weight_at rational weights.now ((row + m) * nv + col + k)) cols rows }
 {
     let mut found = no_extremes();
-    let mut m = 0usize;
-    while m < rows {
-        let i = row + m;
-        found = extreme_weights(found, rational, weights, i * nv + col, cols);
-        m += 1;
+    for m in 0..rows {
+        found = extreme_weights(found, rational, weights, (row + m) * nv + col, cols);
     }
     found
 }
@@ -60,7 +58,7 @@ fn rows_of(
     v: Along,
     uk: &[f64],
     u: Along,
-) -> NetAnswer
+) -> Result<Control, Refusal>
     requires degree_bound { u.degree ≤ 64 }
     requires degree_le_span { u.degree ≤ u.span }
     requires degree_in_bounds { u.span + u.degree < length uk.now }
@@ -70,36 +68,12 @@ fn rows_of(
     requires rows_fit { RowsFit row (u.degree + 1) nv col (v.degree + 1) }
     ensures { result ≡ filled_of uk.now u.degree u.span u.t (λ m. row_of points.now weights.now rational ((row + m) * nv + col) o scale vk.now v.degree v.span v.t) }
 {
-    let p = u.degree;
     let mut net = [zero_control(); 65];
-    let mut m = 0usize;
-    while m <= p {
-        let i = row + m;
-        match row_of(points, weights, rational, i * nv + col, o, scale, vk, v) {
-            NetAnswer::Is(c) => {
-                net[m] = c;
-            }
-            NetAnswer::Refused(n) => {
-                return NetAnswer::Refused(n);
-            }
-        }
-        m += 1;
+    for m in 0..=u.degree {
+        let base = (row + m) * nv + col;
+        net[m] = row_of(points, weights, rational, base, o, scale, vk, v)?;
     }
-    let mut at = Place { level: 1, j: p };
-    while at.level <= p {
-        let j = at.j;
-        let k = j - 1;
-        match step_at(u, uk, at, net[k], net[j]) {
-            NetAnswer::Is(c) => {
-                net[j] = c;
-            }
-            NetAnswer::Refused(n) => {
-                return NetAnswer::Refused(n);
-            }
-        }
-        at = next_place(at, p);
-    }
-    NetAnswer::Is(net[p])
+    all_levels(u, uk, &mut net)
 }
 
 // The scale and the enclosure of the active weights.
@@ -111,7 +85,7 @@ fn weights_in(
     nv: usize,
     col: usize,
     cols: usize,
-) -> Weights
+) -> Result<Weights, Refusal>
     requires { RowsFit row rows nv col cols }
     ensures { result ≡ range_of (min_rows (λ m k. weight_at rational weights.now ((row + m) * nv + col + k)) cols rows) (max_rows (λ m k. weight_at rational weights.now ((row + m) * nv + col + k)) cols rows) }
 {
@@ -130,37 +104,33 @@ pub fn on_spans(
     points: &[f64],
     weights: &[f64],
     rational: bool,
-) -> BoundAnswer
+) -> Result<Bounds, Refusal>
     requires { SpansFit u.degree v.degree us vs (length uk.now) (length vk.now) v.count }
     ensures { result ≡ spans_bound u.degree v.degree us vs uk.now vk.now v.count points.now weights.now rational u.lo u.hi v.lo v.hi }
 {
     let row = us - u.degree;
     let col = vs - v.degree;
     let nv = v.count;
-    match weights_in(rational, weights, row, u.degree + 1, nv, col, v.degree + 1) {
-        Weights::Are(scale, bound) => match Interval::new(v.lo, v.hi) {
-            New::Made(iv) => match Interval::new(u.lo, u.hi) {
-                New::Made(iu) => {
-                    let o = point_at(points, row * nv + col);
-                    let along_v = Along {
-                        degree: v.degree,
-                        span: vs,
-                        t: second(iv),
-                    };
-                    let along_u = Along {
-                        degree: u.degree,
-                        span: us,
-                        t: parameter(iu),
-                    };
-                    let net = rows_of(
-                        points, weights, rational, row, nv, col, o, scale, vk, along_v, uk, along_u,
-                    );
-                    cartesian_of(net, o, bound)
-                }
-                New::Nothing => BoundAnswer::Refused(24),
-            },
-            New::Nothing => BoundAnswer::Refused(24),
-        },
-        Weights::Refused(n) => BoundAnswer::Refused(n),
-    }
+    let w = weights_in(rational, weights, row, u.degree + 1, nv, col, v.degree + 1)?;
+    let Some(iv) = Interval::new(v.lo, v.hi) else {
+        return Err(refuse(Reason::RangeBad));
+    };
+    let Some(iu) = Interval::new(u.lo, u.hi) else {
+        return Err(refuse(Reason::RangeBad));
+    };
+    let o = point_at(points, row * nv + col);
+    let along_v = Along {
+        degree: v.degree,
+        span: vs,
+        t: second(iv),
+    };
+    let along_u = Along {
+        degree: u.degree,
+        span: us,
+        t: parameter(iu),
+    };
+    let h = rows_of(
+        points, weights, rational, row, nv, col, o, w.scale, vk, along_v, uk, along_u,
+    )?;
+    cartesian_of(h, o, w.bound)
 }

@@ -4,16 +4,17 @@ ghost use Rattle.jets.specs.Net.{deboor_of};
 ghost use Rattle.runs.specs.Weight.{weight_at};
 ghost use Rattle.bounds.specs.Start.{extremes_of, no_extremes, range_of, weights_of, moved_of, control_of, start_at, row_of};
 
-use crate::levels::{Along, Place, next_place, step_at};
+use crate::levels::{Along, all_levels};
+use interval::Interval;
 use interval::float::{infinity, max, min};
-use interval::{Interval, New, Quotient};
 use jets::jet::Jet;
-use jets::net::{Control, NetAnswer, zero_control};
+use jets::net::{Control, zero_control};
+use knots::refusal::{Reason, Refusal, refuse};
 use runs::points::point_at;
 use runs::vector::Vector;
 use runs::weights::weight_at;
 
-#[derive(Clone, Copy)]
+#[derive(Clone, Copy, Debug, PartialEq)]
 pub struct Extremes {
     pub least: f64,
     pub most: f64,
@@ -32,12 +33,10 @@ pub fn extreme_weights(
 {
     let mut least = from.least;
     let mut most = from.most;
-    let mut m = 0usize;
-    while m < count {
+    for m in 0..count {
         let w = weight_at(rational, weights, first + m);
         least = min(least, w);
         most = max(most, w);
-        m += 1;
     }
     Extremes { least, most }
 }
@@ -52,33 +51,33 @@ pub fn no_extremes() -> Extremes
     }
 }
 
-// The scale and the enclosure of the weight, or the number of a refusal.
+// The scale and the enclosure of the weight.
 #[derive(Clone, Copy)]
-pub enum Weights {
-    Are(f64, Interval),
-    Refused(u32),
+pub struct Weights {
+    pub scale: f64,
+    pub bound: Interval,
 }
 
-pub fn range_of(least: f64, most: f64) -> Weights
+pub fn range_of(least: f64, most: f64) -> Result<Weights, Refusal>
     ensures { result ≡ range_of least most }
 {
-    match interval::divide(Interval::point(least), Interval::point(most)) {
-        Quotient::Is(q) => {
-            let lo = q.lo();
-            if lo <= 0.0 {
-                return Weights::Refused(27);
-            }
-            match Interval::new(lo, 1.0) {
-                New::Made(b) => Weights::Are(most, b),
-                New::Nothing => Weights::Refused(28),
-            }
-        }
-        Quotient::HoldsZero => Weights::Refused(26),
-        Quotient::Unbounded => Weights::Refused(28),
+    let q = interval::divide(Interval::point(least), Interval::point(most))?;
+    let lo = q.lo();
+    if lo <= 0.0 {
+        return Err(refuse(Reason::WeightRatioLow));
     }
+    let Some(bound) = Interval::new(lo, 1.0) else {
+        return Err(refuse(Reason::QuotientNone));
+    };
+    Ok(Weights { scale: most, bound })
 }
 
-pub fn weights_of(rational: bool, weights: &[f64], first: usize, count: usize) -> Weights
+pub fn weights_of(
+    rational: bool,
+    weights: &[f64],
+    first: usize,
+    count: usize,
+) -> Result<Weights, Refusal>
     requires { first + count < 2097152 }
     ensures { result ≡ weights_of (λ m. weight_at rational weights.now (first + m)) count }
 {
@@ -114,39 +113,19 @@ fn row_by(
     r: Interval,
     knots: &[f64],
     along: Along,
-) -> NetAnswer
+) -> Result<Control, Refusal>
     requires degree_bound { along.degree ≤ 64 }
     requires degree_le_span { along.degree ≤ along.span }
     requires degree_in_bounds { along.span + along.degree < length knots.now }
     requires degree_bound_2 { base + along.degree < 2097152 }
     ensures { result ≡ deboor_of knots.now along.degree along.span along.t (start_at points.now weights.now rational base o r) }
 {
-    let degree = along.degree;
     let mut net = [zero_control(); 65];
-    let mut m = 0usize;
-    while m <= degree {
+    for m in 0..=along.degree {
         let i = base + m;
         net[m] = control(point_at(points, i), o, weight_at(rational, weights, i), r);
-        m += 1;
     }
-    let mut at = Place {
-        level: 1,
-        j: degree,
-    };
-    while at.level <= degree {
-        let j = at.j;
-        let k = j - 1;
-        match step_at(along, knots, at, net[k], net[j]) {
-            NetAnswer::Is(c) => {
-                net[j] = c;
-            }
-            NetAnswer::Refused(n) => {
-                return NetAnswer::Refused(n);
-            }
-        }
-        at = next_place(at, degree);
-    }
-    NetAnswer::Is(net[degree])
+    all_levels(along, knots, &mut net)
 }
 
 // All levels on the row at base, its weights over the scale.
@@ -159,16 +138,13 @@ pub fn row_of(
     scale: f64,
     knots: &[f64],
     along: Along,
-) -> NetAnswer
+) -> Result<Control, Refusal>
     requires degree_bound { along.degree ≤ 64 }
     requires degree_le_span { along.degree ≤ along.span }
     requires degree_in_bounds { along.span + along.degree < length knots.now }
     requires degree_bound_2 { base + along.degree < 2097152 }
     ensures { result ≡ row_of points.now weights.now rational base o scale knots.now along.degree along.span along.t }
 {
-    match interval::reciprocal(Interval::point(scale)) {
-        Quotient::Is(r) => row_by(points, weights, rational, base, o, r, knots, along),
-        Quotient::HoldsZero => NetAnswer::Refused(26),
-        Quotient::Unbounded => NetAnswer::Refused(28),
-    }
+    let r = interval::reciprocal(Interval::point(scale))?;
+    row_by(points, weights, rational, base, o, r, knots, along)
 }

@@ -1,28 +1,26 @@
 // Bounds of a surface on one rectangle of nonempty spans.
 ghost use Rattle.std.specs.Prelude.{◌≡◌};
+ghost use Rattle.knots.specs.Refusal.{checked};
 ghost use Rattle.knots.specs.Surface.{surface_refusal};
 ghost use Rattle.ranges.specs.Range.{span_over};
 ghost use Rattle.bounds.specs.Surface.{ranges_refusal, bounded_by, surface_of};
 ghost use Rattle.bounds.specs.Numbers.{bounded_refusal};
 ghost use Rattle.bounds.specs.Holds.{SurfaceHolds, NotIdle};
 
-use crate::answer::{Bounded, answer_of};
+use crate::answer::{NurbsBounds, bounds_of};
 use crate::rows::{Side, on_spans};
-use knots::refusal::{Refusal, refuse};
+use knots::refusal::{Reason, Refusal, refuse};
 use knots::surface::surface_refusal;
 use ranges::range::{range_refusal, span_over};
 
 // Refusals 31, then 24 and 25 for u and for v.
-fn ranges_refusal(u: Side, v: Side, us: usize, vs: usize) -> Refusal
-    ensures { result ≡ ranges_refusal u.degree v.degree u.count v.count us vs u.lo u.hi v.lo v.hi }
+fn ranges_refusal(u: Side, v: Side, us: usize, vs: usize) -> Result<(), Refusal>
+    ensures { result ≡ checked (ranges_refusal u.degree v.degree u.count v.count us vs u.lo u.hi v.lo v.hi) }
 {
     if v.degree > 64 {
-        return refuse(31);
+        return Err(refuse(Reason::DegreeHigh));
     }
-    let a = range_refusal(u.degree, u.count, us, u.lo, u.hi);
-    if a.number != 0 {
-        return a;
-    }
+    range_refusal(u.degree, u.count, us, u.lo, u.hi)?;
     range_refusal(v.degree, v.count, vs, v.lo, v.hi)
 }
 
@@ -35,17 +33,15 @@ fn bound_valid(
     points: &[f64],
     rational: bool,
     weights: &[f64],
-) -> Bounded
+) -> Result<NurbsBounds, Refusal>
     requires { (surface_refusal u.degree v.degree uk.now vk.now u.count v.count points.now rational weights.now).number ≡ 0 }
     ensures { result ≡ bounded_by u.degree v.degree (span_over u.degree u.count uk.now u.lo u.hi) (span_over v.degree v.count vk.now v.lo v.hi) uk.now vk.now u.count v.count points.now rational weights.now u.lo u.hi v.lo v.hi }
 {
     let us = span_over(u.degree, u.count, uk, u.lo, u.hi);
     let vs = span_over(v.degree, v.count, vk, v.lo, v.hi);
-    let outside = ranges_refusal(u, v, us, vs);
-    if outside.number != 0 {
-        return Bounded::Refused(outside);
-    }
-    answer_of(on_spans(u, v, us, vs, uk, vk, points, weights, rational))
+    ranges_refusal(u, v, us, vs)?;
+    let b = on_spans(u, v, us, vs, uk, vk, points, weights, rational)?;
+    Ok(bounds_of(b))
 }
 
 // The bounds of a surface over a closed rectangle, which one rectangle of nonempty spans must contain. They hold the exact point and both its first derivatives at every pair of fractions. 28 and 29 are never given.
@@ -63,17 +59,14 @@ pub fn bound_surface(
     u_hi: f64,
     v_lo: f64,
     v_hi: f64,
-) -> Bounded
+) -> Result<NurbsBounds, Refusal>
     ensures value { result ≡ surface_of u_degree v_degree u_knots.now v_knots.now u_count v_count points.now rational weights.now u_lo u_hi v_lo v_hi }
     ensures surface_holds { SurfaceHolds u_degree v_degree u_knots.now v_knots.now u_count v_count points.now rational weights.now u_lo u_hi v_lo v_hi result }
     ensures not_idle { NotIdle (bounded_refusal result).number }
 {
-    let refusal = surface_refusal(
+    surface_refusal(
         u_degree, v_degree, u_knots, v_knots, u_count, v_count, points, rational, weights,
-    );
-    if refusal.number != 0 {
-        return Bounded::Refused(refusal);
-    }
+    )?;
     let u = Side {
         degree: u_degree,
         count: u_count,

@@ -1,5 +1,4 @@
 pub mod Digits
-pub mod Widths
 pub mod Storing
 pub mod Passes
 pub mod Places

@@ -1,16 +1,14 @@
--- Texts stored one behind the other, and a text stored byte by byte.
+-- Texts stored one behind the other.
 -- Assumes nothing.
 use Prim.Native.Nat.{ℕ, suc, ◌+◌, ◌-◌, ◌≤◌, ◌<◌}
 use mathlib.Core.Bool.{Bool, true, false}
 use mathlib.Core.Path.{◌≡◌, refl, ◌∙◌, ap}
 use mathlib.Core.List.{List, [], ◌∷◌, ◌++◌, append_assoc}
-use native.Mathlib.Numerals.{add-one}
-use native.Mathlib.Nat.{add-suc}
 use native.Mathlib.Omega.{arith}
 use borrow.Author.Tests.{le-leb, lt-leb, leb-true, leb-false}
 use lib.Dec.{leb}
-use lib.ListN.{length, get_or, set, drop, length-append}
-use lib.Seq.{sets, drop-cons, drop-length}
+use lib.ListN.{length, set, length-append}
+use lib.Seq.{sets}
 use lib.Ieee.{Float, binary64, to_bits}
 use Rattle.knots.proofs.Fill.{sets-append}
 use Rattle.decimals.specs.Text.{spaced_bits}
@@ -59,12 +57,3 @@ put-stored k {l} {at} room s h = record { roomy = λ _. s; short = λ none. absu
 
 pub put-nothing : (k : ℕ) (l : List ℕ) (at : ℕ) (text : List ℕ) → length l < at + k → Put k l at text l at
 put-nothing k l at text none = record { roomy = λ room. absurd (omega arith); short = λ _. (refl, refl); within = omega arith }
-
--- ---- byte by byte
-
--- what is left to store, into the run as it is, gives the run that is asked for
-pub text-left : (l : List ℕ) (a i : ℕ) (t : List ℕ) → i < length t → sets (set l (a + i) (get_or t i 0)) (a + (i + 1)) (drop (i + 1) t) ≡ sets l (a + i) (drop i t)
-text-left l a i t h = rw (add-one i, add-suc, drop-cons t i 0 h) refl
-
-pub text-none : (l : List ℕ) (a i : ℕ) (t : List ℕ) → i ≡ length t → sets l (a + i) (drop i t) ≡ l
-text-none l a i t e = rw (e, drop-length t) refl

@@ -15,12 +15,10 @@ fn raise(run: &mut [u64], f: u64, c: u64)
     ensures run_after { number run.new ≡ number run.old * f + c }
 {
     let mut carry = c;
-    let mut i = 0usize;
-    while i < run.len() {
-        let t = run[i] * f + carry;
-        run[i] = t % 10;
+    for d in run.iter_mut() {
+        let t = *d * f + carry;
+        *d = t % 10;
         carry = t / 10;
-        i += 1;
     }
 }
 
@@ -32,10 +30,8 @@ fn lower(run: &mut [u64], g: u64)
     ensures figures_2 { Figures run.new }
     ensures run_after { number run.new ≡ number run.old / g }
 {
-    let mut rest = 0u64;
-    let mut i = run.len();
-    while i > 0 {
-        i -= 1;
+    let mut rest = 0;
+    for i in (0..run.len()).rev() {
         let t = rest * 10 + run[i];
         run[i] = t / g;
         rest = t % g;
@@ -66,15 +62,6 @@ fn divide(run: &mut [u64], away: bool, g: u64)
     lower(run, g);
 }
 
-// How many of k factors 2 are taken at once.
-fn taken(k: usize) -> usize
-    ensures upper_bound { result ≤ k }
-    ensures upper_bound_2 { result ≤ 32 }
-    ensures result_nonzero { 0 < k → 0 < result }
-{
-    if k < 32 { k } else { 32 }
-}
-
 fn power(k: usize) -> u64
     requires { k ≤ 32 }
     ensures { result ≡ 2 ^ k }
@@ -82,34 +69,30 @@ fn power(k: usize) -> u64
     1u64 << k
 }
 
-// The number times 2^k.
+// The number times 2^k, at most 32 factors at once.
 fn double(run: &mut [u64], k: usize)
     requires figures { Figures run.old }
     requires k_bound { number run.old * 2 ^ k < 10 ^ length run.old }
     ensures figures_2 { Figures run.new }
     ensures run_after { number run.new ≡ number run.old * 2 ^ k }
 {
-    let mut left = k;
-    while left > 0 {
-        let some = taken(left);
-        raise(run, power(some), 0);
-        left -= some;
+    for _ in 0..k / 32 {
+        raise(run, power(32), 0);
     }
+    raise(run, power(k % 32), 0);
 }
 
-// The number divided by 2^k, rounded.
+// The number divided by 2^k, rounded, at most 32 factors at once.
 fn halve(run: &mut [u64], away: bool, k: usize)
     requires figures { Figures run.old }
     requires run_bound { number run.old + 4294967296 ≤ 10 ^ length run.old }
     ensures figures_2 { Figures run.new }
     ensures run_after { number run.new ≡ whole away (number run.old) (2 ^ k) }
 {
-    let mut left = k;
-    while left > 0 {
-        let some = taken(left);
-        divide(run, away, power(some));
-        left -= some;
+    for _ in 0..k / 32 {
+        divide(run, away, power(32));
     }
+    divide(run, away, power(k % 32));
 }
 
 // The number in units of 2^-1074 as a whole one, rounded.
@@ -152,14 +135,12 @@ pub fn count(run: &[u64]) -> usize
     ensures run_bound { number run.now < 10 ^ result }
     ensures result_bound { 0 < result → 10 ^ (result - 1) ≤ number run.now }
 {
-    let mut w = run.len();
-    while w > 0 {
-        if run[w - 1] != 0 {
-            return w;
+    for i in (0..run.len()).rev() {
+        if run[i] != 0 {
+            return i + 1;
         }
-        w -= 1;
     }
-    w
+    0
 }
 
 // The k figures from a place on as text, the least significant last.
@@ -169,11 +150,7 @@ pub fn put_figures(out: &mut [u8], at: usize, run: &[u64], from: usize, k: usize
     requires k_in_bounds_2 { from + k ≤ length run.now }
     ensures { out.new ≡ sets out.old at (digits 10 k (number run.now / 10 ^ from)) }
 {
-    let mut i = k;
-    let mut j = from;
-    while i > 0 {
-        i -= 1;
-        out[at + i] = 48 + run[j] as u8;
-        j += 1;
+    for j in 0..k {
+        out[at + (k - j - 1)] = b'0' + run[from + j] as u8;
     }
 }

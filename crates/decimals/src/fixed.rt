@@ -5,6 +5,7 @@ ghost use Rattle.decimals.specs.Fixed.{minus, whole, billionths, fixed};
 ghost use Rattle.decimals.specs.Figures.{number, Figures};
 
 use crate::figures::{count, put_figures, round};
+use crate::text::store;
 use interval::bits::bits_of;
 
 fn put_minus(out: &mut [u8], at: usize, negative: bool) -> usize
@@ -64,18 +65,6 @@ fn put_finite(out: &mut [u8], at: usize, negative: bool, away: bool, q: u64, j: 
     put_billionths(out, at, negative, &run)
 }
 
-// A word of three letters.
-fn put_word(out: &mut [u8], at: usize, a: u8, b: u8, c: u8) -> usize
-    requires { at + 3 ≤ length out.old }
-    ensures out_after { out.new ≡ sets out.old at (a ∷ b ∷ c ∷ []) }
-    ensures value { result ≡ at + 3 }
-{
-    out[at] = a;
-    out[at + 1] = b;
-    out[at + 2] = c;
-    at + 3
-}
-
 // A double rounded down or up to nine digits behind the point; the place behind it.
 pub fn put_fixed(out: &mut [u8], at: usize, up: bool, x: f64) -> usize
     requires { at + 330 ≤ length out.old }
@@ -87,11 +76,11 @@ pub fn put_fixed(out: &mut [u8], at: usize, up: bool, x: f64) -> usize
     let negative = bits >= 0x8000_0000_0000_0000;
     let size = bits % 0x8000_0000_0000_0000;
     if size > 0x7ff0_0000_0000_0000 {
-        return put_word(out, at, b'n', b'a', b'n');
+        return store(out, at, b"nan");
     }
     if size == 0x7ff0_0000_0000_0000 {
         let next = put_minus(out, at, negative);
-        return put_word(out, next, b'i', b'n', b'f');
+        return store(out, next, b"inf");
     }
     let field = (size / 0x10_0000_0000_0000) as usize;
     let rest = size % 0x10_0000_0000_0000;

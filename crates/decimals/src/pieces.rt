@@ -5,7 +5,7 @@ ghost use Rattle.decimals.specs.Fixed.{fixed};
 ghost use Rattle.decimals.specs.Stored.{Stored, Put};
 
 use crate::fixed::put_fixed;
-use crate::text::{put_decimal, put_digits};
+use crate::text::{put_decimal, put_digits, store};
 use interval::bits::bits_of;
 
 // A run of n bytes has room for k from the place at on.
@@ -16,20 +16,6 @@ fn has_room(n: usize, at: usize, k: usize) -> bool
         return false;
     }
     at <= n - k
-}
-
-// A text, from the place at on; the place behind it.
-fn store(out: &mut [u8], at: usize, text: &[u8]) -> usize
-    requires { at + length text.now ≤ length out.old }
-    ensures stored { Stored out.old at text.now out.new result }
-    ensures upper_bound { result ≤ at + length text.now }
-{
-    let mut i = 0usize;
-    while i < text.len() {
-        out[at + i] = text[i];
-        i += 1;
-    }
-    at + i
 }
 
 // A text, from the place at on; the place behind it.

@@ -1,17 +1,17 @@
 -- The walk over the parts of a span: from a span that was found, the same span is found, so that each of its parts is shown.
 -- Assumes nothing.
+use Rattle.std.specs.Prelude.{Some}
 use Prim.Native.Nat.{ℕ}
 use mathlib.Core.Path.{◌≡◌, sym, ap}
 use mathlib.Core.List.{List}
 use lib.Ieee.{Float}
 use borrow.Author.Tests.{le-ltb}
 use Rattle.knots.specs.Walk.{next_span}
-use Rattle.knots.specs.declared.walk.NextSpan.TheVariants.{At}
 use Rattle.knots.proofs.Walks.{walk_here, next-at}
 use Rattle.listing.specs.Listing.{shown_of}
 
-module _ (p n : ℕ) (ks : List Float) (i s : ℕ) (found : next_span p n ks i ≡ At s) where
-  pub same_span : next_span p n ks s ≡ At s
+module _ (p n : ℕ) (ks : List Float) (i s : ℕ) (found : next_span p n ks i ≡ Some s) where
+  pub same_span : next_span p n ks s ≡ Some s
   same_span =
       let a = next-at p n ks i s found in
       rw (le-ltb s p a.above) (sym (walk_here n ks s a.below a.here))

@@ -1,5 +1,8 @@
 -- The drawing of a motion table, an SVG with y upward: the control polygon, and each nonempty span's box in parts.
 -- Assumes nothing.
+use Rattle.std.specs.Prelude.{Result}
+use Rattle.bounds.specs.declared.answer.NurbsBounds.{NurbsBounds}
+use Rattle.knots.specs.declared.refusal.Refusal.{Refusal}
 use Rattle.std.specs.Prelude.{ℕ, zero, suc, ◌+◌, ◌-◌, ◌/◌, Bool, true, false, ◌&&◌, cond, List, [], ◌∷◌, ◌++◌, eqb, ltb, length, pos, Float}
 use Prim.Native.String.{String}
 use Rattle.std.specs.Float.{inf, binary64}
@@ -14,7 +17,6 @@ use Rattle.runs.specs.Coordinate.{coordinate}
 use Rattle.bounds.specs.Start.{min_from, max_from}
 use Rattle.bounds.specs.Curve.{bound_at}
 use Rattle.bounds.specs.Numbers.{bounded_refusal, bounded_values}
-use Rattle.bounds.specs.declared.answer.Bounded.{Bounded}
 use Rattle.decimals.specs.Ascii.{ascii}
 use Rattle.decimals.specs.Text.{decimal}
 use Rattle.decimals.specs.Fixed.{fixed}
@@ -98,7 +100,7 @@ unfoldable pub unbounded_text : ℕ → ℕ → List ℕ
 unbounded_text s j = part_text "<!-- span " s j ++ ascii " unbounded -->\n"
 
 -- a path, or, where there is none to draw, why: a bound that is refused has no values
-abbrev pub box_text : ℕ → ℕ → Bounded → List ℕ
+abbrev pub box_text : ℕ → ℕ → Result NurbsBounds Refusal → List ℕ
 box_text s j a =
     let vs = bounded_values a in
     let t = triple_by (at vs) 0 in cond (eqb (length vs) 0) (refused_text s j (bounded_refusal a).number) (cond (both_finite t.x t.y) (path_text s j t.x t.y) (unbounded_text s j))

@@ -30,12 +30,9 @@ fn outer(up: bool, a: f64, b: f64) -> f64
 pub fn extreme(points: &[f64], k: usize, up: bool) -> f64
     ensures { result ≡ cond up (greatest_of points.now k) (least_of points.now k) }
 {
-    let n = points.len() / 3;
     let mut found = start(up);
-    let mut i = 0usize;
-    while i < n {
+    for i in 0..points.len() / 3 {
         found = outer(up, found, coordinate_at(points, i, k));
-        i += 1;
     }
     found
 }

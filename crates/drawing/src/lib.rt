@@ -12,17 +12,18 @@ ghost use Rattle.listing.specs.Text.{Shown};
 ghost use Rattle.listing.specs.Listing.{shown_of, answer_of};
 ghost use Rattle.drawing.specs.Drawing.{extent_of, view_of, head_text, point_text, middle_text, tail_text, box_text, parts_of, drawn_of};
 
-use bounds::answer::Bounded;
+use bounds::answer::NurbsBounds;
 use decimals::pieces::{put_number, put_text};
 use extremes::extreme;
 use interval::float::{infinity, min, next_down};
-use listing::{NextLine, NextRange, next_range};
+use knots::refusal::Refusal;
+use listing::{Line, Range, next_range};
 use parts::{bound_part, part_in};
 use paths::{both_finite, put_corners, put_path, put_refusal, put_unbounded};
 use record::clear::clear_bytes;
 
 // The numbers of an SVG's viewBox: y grows downward there, so the top is the greatest y with its sign turned.
-#[derive(Clone, Copy)]
+#[derive(Clone, Copy, Debug, PartialEq)]
 pub struct View {
     pub x: f64,
     pub y: f64,
@@ -115,12 +116,17 @@ pub fn tail_text(out: &mut [u8; 2304]) -> usize
 }
 
 // The line of a part of a span: its box as a path, or why there is none to draw.
-pub fn box_text(span: usize, part: usize, answer: Bounded, out: &mut [u8; 2304]) -> usize
+pub fn box_text(
+    span: usize,
+    part: usize,
+    answer: Result<NurbsBounds, Refusal>,
+    out: &mut [u8; 2304],
+) -> usize
     ensures { Shown 2304 (box_text span part answer) out.new result }
 {
     clear_bytes(out);
     match answer {
-        Bounded::Are(bounds) => {
+        Ok(bounds) => {
             let x = bounds.point.x;
             let y = bounds.point.y;
             if both_finite(x, y) {
@@ -129,7 +135,7 @@ pub fn box_text(span: usize, part: usize, answer: Bounded, out: &mut [u8; 2304])
                 put_unbounded(out, span, part)
             }
         }
-        Bounded::Refused(refusal) => put_refusal(out, span, part, refusal.number),
+        Err(refusal) => put_refusal(out, span, part, refusal.number),
     }
 }
 
@@ -155,7 +161,7 @@ pub fn next_path(
     from: usize,
     part: usize,
     out: &mut [u8; 2304],
-) -> NextLine
+) -> Option<Line>
     ensures value { result ≡ answer_of (drawn_of degree knots.now points.now rational weights.now part) (next_span degree (count_of points.now) knots.now from) }
     ensures shown { Shown 2304 (shown_of (drawn_of degree knots.now points.now rational weights.now part) (next_span degree (count_of points.now) knots.now from)) out.new (length (shown_of (drawn_of degree knots.now points.now rational weights.now part) (next_span degree (count_of points.now) knots.now from))) }
 {
@@ -163,16 +169,16 @@ pub fn next_path(
     let parts = parts_of(count);
     let taken = part_in(parts, part);
     match next_range(degree, count, knots, from) {
-        NextRange::Range { span, lower, upper } => {
+        Some(Range { span, lower, upper }) => {
             let answer = bound_part(
                 degree, span, knots, points, rational, weights, lower, upper, taken, parts,
             );
             let length = box_text(span, taken, answer, out);
-            NextLine::Line { span, length }
+            Some(Line { span, length })
         }
-        NextRange::Nothing => {
+        None => {
             clear_bytes(out);
-            NextLine::End
+            None
         }
     }
 }

@@ -5,8 +5,9 @@ ghost use Rattle.std.specs.Float.Ieee.{of_int};
 ghost use Rattle.bounds.specs.Curve.{bound_at};
 ghost use Rattle.drawing.specs.Drawing.{mark_of, part_of};
 
-use bounds::answer::Bounded;
+use bounds::answer::NurbsBounds;
 use bounds::curve::bound_span;
+use knots::refusal::Refusal;
 
 // A count as a double.
 fn as_double(j: usize) -> f64
@@ -55,7 +56,7 @@ pub fn bound_part(
     upper: f64,
     part: usize,
     parts: usize,
-) -> Bounded
+) -> Result<NurbsBounds, Refusal>
     requires part_lt_parts { part < parts }
     requires parts_bound { parts ≤ 1024 }
     ensures { result ≡ bound_at degree span knots.now points.now rational weights.now (mark_of lower upper part parts) (mark_of lower upper (part + 1) parts) }

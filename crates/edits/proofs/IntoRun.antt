@@ -4,12 +4,14 @@ use Prim.Native.Nat.{ℕ, zero, suc, ◌+◌, ◌-◌, ◌*◌, ◌/◌, ◌%◌
 use mathlib.Core.Bool.{Bool, true, false, cond}
 use mathlib.Core.Path.{◌≡◌, refl, sym, ◌∙◌, ap, ap₂, subst}
 use mathlib.Core.Logic.{◌⊎◌, inl, inr}
-use mathlib.Core.List.{List, ◌++◌, [], append-nil}
+use mathlib.Core.List.{List, ◌++◌}
 use native.Mathlib.Omega.{arith}
-use borrow.Author.Count.{below_more}
-use lib.ListN.{length, set, take, drop, length-set, length-take, length-drop, length-append, drop_of_length-le}
-use lib.Seq.{get_or-set_same, get_or-set_other, get_or-take, get_or-drop, ext_get_or}
+use lib.ListN.{length, set, take, drop, length-set, length-take, length-drop, length-append}
+use lib.Seq.{get_or-take, get_or-drop}
 use lib.Ieee.{Float, nan}
+use borrow.Rule.Slice.PartMut.{put_mid}
+use Rattle.std.proofs.lemmas.List.{get_or_append_left, get_or-append_right}
+use Rattle.std.proofs.lemmas.Slice.{between-put_mid}
 use Rattle.doubles.specs.Run.{at}
 use Rattle.doubles.specs.Value.{one+}
 use Rattle.knots.specs.Clear.{zeros}
@@ -18,7 +20,7 @@ use Rattle.runs.specs.Tabulate.{tabulate}
 use Rattle.runs.proofs.Tabulated.{length-tabulate, tabulate-at, tabulate-cong}
 use Rattle.runs.specs.Lent.{padded}
 use Rattle.runs.specs.declared.vector.Vector.{Vector}
-use Rattle.runs.proofs.Overlays.{store-none, store-more}
+use Rattle.runs.proofs.Overlays.{store-more}
 use Rattle.edits.specs.Rows.{given, axis}
 use Rattle.edits.specs.Work.{knots_from, points_from, weights_from}
 use Rattle.edits.specs.Control.{vector_of}
@@ -29,51 +31,29 @@ use Rattle.runs.proofs.Cleared.{front-taken}
 use Rattle.edits.proofs.RowReads.{row-axis}
 use Rattle.edits.proofs.RowStores.{rows_same}
 
--- ---- knots to place a and on: i of them are there
-pub record InKnots (a : ℕ) (ks w₀ w₁ : List Float) (i : ℕ) : Type 0 where
-  pub upto : i ≤ length ks
-  pub long : length w₁ ≡ length w₀
-  pub knots : (j : ℕ) → j < i → at w₁ (a + j) ≡ at ks j
-  pub rest : (j : ℕ) → (j < a) ⊎ (a + i ≤ j) → at w₁ j ≡ at w₀ j
+-- ---- knots are copied to place a and on
+module _ (a k : ℕ) (ks w₀ ys : List Float) (K : k ≡ length ks) (l : a + length ks ≤ length w₀) (Y : ys ≡ ks) where
+  front : length (take a w₀) ≡ a
+  front = length-take a w₀ ∙ omega arith
 
-module _ (a : ℕ) (ks w₀ : List Float) where
-  pub knots-start : InKnots a ks w₀ w₀ 0
-  knots-start = record { upto = omega arith; long = refl; knots = λ j l. absurd (omega arith); rest = λ j u. refl }
+  long : length ys ≡ k
+  long = ap length Y ∙ sym K
 
-  module _ (w₁ : List Float) (i : ℕ) (I : InKnots a ks w₀ w₁ i) where
-    pub knots-more : i < length ks → a + length ks ≤ length w₀ → InKnots a ks w₀ (set w₁ (a + i) (at ks i)) (i + 1)
-    knots-more b l =
-        let L = I.long in
-        record {
-          upto = omega arith;
-          long = length-set w₁ (a + i) (at ks i) ∙ I.long;
-          knots = below_more (λ j. at (set w₁ (a + i) (at ks i)) (a + j) ≡ at ks j) i
-              (λ j k. get_or-set_other w₁ (a + i) (a + j) (at ks i) nan (λ e. omega arith) ∙ I.knots j k)
-              (get_or-set_same w₁ (a + i) (at ks i) nan (omega arith));
-          rest = others;
-        }
-      where
-        others : (j : ℕ) → (j < a) ⊎ (a + (i + 1) ≤ j) → at (set w₁ (a + i) (at ks i)) j ≡ at w₀ j
-        others j (inl u) = get_or-set_other w₁ (a + i) j (at ks i) nan (λ e. omega arith) ∙ I.rest j (inl u)
-        others j (inr u) = get_or-set_other w₁ (a + i) j (at ks i) nan (λ e. omega arith) ∙ I.rest j (inr (omega arith))
+  others : (j : ℕ) → (j < a) ⊎ (a + length ks ≤ j) → at (put_mid a k w₀ ys) j ≡ at w₀ j
+  others j (inl u) = get_or_append_left (take a w₀) _ nan j (omega (arith, front)) ∙ get_or-take a w₀ j nan u
+  others j (inr u) =
+      get_or-append_right (take a w₀) _ a j nan front (omega arith)
+      ∙ (get_or-append_right ys _ k (j - a) nan long (omega arith)
+      ∙ (get_or-drop k (drop a w₀) (j - a - k) nan ∙ (get_or-drop a w₀ (k + (j - a - k)) nan ∙ ap (at w₀) (omega arith))))
 
-    pub knots-end : length ks ≤ i → a + length ks ≤ length w₀ → KnotsLaid a ks w₀ w₁
-    knots-end b l =
-        let U = I.upto in
-        let L = I.long in
-        let e : i ≡ length ks = omega arith in
-        let m : length (take (length ks) (drop a w₁)) ≡ length ks = length-take (length ks) (drop a w₁) ∙ omega (arith, length-drop a w₁) in
-        record {
-          knots = ext_get_or nan (take (length ks) (drop a w₁)) ks m
-              (λ j c. get_or-take (length ks) (drop a w₁) j nan (omega (arith, m)) ∙ (get_or-drop a w₁ j nan ∙ I.knots j (omega (arith, m))));
-          rest = subst (λ (k : ℕ). (j : ℕ) → (j < a) ⊎ (a + k ≤ j) → at w₁ j ≡ at w₀ j) e I.rest;
-        }
+  pub knots-laid : KnotsLaid a ks w₀ (put_mid a k w₀ ys)
+  knots-laid = record {
+    knots = let e : length ks ≡ a + k - a = omega arith in
+        ap (λ (i : ℕ). take i (drop a (put_mid a k w₀ ys))) e ∙ (between-put_mid a k w₀ ys (a + k) (omega arith) (long ∙ (omega arith)) ∙ Y);
+    rest = others;
+  }
 
 -- ---- points and weights of rows to the front of two runs: i of them are there
-weights-none : (g : Bool) (f : ℕ → Float) (d : List Float) → d ≡ tabulate (given g 0) f ++ drop (given g 0) d
-weights-none true f d = store-none f d
-weights-none false f d = store-none f d
-
 weights-more : (g : Bool) (i : ℕ) (f : ℕ → Float) (d xs : List Float) (x : Float) → (g ≡ true → i < length d) → xs ≡ tabulate (given g i) f ++ drop (given g i) d → (g ≡ true → x ≡ f i)
     → cond g (set xs i x) xs ≡ tabulate (given g (i + 1)) f ++ drop (given g (i + 1)) d
 weights-more true i f d xs x l e h = store-more i f d xs x (l refl) e (h refl)
@@ -96,9 +76,6 @@ module _ (g : Bool) (n : ℕ) (rs p₀ w₀ : List Float) where
     pub long-weights : length w₁ ≡ length w₀
     pub points-are : p₁ ≡ tabulate (i * 3) points ++ drop (i * 3) p₀
     pub weights-are : w₁ ≡ tabulate (given g i) weights ++ drop (given g i) w₀
-
-  pub take-start : InTake p₀ w₀ 0
-  take-start = record { upto = omega arith; long-points = refl; long-weights = refl; points-are = store-none points p₀; weights-are = weights-none g weights w₀ }
 
   module _ (p₁ w₁ : List Float) (i : ℕ) (I : InTake p₁ w₁ i) where
     pub take_more : i < n → n * 3 ≤ length p₀ → (g ≡ true → n ≤ length w₀) → (q : Control) → q ≡ row_of g rs i → (v : Vector) → v ≡ vector_of q → (p₂ w₂ : List Float)
@@ -126,15 +103,6 @@ module _ (g : Bool) (n : ℕ) (rs p₀ w₀ : List Float) where
         place c j J l =
             let e : j / 3 * 4 + j % 3 ≡ i * 4 + c = omega arith in
             sym (row-axis g n rs i c l) ∙ ap (at rs) (sym e)
-
-    pub take-end : n ≤ i → length p₀ ≡ n * 3 → (p₁ ≡ points_from n rs) × (w₁ ≡ weights_from g n rs ++ drop (given g n) w₀)
-    take-end b P =
-        let U = I.upto in
-        let e : i ≡ n = omega arith in
-        let z : drop (n * 3) p₀ ≡ [] = drop_of_length-le p₀ {i = n * 3} (omega arith) in (
-          subst (λ (k : ℕ). p₁ ≡ tabulate (k * 3) points ++ drop (k * 3) p₀) e I.points-are ∙ (ap (λ (l : List Float). points_from n rs ++ l) z ∙ append-nil (points_from n rs)),
-          subst (λ (k : ℕ). w₁ ≡ tabulate (given g k) weights ++ drop (given g k) w₀) e I.weights-are,
-        )
 
 -- ---- both
 pub curve-in : (a : ℕ) (ks ps : List Float) (g : Bool) (ws w₀ w₁ w₂ : List Float) → count_of ps * 4 ≤ a → RowsLaid g (given_row ps g ws) (count_of ps) w₀ w₁ → KnotsLaid a ks w₁ w₂

@@ -1,9 +1,9 @@
 -- Rows that become controls: the refusals of the call, and what it leaves.
 -- Assumes nothing.
-use Prim.Native.Nat.{ℕ, ◌+◌, ◌-◌, ◌*◌, ◌/◌, ◌%◌, ◌≤◌, ◌<◌}
+use Prim.Native.Nat.{ℕ, ◌+◌, ◌*◌, ◌/◌, ◌%◌, ◌≤◌, ◌<◌}
 use mathlib.Core.Bool.{Bool, true, false, cond}
 use mathlib.Core.Path.{◌≡◌, refl, sym, ◌∙◌, ap, ap₂, subst}
-use mathlib.Core.Logic.{◌⊎◌, inl, inr, ⊎_elim}
+use mathlib.Core.Logic.{inl, inr, ⊎_elim}
 use mathlib.Core.List.{List}
 use native.Mathlib.Omega.{arith}
 use borrow.Author.Tests.{lt-ltb, le-ltb, eq-eqb, ne_eqb, eqb-true, eqb-false}
@@ -14,10 +14,10 @@ use lib.Ieee.{Float, nan}
 use Rattle.doubles.specs.Run.{at}
 use Rattle.doubles.specs.Value.{one+}
 use Rattle.knots.specs.Below.{all_below}
-use Rattle.knots.specs.Refusal.{refuse, accepted, length-bad, control-bad}
+use Rattle.knots.specs.Refusal.{refuse, accepted}
+use Rattle.knots.specs.declared.refusal.Reason.TheVariants.{LengthBad, ControlBad}
 use Rattle.knots.specs.Clear.{zeros}
 use Rattle.knots.specs.declared.refusal.Refusal.{Refusal}
-use Rattle.knots.proofs.Refusals.{stop}
 use Rattle.runs.specs.Tabulate.{tabulate}
 use Rattle.runs.proofs.Tabulated.{length-tabulate, at-tabulate}
 use Rattle.runs.proofs.Cases.{lt-or-ge}
@@ -34,24 +34,24 @@ use Rattle.edits.proofs.RowReads.{row-axis, row-point}
 use Rattle.edits.proofs.Starting.{room-none, room-short}
 
 module _ (m : Float) (n : ℕ) (g : Bool) (xs : List Float) where
-  pub lift-short : length xs < n * 4 → refuse length-bad ≡ lift_refusal m n g xs
+  pub lift-short : length xs < n * 4 → refuse LengthBad ≡ lift_refusal m n g xs
   unfolding lift_refusal
   lift-short b = simp (room-short (length xs) (n * 4) b)
 
-  lift-late : n * 4 ≤ length xs → cond (all_below (λ i. is_lifted (controls m n g xs i)) n) accepted (refuse control-bad) ≡ lift_refusal m n g xs
+  lift-late : n * 4 ≤ length xs → cond (all_below (λ i. is_lifted (controls m n g xs i)) n) accepted (refuse ControlBad) ≡ lift_refusal m n g xs
   unfolding lift_refusal
   lift-late b = simp (room-none (length xs) (n * 4) b)
 
   pub lift-zeros : (r : Refusal) → r ≡ lift_refusal m n g xs → (r.number ≡ 0 → ⊥) → (w₁ : List Float) → w₁ ≡ zeros (length xs) → w₁ ≡ lifted_run m n g xs
   unfolding lifted_run
-  lift-zeros r e h w₁ W = simp (stop e h) W
+  lift-zeros r e h w₁ W = simp (ne_eqb (lift_refusal m n g xs).number 0 (λ z. h (ap (λ (x : Refusal). x.number) e ∙ z))) W
 
   module _ (b : n * 4 ≤ length xs) (w₁ : List Float) (x : Bool) (D : LiftDone g (controls m n g xs) n xs w₁ x) where
-    pub lift-19 : x ≡ false → refuse control-bad ≡ lift_refusal m n g xs
-    lift-19 e = ap (λ (y : Bool). cond y accepted (refuse control-bad)) (sym e ∙ D.answer) ∙ lift-late b
+    pub lift-19 : x ≡ false → refuse ControlBad ≡ lift_refusal m n g xs
+    lift-19 e = ap (λ (y : Bool). cond y accepted (refuse ControlBad)) (sym e ∙ D.answer) ∙ lift-late b
 
     pub lift-none : x ≡ true → accepted ≡ lift_refusal m n g xs
-    lift-none e = ap (λ (y : Bool). cond y accepted (refuse control-bad)) (sym e ∙ D.answer) ∙ lift-late b
+    lift-none e = ap (λ (y : Bool). cond y accepted (refuse ControlBad)) (sym e ∙ D.answer) ∙ lift-late b
 
     lifted-at : x ≡ true → (j : ℕ) → j < length xs → at w₁ j ≡ control_at m n g xs j
     unfolding control_at
@@ -102,31 +102,31 @@ lift-none-at m n g xs e =
     (lift-none m n g xs (omega arith) xs true D refl, lift-run m n g xs (omega arith) xs true D refl refl)
 
 -- ---- what the call says of each control
-module _ (m : Float) (n : ℕ) (g : Bool) (xs : List Float) (b : n * 4 ≤ length xs) (r : Refusal) (R : r ≡ lift_refusal m n g xs) where
+module _ (m : Float) (n : ℕ) (g : Bool) (xs : List Float) (b : n * 4 ≤ length xs) where
   abbrev all : Bool
   all = all_below (λ i. is_lifted (controls m n g xs i)) n
 
-  by_all : (c : Bool) → all ≡ c → r ≡ cond c accepted (refuse control-bad)
-  by_all c e = R ∙ (sym (lift-late m n g xs b) ∙ ap (λ (y : Bool). cond y accepted (refuse control-bad)) e)
+  by_all : (c : Bool) → all ≡ c → lift_refusal m n g xs ≡ cond c accepted (refuse ControlBad)
+  by_all c e = sym (lift-late m n g xs b) ∙ ap (λ (y : Bool). cond y accepted (refuse ControlBad)) e
 
-  pub lifted-bad : (r.number ≡ 0 → ⊥) → (r ≡ refuse control-bad) × (all ≡ false)
+  pub lifted-bad : ((lift_refusal m n g xs).number ≡ 0 → ⊥) → (lift_refusal m n g xs ≡ refuse ControlBad) × (all ≡ false)
   lifted-bad h = go all refl
     where
-      go : (c : Bool) → all ≡ c → (r ≡ refuse control-bad) × (all ≡ false)
+      go : (c : Bool) → all ≡ c → (lift_refusal m n g xs ≡ refuse ControlBad) × (all ≡ false)
       go true e = absurd (h (ap (λ (x : Refusal). x.number) (by_all true e)))
       go false e = (by_all false e, e)
 
-  lifted-all : r.number ≡ 0 → all ≡ true
+  lifted-all : (lift_refusal m n g xs).number ≡ 0 → all ≡ true
   lifted-all z = go all refl
     where
       go : (c : Bool) → all ≡ c → all ≡ true
       go true e = e
       go false e = let q : ◌≡◌ {A = ℕ} 19 0 = sym (ap (λ (x : Refusal). x.number) (by_all false e)) ∙ z in absurd (omega arith)
 
-  module _ (z : r.number ≡ 0) (w₁ : List Float) (W : w₁ ≡ lifted_run m n g xs) where
+  module _ (z : (lift_refusal m n g xs).number ≡ 0) (w₁ : List Float) (W : w₁ ≡ lifted_run m n g xs) where
     run_is : w₁ ≡ tabulate (length xs) (control_at m n g xs)
     unfolding lifted_run
-    run_is = W ∙ simp (eq-eqb (lift_refusal m n g xs).number 0 (sym (ap (λ (x : Refusal). x.number) R) ∙ z))
+    run_is = W ∙ simp (eq-eqb (lift_refusal m n g xs).number 0 z)
 
     at-is : (j : ℕ) → j < length xs → at w₁ j ≡ control_at m n g xs j
     at-is j l = ap (λ (l : List Float). at l j) run_is ∙ at-tabulate (length xs) (control_at m n g xs) j l

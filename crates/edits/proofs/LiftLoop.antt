@@ -2,7 +2,7 @@
 -- Assumes nothing.
 use Prim.Native.Nat.{ℕ, ◌+◌, ◌≤◌, ◌<◌}
 use mathlib.Core.Bool.{Bool, true, false}
-use mathlib.Core.Path.{◌≡◌, refl, sym, ◌∙◌, ap, ap₂, subst}
+use mathlib.Core.Path.{◌≡◌, refl, sym, ◌∙◌, ap, ap₂}
 use mathlib.Core.Logic.{inl, inr}
 use mathlib.Core.List.{List}
 use native.Mathlib.Omega.{arith}
@@ -11,7 +11,7 @@ use lib.Ieee.{Float, binary64, div}
 use Rattle.doubles.specs.Run.{at}
 use Rattle.doubles.specs.Value.{one+}
 use Rattle.knots.specs.Below.{all_below}
-use Rattle.knots.proofs.Below.{all_none, all_more, all-stops, all_end}
+use Rattle.knots.proofs.Below.{all_none, all_more, all-stops}
 use Rattle.runs.specs.Scale.{weight_of}
 use Rattle.runs.specs.declared.vector.Vector.{Vector}
 use Rattle.edits.specs.Control.{lift_of, is_lifted}
@@ -69,10 +69,3 @@ module _ (g : Bool) (o : Vector) (m : Float) (n : ℕ) (r₀ : List Float) where
         good = all_more (λ j. is_lifted (lifts j)) i I.good (ap is_lifted (sym lift-is) ∙ e);
         done = rows_more g lifts r₀ r₁ i I.done q (ap (stored g) lift-is ∙ lift-stored m o (points_from n r₀) g (weights_from g n r₀) i) r₂ L P;
       }
-
-    pub lift-end : n ≤ i → LiftDone g lifts n r₀ r₁ true
-    lift-end b = let U = I.upto in let e : i ≡ n = omega arith in record {
-      answer = all_end (λ j. is_lifted (lifts j)) n i e I.good;
-      rows = λ z. subst (λ (k : ℕ). (j : ℕ) → j < k → row_of g r₁ j ≡ lifts j) e I.done.rows;
-      rest = subst (λ (k : ℕ). (j : ℕ) → Untouched g k j → at r₁ j ≡ at r₀ j) e I.done.rest;
-    }

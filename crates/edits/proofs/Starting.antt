@@ -9,10 +9,10 @@ use borrow.Author.Tests.{lt-ltb, le-ltb}
 use lib.ListN.{length, take, drop, length-drop}
 use lib.Ieee.{Float}
 use Rattle.doubles.specs.Run.{at}
-use Rattle.knots.specs.Refusal.{refuse, accepted, length-bad, ends-unclamped}
+use Rattle.knots.specs.Refusal.{refuse, accepted}
+use Rattle.knots.specs.declared.refusal.Reason.TheVariants.{LengthBad, EndsUnclamped}
 use Rattle.knots.specs.Curve.{count_of, curve_refusal, ValidCurve}
-use Rattle.knots.specs.declared.refusal.Refusal.{Refusal}
-use Rattle.knots.proofs.Refusals.{or_else-none, stop, skip}
+use Rattle.knots.proofs.Refusals.{or_else-none}
 use Rattle.knots.proofs.Curves.{valid-curve}
 use Rattle.knots.specs.Shape.{room_refusal}
 use Rattle.knots.proofs.Shapes.{room_open}
@@ -40,19 +40,6 @@ module _ (p n : ℕ) (ks : List Float) where
 
 -- ---- 17, and 30 with no sum formed
 module _ (p : ℕ) (ks ps : List Float) (g : Bool) (ws : List Float) where
-  pub edit-early : (r : Refusal) → r ≡ curve_refusal p ks ps g ws → (r.number ≡ 0 → ⊥) → r ≡ edit_start p ks ps g ws
-  unfolding edit_start
-  edit-early r e h = simp (stop e h) e
-
-  module _ (x : Refusal) (e : x ≡ curve_refusal p ks ps g ws) (z : x.number ≡ 0) (b : Bool) (B : b ≡ clamped_ends p (count_of ps) ks) (r : Refusal) where
-    pub edit-17 : b ≡ false → r ≡ refuse ends-unclamped → r ≡ edit_start p ks ps g ws
-    unfolding edit_start
-    edit-17 f R = simp (skip e z, sym B ∙ f) R
-
-    pub edit-none : b ≡ true → r ≡ accepted → r ≡ edit_start p ks ps g ws
-    unfolding edit_start
-    edit-none f R = simp (skip e z, sym B ∙ f) R
-
   -- a curve that may be edited
   pub edit-open : (edit_start p ks ps g ws).number ≡ 0 → ValidCurve p ks ps g ws × (clamped_ends p (count_of ps) ks ≡ true)
   unfolding edit_start
@@ -60,7 +47,7 @@ module _ (p : ℕ) (ks ps : List Float) (g : Bool) (ws : List Float) where
       let y = or_else-none (curve_refusal p ks ps g ws) _ h in
       (valid-curve p ks ps g ws y.0, clamped (clamped_ends p (count_of ps) ks) y.1)
     where
-      clamped : (b : Bool) → (cond b accepted (refuse ends-unclamped)).number ≡ 0 → b ≡ true
+      clamped : (b : Bool) → (cond b accepted (refuse EndsUnclamped)).number ≡ 0 → b ≡ true
       clamped true e = refl
       clamped false e = absurd (omega arith)
 
@@ -68,31 +55,31 @@ pub room-none : (a n : ℕ) → n ≤ a → room_refusal a n ≡ accepted
 unfolding room_refusal
 room-none a n l = simp (le-ltb a n l)
 
-pub room-short : (a n : ℕ) → a < n → room_refusal a n ≡ refuse length-bad
+pub room-short : (a n : ℕ) → a < n → room_refusal a n ≡ refuse LengthBad
 unfolding room_refusal
 room-short a n l = simp (lt-ltb a n l)
 
-module _ (p n : ℕ) (g : Bool) (a b c : ℕ) (r : Refusal) where
-  pub out-knots : r ≡ refuse length-bad → a < n + p + 1 → r ≡ out_room p n g a b c
+module _ (p n : ℕ) (g : Bool) (a b c : ℕ) where
+  pub out-knots : a < n + p + 1 → refuse LengthBad ≡ out_room p n g a b c
   unfolding out_room
-  out-knots e l = simp (room-short a (n + p + 1) l) e
+  out-knots l = simp (room-short a (n + p + 1) l)
 
-  pub out-points : r ≡ refuse length-bad → n + p + 1 ≤ a → b < n * 3 → r ≡ out_room p n g a b c
+  pub out-points : n + p + 1 ≤ a → b < n * 3 → refuse LengthBad ≡ out_room p n g a b c
   unfolding out_room
-  out-points e k l = simp (room-none a (n + p + 1) k, room-short b (n * 3) l) e
+  out-points k l = simp (room-none a (n + p + 1) k, room-short b (n * 3) l)
 
-  pub out-weights : n + p + 1 ≤ a → n * 3 ≤ b → r ≡ room_refusal c (given g n) → r ≡ out_room p n g a b c
+  pub out-weights : n + p + 1 ≤ a → n * 3 ≤ b → room_refusal c (given g n) ≡ out_room p n g a b c
   unfolding out_room
-  out-weights k l e = simp (room-none a (n + p + 1) k, room-none b (n * 3) l) e
+  out-weights k l = simp (room-none a (n + p + 1) k, room-none b (n * 3) l)
 
-module _ (p n d : ℕ) (r : Refusal) where
-  pub scratch-short : r ≡ refuse length-bad → d < 10 * n + 2 * (p + 1) → r ≡ scratch_room p n d
+module _ (p n d : ℕ) where
+  pub scratch-short : d < 10 * n + 2 * (p + 1) → refuse LengthBad ≡ scratch_room p n d
   unfolding scratch_room
-  scratch-short e l = e ∙ sym (room-short d (10 * n + 2 * (p + 1)) l)
+  scratch-short l = sym (room-short d (10 * n + 2 * (p + 1)) l)
 
-  pub scratch-fits : r ≡ accepted → 10 * n + 2 * (p + 1) ≤ d → r ≡ scratch_room p n d
+  pub scratch-fits : 10 * n + 2 * (p + 1) ≤ d → accepted ≡ scratch_room p n d
   unfolding scratch_room
-  scratch-fits e l = e ∙ sym (room-none d (10 * n + 2 * (p + 1)) l)
+  scratch-fits l = sym (room-none d (10 * n + 2 * (p + 1)) l)
 
 -- what they leave open
 pub record OutOpen (p n : ℕ) (g : Bool) (a b c : ℕ) : Type 0 where

@@ -1,6 +1,6 @@
 -- What the passes of the code promise each other. No contract of a public call names any of it.
 -- Assumes nothing.
-use Rattle.std.specs.Prelude.{ℕ, ◌+◌, ◌*◌, ◌/◌, ◌%◌, ◌≤◌, ◌<◌, Bool, true, false, cond, ◌⊎◌, ◌≡◌, List, length, set, take, drop, ltb, Float}
+use Rattle.std.specs.Prelude.{ℕ, ◌+◌, ◌*◌, ◌/◌, ◌%◌, ◌≤◌, ◌<◌, Bool, true, false, cond, ◌⊎◌, ◌≡◌, List, length, set, take, drop, ltb, Float, Result, Ok, Err}
 use Rattle.std.specs.Float.{binary64}
 use Rattle.std.specs.Float.Ieee.{div}
 use Rattle.doubles.specs.Run.{at}
@@ -86,6 +86,6 @@ pub record CurveIn (a : ℕ) (ks ps : List Float) (g : Bool) (ws w₀ w₁ : Lis
   pub rest : (j : ℕ) → Untouched g (count_of ps) j → (j < a) ⊎ (a + length ks ≤ j) → at w₁ j ≡ at w₀ j
 
 -- an outcome in outputs of a, b and c numbers
-unfoldable pub OutMeets : ℕ → ℕ → ℕ → Outcome → List Float → List Float → List Float → Refusal → Type 0
-OutMeets a b c (gives ks ps ws) k₁ p₁ w₁ r = (r.number ≡ 0) × (k₁ ≡ padded a ks) × (p₁ ≡ padded b ps) × (w₁ ≡ padded c ws)
-OutMeets a b c (refuses x) k₁ p₁ w₁ r = (r ≡ x) × (r.number ≡ 0 → ⊥)
+unfoldable pub OutMeets : ℕ → ℕ → ℕ → Outcome → List Float → List Float → List Float → Result Unit Refusal → Type 0
+OutMeets a b c (gives ks ps ws) k₁ p₁ w₁ r = (r ≡ Ok tt) × (k₁ ≡ padded a ks) × (p₁ ≡ padded b ps) × (w₁ ≡ padded c ws)
+OutMeets a b c (refuses x) k₁ p₁ w₁ r = r ≡ Err x

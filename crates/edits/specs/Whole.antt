@@ -1,20 +1,20 @@
 -- What an edit answers and leaves in the lent runs.
 -- Assumes nothing.
-use Rattle.std.specs.Prelude.{ℕ, Bool, cond, ◌≡◌, List, [], Float}
+use Rattle.std.specs.Prelude.{ℕ, Bool, cond, ◌≡◌, List, [], Float, Result, Ok, Err}
+use Rattle.knots.specs.declared.refusal.Refusal.{Refusal}
 use Rattle.knots.specs.Clear.{zeros}
 use Rattle.runs.specs.Lent.{padded}
 use Rattle.edits.specs.Outcome.{Outcome, gives, refuses}
-use Rattle.edits.specs.declared.answer.EditAnswer.{EditAnswer}
-use Rattle.edits.specs.declared.answer.EditAnswer.TheVariants.{Formed, Refused}
+use Rattle.edits.specs.declared.answer.FormedCurve.{FormedCurve}
 
 -- the weights that are given
 abbrev pub given_of : Bool → List Float → List Float
 given_of g ws = cond g ws []
 
 -- an edit's answer, of degree p and n points where a curve is formed
-abbrev pub answer_of : ℕ → ℕ → Outcome → EditAnswer
-answer_of p n (gives ks ps ws) = Formed p n
-answer_of p n (refuses r) = Refused r
+abbrev pub answer_of : ℕ → ℕ → Outcome → Result FormedCurve Refusal
+answer_of p n (gives ks ps ws) = Ok (record { degree = p; count = n })
+answer_of p n (refuses r) = Err r
 
 -- what is left in a run of n numbers for the knots, the points, the weights: +0.0 behind them, and alone after a refusal
 abbrev pub knots_in : ℕ → Outcome → List Float
@@ -30,7 +30,7 @@ weights_in n (gives ks ps ws) = padded n ws
 weights_in n (refuses r) = zeros n
 
 -- an edit of degree p and n points answers r, and leaves this in runs of a, b, c and d numbers
-pub record EditMeets (p n : ℕ) (goal : Outcome) (a b c d : ℕ) (k₁ p₁ w₁ s₁ : List Float) (r : EditAnswer) : Type 0 where
+pub record EditMeets (p n : ℕ) (goal : Outcome) (a b c d : ℕ) (k₁ p₁ w₁ s₁ : List Float) (r : Result FormedCurve Refusal) : Type 0 where
   pub answer : r ≡ answer_of p n goal
   pub knots : k₁ ≡ knots_in a goal
   pub points : p₁ ≡ points_in b goal

@@ -4,7 +4,8 @@ use Rattle.std.specs.Prelude.{ℕ, ◌+◌, ◌-◌, ◌*◌, ◌/◌, ◌%◌, 
 use Rattle.doubles.specs.Run.{at}
 use Rattle.doubles.specs.Value.{one+}
 use Rattle.knots.specs.Below.{all_below}
-use Rattle.knots.specs.Refusal.{refuse, accepted, or_else, control-bad}
+use Rattle.knots.specs.Refusal.{refuse, accepted, or_else}
+use Rattle.knots.specs.declared.refusal.Reason.TheVariants.{ControlBad}
 use Rattle.knots.specs.Clear.{zeros}
 use Rattle.knots.specs.Curve.{count_of, formed_refusal}
 use Rattle.knots.specs.declared.refusal.Refusal.{Refusal}
@@ -71,7 +72,7 @@ module _ (m : Float) (n : ℕ) (g : Bool) (xs : List Float) where
 
   -- 30, 19
   unfoldable pub lift_refusal : Refusal
-  lift_refusal = or_else (room_refusal (length xs) (n * 4)) (cond (all_below (λ i. is_lifted (controls i)) n) accepted (refuse control-bad))
+  lift_refusal = or_else (room_refusal (length xs) (n * 4)) (cond (all_below (λ i. is_lifted (controls i)) n) accepted (refuse ControlBad))
 
   unfoldable pub control_at : ℕ → Float
   control_at j =

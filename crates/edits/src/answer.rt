@@ -1,9 +1,8 @@
-// What an edit of a curve answers.
-use knots::refusal::Refusal;
+// What an edit of a curve answers where it is not refused.
 
-// The degree and the count of points of the curve that is formed, which stands in the lent runs; or the refusal.
-#[derive(Clone, Copy)]
-pub enum EditAnswer {
-    Formed { degree: usize, count: usize },
-    Refused(Refusal),
+// The degree and the count of points of the curve that is formed, which stands in the lent runs.
+#[derive(Clone, Copy, Debug, PartialEq, Eq)]
+pub struct FormedCurve {
+    pub degree: usize,
+    pub count: usize,
 }

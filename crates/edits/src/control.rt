@@ -6,7 +6,7 @@ use interval::float::is_finite;
 use runs::vector::Vector;
 
 // A point times its weight, and the weight.
-#[derive(Clone, Copy)]
+#[derive(Clone, Copy, Debug, PartialEq)]
 pub struct Control {
     pub x: f64,
     pub y: f64,

@@ -27,10 +27,8 @@ fn count(equal: bool, knots: &[f64], t: f64) -> usize
     ensures { result ≡ count_below (λ j. cond equal (eq (at knots.now j) t) (lt (at knots.now j) t)) (length knots.now) }
 {
     let mut n = 0usize;
-    let mut i = 0usize;
-    while i < knots.len() {
-        n += bit_of(passes(equal, knots[i], t));
-        i += 1;
+    for x in knots {
+        n += bit_of(passes(equal, *x, t));
     }
     n
 }
@@ -61,14 +59,7 @@ pub fn missing(times: usize, knots: &[f64], t: f64) -> usize
 pub fn all_equal(xs: &[f64], x: f64) -> bool
     ensures { result ≡ all_equal xs.now x }
 {
-    let mut i = 0usize;
-    while i < xs.len() {
-        if !(xs[i] == x) {
-            return false;
-        }
-        i += 1;
-    }
-    true
+    xs.iter().all(|y| *y == x)
 }
 
 // How many weights n points have.

@@ -18,11 +18,9 @@ pub fn lay_rows(points: &[f64], rational: bool, weights: &[f64], rows: &mut [f64
     requires points_in_bounds_2 { length points.now / 3 * 4 ≤ length rows.old }
     ensures { RowsLaid rational (given_row points.now rational weights.now) (length points.now / 3) rows.old rows.new }
 {
-    let mut i = 0usize;
-    while i < points.len() / 3 {
+    for i in 0..points.len() / 3 {
         let q = kept_row(point_at(points, i), weight_at(rational, weights, i));
         put_whole(rational, rows, i, q);
-        i += 1;
     }
 }
 
@@ -31,12 +29,7 @@ pub fn lay_knots(knots: &[f64], a: usize, work: &mut [f64])
     requires { a + length knots.now ≤ length work.old }
     ensures { KnotsLaid a knots.now work.old work.new }
 {
-    let mut i = 0usize;
-    while i < knots.len() {
-        let at = a + i;
-        work[at] = knots[i];
-        i += 1;
-    }
+    work[a..a + knots.len()].copy_from_slice(knots);
 }
 
 // A curve goes into a run, its knots to place a.
@@ -64,12 +57,10 @@ pub fn take_rows(n: usize, rational: bool, rows: &[f64], points: &mut [f64], wei
     ensures points_after { points.new ≡ points_from n rows.now }
     ensures weights_after { weights.new ≡ weights_from rational n rows.now ++ drop (given rational n) weights.old }
 {
-    let mut i = 0usize;
-    while i < points.len() / 3 {
+    for i in 0..points.len() / 3 {
         let q = whole_row(rational, rows, i);
         put_point(points, i, vector_of(q));
         put_weight(weights, rational, i, q.w);
-        i += 1;
     }
 }
 

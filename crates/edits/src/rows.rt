@@ -2,6 +2,7 @@
 ghost use Rattle.std.specs.Prelude.{◌≡◌, ◌+◌, ◌*◌, ◌<◌, ◌≤◌, length};
 ghost use Rattle.doubles.specs.Run.{at};
 ghost use Rattle.doubles.specs.Value.{zero+};
+ghost use Rattle.knots.specs.Refusal.{checked};
 ghost use Rattle.runs.specs.Larger.{largest_from};
 ghost use Rattle.edits.specs.Rows.{lift_at};
 ghost use Rattle.edits.specs.Work.{points_from, weights_from, scale_in, lift_refusal, lifted_run};
@@ -11,7 +12,7 @@ ghost use Rattle.edits.specs.Passes.{row_of, row_put, lift_row, kept_row, LiftDo
 use crate::control::{Control, is_lifted, lift_of};
 use crate::inside::{put_whole, row_of, whole_row};
 use knots::clear::clear;
-use knots::refusal::{Refusal, refuse};
+use knots::refusal::{Reason, Refusal, refuse};
 use runs::larger::larger_of;
 use runs::numbers::number_at;
 use runs::vector::Vector;
@@ -68,11 +69,9 @@ fn largest_weight(n: usize, rows: &[f64]) -> f64
     ensures { result ≡ largest_from zero+ (λ i. at rows.now (i * 4 + 3)) n }
 {
     let mut a = 0.0;
-    let mut i = 0usize;
-    while i < n {
+    for i in 0..n {
         let at = i * 4 + 3;
         a = larger_of(a, rows[at]);
-        i += 1;
     }
     a
 }
@@ -105,36 +104,34 @@ fn lift_rows(n: usize, o: Vector, scale: f64, rational: bool, rows: &mut [f64]) 
     requires { n * 4 ≤ length rows.old }
     ensures { LiftDone rational (lift_at scale o (points_from n rows.old) rational (weights_from rational n rows.old)) n rows.old rows.new result }
 {
-    let mut i = 0usize;
-    while i < n {
+    for i in 0..n {
         let q = lift_row(scale, o, rational, whole_row(rational, rows, i));
         if !is_lifted(q) {
             return false;
         }
         put_whole(rational, rows, i, q);
-        i += 1;
     }
     true
 }
 
 // The rows of n points become controls, all weights over the scale: 30, 19. A refusal leaves +0.0 alone.
-pub fn lift_in(n: usize, scale: f64, rational: bool, work: &mut [f64]) -> Refusal
-    ensures value { result ≡ lift_refusal scale n rational work.old }
+pub fn lift_in(n: usize, scale: f64, rational: bool, work: &mut [f64]) -> Result<(), Refusal>
+    ensures value { result ≡ checked (lift_refusal scale n rational work.old) }
     ensures work_after { work.new ≡ lifted_run scale n rational work.old }
 {
     if n > work.len() / 4 {
         clear(work);
-        return refuse(30);
+        return Err(refuse(Reason::LengthBad));
     }
     if n == 0 {
-        return refuse(0);
+        return Ok(());
     }
     let o = vector_of(row_at(rational, work, 0));
     if !lift_rows(n, o, scale, rational, work) {
         clear(work);
-        return refuse(19);
+        return Err(refuse(Reason::ControlBad));
     }
-    refuse(0)
+    Ok(())
 }
 
 // A point and a weight as a row.

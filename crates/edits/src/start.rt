@@ -1,10 +1,11 @@
 // The refusals of an edit before anything is formed.
 ghost use Rattle.std.specs.Prelude.{◌≡◌, ◌+◌, ◌<◌, length};
+ghost use Rattle.knots.specs.Refusal.{checked};
 ghost use Rattle.edits.specs.Start.{clamped_ends, edit_start, out_room, scratch_room};
 
 use crate::counts::{all_equal, given_count};
 use knots::curve::curve_refusal;
-use knots::refusal::{Refusal, refuse};
+use knots::refusal::{Reason, Refusal, refuse};
 use knots::shape::room_refusal;
 
 // The degree + 1 first knots are one number, and so are the degree + 1 last.
@@ -13,10 +14,7 @@ fn clamped_ends(p: usize, n: usize, knots: &[f64]) -> bool
     ensures { result ≡ clamped_ends p n knots.now }
 {
     let m = p + 1;
-    if !all_equal(&knots[..m], knots[p]) {
-        return false;
-    }
-    all_equal(&knots[n..], knots[n])
+    all_equal(&knots[..m], knots[p]) && all_equal(&knots[n..], knots[n])
 }
 
 // The curve's refusal, 17.
@@ -26,44 +24,48 @@ pub fn edit_start(
     points: &[f64],
     rational: bool,
     weights: &[f64],
-) -> Refusal
-    ensures { result ≡ edit_start degree knots.now points.now rational weights.now }
+) -> Result<(), Refusal>
+    ensures { result ≡ checked (edit_start degree knots.now points.now rational weights.now) }
 {
-    let curve = curve_refusal(degree, knots, points, rational, weights);
-    if curve.number != 0 {
-        return curve;
-    }
+    curve_refusal(degree, knots, points, rational, weights)?;
     if !clamped_ends(degree, points.len() / 3, knots) {
-        return refuse(17);
+        return Err(refuse(Reason::EndsUnclamped));
     }
-    refuse(0)
+    Ok(())
 }
 
 // 30 for outputs of a, b and c numbers: knots, points and weights of n points. No sum is formed that could be too large.
-pub fn out_room(p: usize, n: usize, rational: bool, a: usize, b: usize, c: usize) -> Refusal
-    ensures { result ≡ out_room p n rational a b c }
+pub fn out_room(
+    p: usize,
+    n: usize,
+    rational: bool,
+    a: usize,
+    b: usize,
+    c: usize,
+) -> Result<(), Refusal>
+    ensures { result ≡ checked (out_room p n rational a b c) }
 {
     if n > a {
-        return refuse(30);
+        return Err(refuse(Reason::LengthBad));
     }
     if p >= a - n {
-        return refuse(30);
+        return Err(refuse(Reason::LengthBad));
     }
     if n > b / 3 {
-        return refuse(30);
+        return Err(refuse(Reason::LengthBad));
     }
     room_refusal(c, given_count(rational, n))
 }
 
 // 30 for scratch of d numbers, for a curve of degree p that has n points where it has most.
-pub fn scratch_room(p: usize, n: usize, d: usize) -> Refusal
-    ensures { result ≡ scratch_room p n d }
+pub fn scratch_room(p: usize, n: usize, d: usize) -> Result<(), Refusal>
+    ensures { result ≡ checked (scratch_room p n d) }
 {
     if n > d / 10 {
-        return refuse(30);
+        return Err(refuse(Reason::LengthBad));
     }
     if p >= (d - 10 * n) / 2 {
-        return refuse(30);
+        return Err(refuse(Reason::LengthBad));
     }
-    refuse(0)
+    Ok(())
 }

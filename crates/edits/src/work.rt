@@ -1,15 +1,16 @@
 // A curve in a lent run, for other edits. Each call is total, and a refusal leaves +0.0 alone in what is lent.
 ghost use Rattle.std.specs.Prelude.{◌≡◌, ◌+◌, ◌*◌, length, drop};
+ghost use Rattle.knots.specs.Refusal.{checked};
 ghost use Rattle.knots.specs.Clear.{zeros};
 ghost use Rattle.runs.specs.Lent.{left_in};
-ghost use Rattle.edits.specs.Work.{knots_from, points_from, weights_from, work_room, lay_outcome, refusal_of, work_in, take_refusal, front_refusal};
+ghost use Rattle.edits.specs.Work.{knots_from, points_from, weights_from, work_room, lay_refusal, lay_outcome, refusal_of, work_in, take_refusal, front_refusal};
 
 use crate::counts::given_count;
 use crate::lay::{lay_into, store_curve};
 use crate::start::out_room;
 use knots::clear::clear;
 use knots::curve::formed_refusal;
-use knots::refusal::{Refusal, refuse};
+use knots::refusal::{Reason, Refusal, refuse};
 use knots::shape::room_refusal;
 
 // Every lent run at once: what a refusal leaves.
@@ -23,19 +24,35 @@ pub fn clear_all(knots: &mut [f64], points: &mut [f64], weights: &mut [f64], row
 }
 
 // 30 for a run of l numbers that is to hold n points and m knots.
-pub fn work_room(n: usize, m: usize, a: usize, l: usize) -> Refusal
-    ensures { result ≡ work_room n m a l }
+pub fn work_room(n: usize, m: usize, a: usize, l: usize) -> Result<(), Refusal>
+    ensures { result ≡ checked (work_room n m a l) }
 {
     if n > a / 4 {
-        return refuse(30);
+        return Err(refuse(Reason::LengthBad));
     }
     if a > l {
-        return refuse(30);
+        return Err(refuse(Reason::LengthBad));
     }
     if m > l - a {
-        return refuse(30);
+        return Err(refuse(Reason::LengthBad));
     }
-    refuse(0)
+    Ok(())
+}
+
+// 30 for the weights, and for the run.
+fn lay_refusal(
+    knots: &[f64],
+    points: &[f64],
+    rational: bool,
+    weights: &[f64],
+    a: usize,
+    l: usize,
+) -> Result<(), Refusal>
+    ensures { result ≡ checked (lay_refusal knots.now points.now rational weights.now a l) }
+{
+    let n = points.len() / 3;
+    room_refusal(weights.len(), given_count(rational, n))?;
+    work_room(n, knots.len(), a, l)
 }
 
 // A curve goes into a run, its knots to place a. Beside it the run stays as it was.
@@ -46,23 +63,16 @@ pub fn lay_curve(
     weights: &[f64],
     a: usize,
     work: &mut [f64],
-) -> Refusal
-    ensures value { result ≡ refusal_of (lay_outcome knots.now points.now rational weights.now a (length work.old)) }
+) -> Result<(), Refusal>
+    ensures value { result ≡ checked (refusal_of (lay_outcome knots.now points.now rational weights.now a (length work.old))) }
     ensures work_after { work.new ≡ work_in a rational work.old (lay_outcome knots.now points.now rational weights.now a (length work.old)) }
 {
-    let n = points.len() / 3;
-    let short = room_refusal(weights.len(), given_count(rational, n));
-    if short.number != 0 {
+    if let Err(r) = lay_refusal(knots, points, rational, weights, a, work.len()) {
         clear(work);
-        return short;
-    }
-    let room = work_room(n, knots.len(), a, work.len());
-    if room.number != 0 {
-        clear(work);
-        return room;
+        return Err(r);
     }
     lay_into(knots, points, rational, weights, a, work);
-    refuse(0)
+    Ok(())
 }
 
 // The curve of m points from row f and knot f on goes to three outputs, +0.0 behind it.
@@ -76,13 +86,13 @@ pub fn take_curve(
     knots: &mut [f64],
     points: &mut [f64],
     weights: &mut [f64],
-) -> Refusal
-    ensures value { result ≡ take_refusal p m f rational a (length work.now) (length knots.old) (length points.old) (length weights.old) }
-    ensures knots_after { knots.new ≡ left_in result (length knots.old) (knots_from (a + f) p m work.now) }
-    ensures points_after { points.new ≡ left_in result (length points.old) (points_from m (drop (f * 4) work.now)) }
-    ensures weights_after { weights.new ≡ left_in result (length weights.old) (weights_from rational m (drop (f * 4) work.now)) }
+) -> Result<(), Refusal>
+    ensures value { result ≡ checked (take_refusal p m f rational a (length work.now) (length knots.old) (length points.old) (length weights.old)) }
+    ensures knots_after { knots.new ≡ left_in (take_refusal p m f rational a (length work.now) (length knots.old) (length points.old) (length weights.old)) (length knots.old) (knots_from (a + f) p m work.now) }
+    ensures points_after { points.new ≡ left_in (take_refusal p m f rational a (length work.now) (length knots.old) (length points.old) (length weights.old)) (length points.old) (points_from m (drop (f * 4) work.now)) }
+    ensures weights_after { weights.new ≡ left_in (take_refusal p m f rational a (length work.now) (length knots.old) (length points.old) (length weights.old)) (length weights.old) (weights_from rational m (drop (f * 4) work.now)) }
 {
-    let r = take_refusal(
+    let early = take_refusal(
         p,
         m,
         f,
@@ -93,14 +103,14 @@ pub fn take_curve(
         points.len(),
         weights.len(),
     );
-    if r.number != 0 {
+    if let Err(r) = early {
         clear(knots);
         clear(points);
         clear(weights);
-        return r;
+        return Err(r);
     }
     store_curve(p, m, f, rational, a, work, knots, points, weights);
-    r
+    Ok(())
 }
 
 // 30 for the run, and for the outputs.
@@ -114,23 +124,23 @@ fn take_refusal(
     b: usize,
     c: usize,
     d: usize,
-) -> Refusal
-    ensures { result ≡ take_refusal p m f rational a l b c d }
+) -> Result<(), Refusal>
+    ensures { result ≡ checked (take_refusal p m f rational a l b c d) }
 {
     if f > a / 4 {
-        return refuse(30);
+        return Err(refuse(Reason::LengthBad));
     }
     if m > a / 4 - f {
-        return refuse(30);
+        return Err(refuse(Reason::LengthBad));
     }
     if a > l {
-        return refuse(30);
+        return Err(refuse(Reason::LengthBad));
     }
     if f + m > l - a {
-        return refuse(30);
+        return Err(refuse(Reason::LengthBad));
     }
     if p >= l - a - (f + m) {
-        return refuse(30);
+        return Err(refuse(Reason::LengthBad));
     }
     out_room(p, m, rational, b, c, d)
 }
@@ -143,13 +153,10 @@ pub fn front_refusal(
     knots: &[f64],
     points: &[f64],
     weights: &[f64],
-) -> Refusal
-    ensures { result ≡ front_refusal p n rational knots.now points.now weights.now }
+) -> Result<(), Refusal>
+    ensures { result ≡ checked (front_refusal p n rational knots.now points.now weights.now) }
 {
-    let room = out_room(p, n, rational, knots.len(), points.len(), weights.len());
-    if room.number != 0 {
-        return room;
-    }
+    out_room(p, n, rational, knots.len(), points.len(), weights.len())?;
     let a = n + p + 1;
     let b = n * 3;
     let c = given_count(rational, n);

@@ -1,14 +1,15 @@
 -- The curve that the raised segments form, put together from its parts.
 -- Assumes nothing.
+use Rattle.std.specs.Prelude.{Result, Err}
 use Prim.Native.Nat.{ℕ, ◌+◌, ◌*◌}
 use mathlib.Core.Bool.{Bool, true, false}
 use mathlib.Core.Path.{◌≡◌, refl, sym, ◌∙◌, ap}
 use mathlib.Core.List.{List}
-use native.Mathlib.Omega.{arith}
 use lib.ListN.{length, take, drop}
 use lib.Seq.{take_at}
 use lib.Ieee.{Float}
-use Rattle.knots.specs.Refusal.{refuse, edit-bad}
+use Rattle.knots.specs.Refusal.{refuse, checked}
+use Rattle.knots.specs.declared.refusal.Reason.TheVariants.{EditBad}
 use Rattle.knots.specs.Curve.{formed_refusal}
 use Rattle.knots.specs.declared.refusal.Refusal.{Refusal}
 use Rattle.runs.specs.declared.vector.Vector.{Vector}
@@ -34,12 +35,9 @@ module _ (p e n : ℕ) (ks bs : List Float) (g : Bool) (h : ℕ → Control) (o 
   abbrev kept : List Control
   kept = kept_all p e ks h bs
 
-  pub join-20 : a ≡ false → (r : Refusal) → r ≡ refuse edit-bad → Joined p e n ks bs g h o k₀ p₀ w₀ k₁ p₁ w₁ r
-  unfolding join_refusal
-  join-20 z r R = record { refusal = simp (sym A.answer ∙ z) R; knots = λ y. absurd (no y); points = λ y. absurd (no y); weights = λ y. absurd (no y) }
-    where
-      no : r.number ≡ 0 → ⊥
-      no y = let q : ◌≡◌ {A = ℕ} 20 0 = sym (ap (λ (x : Refusal). x.number) R) ∙ y in omega arith
+  pub join-20 : a ≡ false → (r : Refusal) → r ≡ refuse EditBad → Joined p e n ks bs g h o k₀ p₀ w₀ k₁ p₁ w₁ (Err r)
+  unfolding join_refusal checked
+  join-20 z r R = record { refusal = simp (sym A.answer ∙ z) (ap Err R); knots = λ y. cc; points = λ y. cc; weights = λ y. cc }
 
   module _ (z : a ≡ true) (K : k₁ ≡ over 0 (raised_knots p e n ks bs) k₀) where
     points-is : p₁ ≡ over 0 (points_of o kept) p₀
@@ -48,8 +46,8 @@ module _ (p e n : ℕ) (ks bs : List Float) (g : Bool) (h : ℕ → Control) (o 
     weights-is : w₁ ≡ over 0 (given_of g (weights_of kept)) w₀
     weights-is = A.weights z ∙ ap (λ (i : ℕ). over i (given_of g (weights_of kept)) w₀) (given-none g)
 
-    pub join-end : (c : ℕ) → c ≡ raised_count p e ks bs → (r : Refusal)
-        → r ≡ formed_refusal e c (take (c + e + 1) k₁) (take (c * 3) p₁) g (take (given g c) w₁) → Joined p e n ks bs g h o k₀ p₀ w₀ k₁ p₁ w₁ r
+    pub join-end : (c : ℕ) → c ≡ raised_count p e ks bs → (r : Result Unit Refusal)
+        → r ≡ checked (formed_refusal e c (take (c + e + 1) k₁) (take (c * 3) p₁) g (take (given g c) w₁)) → Joined p e n ks bs g h o k₀ p₀ w₀ k₁ p₁ w₁ r
     unfolding join_refusal
     join-end c C r R =
         let m = kept-count p e ks h bs in
@@ -57,7 +55,7 @@ module _ (p e n : ℕ) (ks bs : List Float) (g : Bool) (h : ℕ → Control) (o 
         let j = front-over (points_of o kept) p₀ p₁ (c * 3) (points-long o kept ∙ ap (λ (x : ℕ). x * 3) (m ∙ sym C)) points-is in
         let l = front-over (given_of g (weights_of kept)) w₀ w₁ (given g c) (given-long g kept ∙ ap (given g) (m ∙ sym C)) weights-is in
         record {
-          refusal = simp (sym A.answer ∙ z) (R ∙ moved C i j l);
+          refusal = simp (sym A.answer ∙ z) (R ∙ ap checked (moved C i j l));
           knots = λ y. K;
           points = λ y. points-is;
           weights = λ y. weights-is;

@@ -1,18 +1,18 @@
 -- The knots of the raised curve are written, break by break.
 -- Assumes nothing.
-use Prim.Native.Nat.{ℕ, suc, ◌+◌, ◌-◌, ◌*◌, ◌≤◌, ◌<◌}
+use Prim.Native.Nat.{ℕ, suc, ◌+◌, ◌-◌, ◌*◌, ◌≤◌}
 use mathlib.Core.Path.{◌≡◌, refl, sym, ◌∙◌, ap, subst}
 use mathlib.Core.List.{List, [], ◌∷◌, ◌++◌}
 use native.Mathlib.Omega.{arith}
-use lib.ListN.{length, replicate, length-append, length-replicate}
+use lib.ListN.{length, take, drop, replicate, length-append, length-replicate}
+use borrow.Rule.Slice.PartMut.{put_mid}
 use lib.Ieee.{Float}
 use Rattle.doubles.specs.Run.{at}
 use Rattle.edits.specs.Counts.{bit}
 use Rattle.elevation.specs.Breaks.{is_full, full_count}
 use Rattle.elevation.specs.Elevate.{break_knots, raised_knots, raised_count}
-use Rattle.elevation.specs.Passes.{over, AtBreak, NextBreak}
-use Rattle.elevation.proofs.Overlaid.{over_none, over-long, over-over}
-use Rattle.elevation.proofs.BreakWalks.{left}
+use Rattle.elevation.specs.Passes.{over}
+use Rattle.elevation.proofs.Overlaid.{over_none, over-long, over-over, filled}
 
 -- ---- how many there are
 pub knots-step : (p e : ℕ) (ks : List Float) (t : Float) (ts : List Float) → length (break_knots p e ks (t ∷ ts)) ≡ e + bit (is_full p ks t) + length (break_knots p e ks ts)
@@ -42,44 +42,37 @@ pub record InKnots (p e : ℕ) (ks bs : List Float) (j : ℕ) (k₀ k₁ : List 
   pub goal : over i (break_knots p e ks ts) k₁ ≡ over j (break_knots p e ks bs) k₀
 
 module _ (p e : ℕ) (ks bs : List Float) (j : ℕ) (k₀ : List Float) where
-  pub knots-start : (ts : List Float) → bs ≡ ts → InKnots p e ks bs j k₀ k₀ ts j
-  knots-start ts E = subst (λ (x : List Float). InKnots p e ks bs j k₀ k₀ x j) E (record { long = refl; count = refl; goal = refl })
+  module _ (ts : List Float) (i : ℕ) (k₁ : List Float) (I : InKnots p e ks bs j k₀ k₁ ts i) where
+    module _ (room : j + length (break_knots p e ks bs) ≤ length k₀) (t : Float) (tail : List Float) (T : ts ≡ t ∷ tail) (m : ℕ) (M : m ≡ e + bit (is_full p ks t)) where
+      here : InKnots p e ks bs j k₀ k₁ (t ∷ tail) i
+      here = subst (λ (x : List Float). InKnots p e ks bs j k₀ k₁ x i) T I
 
-  module _ (room : j + length (break_knots p e ks bs) ≤ length k₀) (n k i : ℕ) (k₁ : List Float) (I : InKnots p e ks bs j k₀ k₁ (left ks n k) i) where
-    module _ (B : AtBreak ks n k) (l : k < n) (m : ℕ) (M : m ≡ e + bit (is_full p ks (at ks k))) where
-      abbrev tail : List Float
-      tail = left ks n (k + 1)
-
-      here : InKnots p e ks bs j k₀ k₁ (at ks k ∷ tail) i
-      here = subst (λ (x : List Float). InKnots p e ks bs j k₀ k₁ x i) (B.here l) I
-
-      split : break_knots p e ks (at ks k ∷ tail) ≡ replicate m (at ks k) ++ break_knots p e ks tail
+      split : break_knots p e ks (t ∷ tail) ≡ replicate m t ++ break_knots p e ks tail
       unfolding break_knots
-      split = ap (λ (x : ℕ). replicate x (at ks k) ++ break_knots p e ks tail) (sym M)
+      split = ap (λ (x : ℕ). replicate x t ++ break_knots p e ks tail) (sym M)
 
-      sum : length (break_knots p e ks (at ks k ∷ tail)) ≡ m + length (break_knots p e ks tail)
-      sum = knots-step p e ks (at ks k) tail ∙ ap (λ (x : ℕ). x + length (break_knots p e ks tail)) (sym M)
+      sum : length (break_knots p e ks (t ∷ tail)) ≡ m + length (break_knots p e ks tail)
+      sum = knots-step p e ks t tail ∙ ap (λ (x : ℕ). x + length (break_knots p e ks tail)) (sym M)
 
       pub knots-room : i + m ≤ length k₁
       knots-room = let a = here.long in let b = here.count in let c = sum in omega arith
 
-      pub knots-more : (k' : ℕ) → NextBreak ks n (k + 1) k' → (k₂ : List Float) → k₂ ≡ over i (replicate m (at ks k)) k₁ → InKnots p e ks bs j k₀ k₂ (left ks n k') (i + m)
-      knots-more k' N k₂ E =
-          let r = length-replicate m (at ks k) in
+      pub knots-more : (k₂ : List Float) → k₂ ≡ over i (replicate m t) k₁ → InKnots p e ks bs j k₀ k₂ tail (i + m)
+      knots-more k₂ E =
+          let r = length-replicate m t in
           let a = here.long in
           let b = here.count in
           let c = sum in
           let d = knots-room in
-          subst (λ (x : List Float). InKnots p e ks bs j k₀ k₂ x (i + m)) N.same
-          (record {
-            long = ap length E ∙ (over-long i (replicate m (at ks k)) k₁ (omega arith) ∙ a);
+          record {
+            long = ap length E ∙ (over-long i (replicate m t) k₁ (omega arith) ∙ a);
             count = omega arith;
             goal = ap (over (i + m) (break_knots p e ks tail)) E
-                ∙ (over-over i (i + m) (replicate m (at ks k)) (break_knots p e ks tail) k₁ (omega arith) d
+                ∙ (over-over i (i + m) (replicate m t) (break_knots p e ks tail) k₁ (omega arith) d
                 ∙ (ap (λ (x : List Float). over i x k₁) (sym split) ∙ here.goal));
-          })
+          }
 
-    pub knots-end : left ks n k ≡ [] → (i ≡ j + length (break_knots p e ks bs)) × (k₁ ≡ over j (break_knots p e ks bs) k₀)
+    pub knots-end : ts ≡ [] → (i ≡ j + length (break_knots p e ks bs)) × (k₁ ≡ over j (break_knots p e ks bs) k₀)
     unfolding break_knots
     knots-end E =
         let D = subst (λ (x : List Float). InKnots p e ks bs j k₀ k₁ x i) E I in
@@ -95,32 +88,44 @@ module _ (p e n : ℕ) (ks bs : List Float) where
       ∙ (ap (λ (x : ℕ). length (replicate (e + 1) (at ks p)) + x) (length-append (break_knots p e ks bs) (replicate (e + 1) (at ks n)))
       ∙ (omega (arith, length-replicate (e + 1) (at ks p), length-replicate (e + 1) (at ks n))))
 
-  module _ (k₀ : List Float) (room : length (raised_knots p e n ks bs) ≤ length k₀) (k₁ : List Float) (E : k₁ ≡ over 0 (replicate (e + 1) (at ks p)) k₀) where
-    ends-long : length k₁ ≡ length k₀
-    ends-long = let r = raised-parts in ap length E ∙ over-long 0 (replicate (e + 1) (at ks p)) k₀ (omega (arith, length-replicate (e + 1) (at ks p)))
+  -- first a fill of the front, then the breaks, then a fill behind them
+  module _ (k₀ : List Float) (room : length (raised_knots p e n ks bs) ≤ length k₀) where
+    pub front-room : e + 1 ≤ length k₀
+    front-room = let r = raised-parts in omega arith
 
-    pub breaks-room : e + 1 + length (break_knots p e ks bs) ≤ length k₁
-    breaks-room = let r = raised-parts in let l = ends-long in omega arith
+    module _ (ys : List Float) (Y : ys ≡ replicate (length (take (e + 1) k₀)) (at ks p)) where
+      abbrev k₁ : List Float
+      k₁ = ys ++ drop (e + 1) k₀
 
-    module _ (k₂ : List Float) (F : k₂ ≡ over (e + 1) (break_knots p e ks bs) k₁) (i : ℕ) (I : i ≡ e + 1 + length (break_knots p e ks bs)) where
-      pub end-room : i + (e + 1) ≤ length k₂
-      end-room =
-          let r = raised-parts in
-          let l = ends-long in
-          let m : length k₂ ≡ length k₁ = ap length F ∙ over-long (e + 1) (break_knots p e ks bs) k₁ breaks-room in
-          omega arith
+      front-is : k₁ ≡ over 0 (replicate (e + 1) (at ks p)) k₀
+      front-is = let f = front-room in filled 0 (e + 1) (e + 1) (at ks p) k₀ ys refl (omega arith) Y
 
-      pub knots-whole : (k₃ : List Float) → k₃ ≡ over i (replicate (e + 1) (at ks n)) k₂ → k₃ ≡ over 0 (raised_knots p e n ks bs) k₀
-      unfolding raised_knots
-      knots-whole k₃ G =
-          let r = raised-parts in
-          let l = ends-long in
-          let m = end-room in
-          let b = breaks-room in
-          G ∙ (ap (over i (replicate (e + 1) (at ks n))) F
-          ∙ (over-over (e + 1) i (break_knots p e ks bs) (replicate (e + 1) (at ks n)) k₁ I (omega arith)
-          ∙ (ap (over (e + 1) (break_knots p e ks bs ++ replicate (e + 1) (at ks n))) E
-          ∙ over-over 0 (e + 1) (replicate (e + 1) (at ks p)) (break_knots p e ks bs ++ replicate (e + 1) (at ks n)) k₀ (omega (arith, length-replicate (e + 1) (at ks p))) (omega arith))))
+      ends-long : length k₁ ≡ length k₀
+      ends-long = let r = raised-parts in ap length front-is ∙ over-long 0 (replicate (e + 1) (at ks p)) k₀ (omega (arith, length-replicate (e + 1) (at ks p)))
+
+      pub breaks-room : e + 1 + length (break_knots p e ks bs) ≤ length k₁
+      breaks-room = let r = raised-parts in let l = ends-long in omega arith
+
+      module _ (k₂ : List Float) (F : k₂ ≡ over (e + 1) (break_knots p e ks bs) k₁) (i : ℕ) (I : i ≡ e + 1 + length (break_knots p e ks bs)) where
+        pub end-room : i + (e + 1) ≤ length k₂
+        end-room =
+            let r = raised-parts in
+            let l = ends-long in
+            let m : length k₂ ≡ length k₁ = ap length F ∙ over-long (e + 1) (break_knots p e ks bs) k₁ breaks-room in
+            omega arith
+
+        pub knots-whole : (k : ℕ) (zs : List Float) → k ≡ e + 1 → zs ≡ replicate (length (take k (drop i k₂))) (at ks n) → put_mid i k k₂ zs ≡ over 0 (raised_knots p e n ks bs) k₀
+        unfolding raised_knots
+        knots-whole k zs K Z =
+            let r = raised-parts in
+            let l = ends-long in
+            let m = end-room in
+            let b = breaks-room in
+            filled i (e + 1) k (at ks n) k₂ zs K end-room Z
+            ∙ (ap (over i (replicate (e + 1) (at ks n))) F
+            ∙ (over-over (e + 1) i (break_knots p e ks bs) (replicate (e + 1) (at ks n)) k₁ I (omega arith)
+            ∙ (ap (over (e + 1) (break_knots p e ks bs ++ replicate (e + 1) (at ks n))) front-is
+            ∙ over-over 0 (e + 1) (replicate (e + 1) (at ks p)) (break_knots p e ks bs ++ replicate (e + 1) (at ks n)) k₀ (omega (arith, length-replicate (e + 1) (at ks p))) (omega arith))))
 
   -- as many as the raised curve has
   pub raised_long : length (raised_knots p e n ks bs) ≡ raised_count p e ks bs + e + 1

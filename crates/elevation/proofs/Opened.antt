@@ -2,16 +2,16 @@
 -- Assumes nothing.
 use Prim.Native.Nat.{ℕ, ◌+◌, ◌*◌, ◌/◌, ◌≤◌, ◌<◌}
 use mathlib.Core.Bool.{Bool, true, not, ◌&&◌}
-use mathlib.Core.Path.{◌≡◌, sym, ◌∙◌, ap}
+use mathlib.Core.Path.{◌≡◌}
 use mathlib.Core.List.{List}
 use native.Mathlib.Omega.{arith}
 use borrow.Author.Tests.{ltb-false}
 use lib.ListN.{length}
 use lib.Dec.{eqb, ltb}
 use lib.Ieee.{Float}
-use Rattle.knots.specs.Refusal.{refuse, degree-lowered, elevation-high}
+use Rattle.knots.specs.Refusal.{refuse}
+use Rattle.knots.specs.declared.refusal.Reason.TheVariants.{DegreeLowered, ElevationHigh}
 use Rattle.knots.specs.Curve.{count_of, ValidCurve}
-use Rattle.knots.specs.declared.refusal.Refusal.{Refusal}
 use Rattle.knots.proofs.Refusals.{passed, or_else-none}
 use Rattle.edits.specs.Start.{clamped_ends, edit_start, out_room, scratch_room}
 use Rattle.edits.proofs.Starting.{edit-open, OutOpen, out-open, scratch-open}
@@ -21,10 +21,10 @@ use Rattle.elevation.specs.Whole.{elevated_count, raise_start, elevate_start}
 use Rattle.elevation.proofs.Limits.{not-high}
 
 -- a curve that may be edited: its counts are small
-pub edit-small : (p : ℕ) (ks ps : List Float) (g : Bool) (ws : List Float) (r : Refusal) → r ≡ edit_start p ks ps g ws → r.number ≡ 0
+pub edit-small : (p : ℕ) (ks ps : List Float) (g : Bool) (ws : List Float) → (edit_start p ks ps g ws).number ≡ 0
     → (p < length ps / 3) × (length ps / 3 ≤ length ks) × (length ps / 3 ≤ 1048576)
-edit-small p ks ps g ws r e z =
-    let v = (edit-open p ks ps g ws (sym (ap (λ (x : Refusal). x.number) e) ∙ z)).0 in
+edit-small p ks ps g ws z =
+    let v = (edit-open p ks ps g ws z).0 in
     let c = v.knots.count in
     let l = v.knots.long in
     let s = v.short.points in
@@ -45,8 +45,8 @@ module _ (p : ℕ) (ks ps : List Float) (g : Bool) (ws : List Float) (e a b c d 
       let n = count_of ps in
       let x = or_else-none (edit_start p ks ps g ws) _ h in
       let q = edit-open p ks ps g ws x.0 in
-      let y = passed (ltb e p) (refuse degree-lowered) _ (λ z. omega arith) x.1 in
-      let u = passed (not (eqb e p) && ltb 64 e) (refuse elevation-high) _ (λ z. omega arith) y.1 in
+      let y = passed (ltb e p) (refuse DegreeLowered) _ (λ z. omega arith) x.1 in
+      let u = passed (not (eqb e p) && ltb 64 e) (refuse ElevationHigh) _ (λ z. omega arith) y.1 in
       let w = or_else-none (out_room e (elevated_count p e n ks) g a b c) (scratch_room p (extracted_count p (breaks_of p n ks)) d) u.1 in
       record {
         curve = q.0;

@@ -6,7 +6,8 @@ use mathlib.Core.Path.{◌≡◌, refl, sym, ◌∙◌, ap, ap₂}
 use mathlib.Core.List.{List, [], ◌∷◌, ◌++◌, append_assoc}
 use native.Mathlib.Omega.{arith}
 use native.Mathlib.Numerals.{add-one}
-use lib.ListN.{length, set, take, drop, replicate, length-append, length-set, length-replicate, length-drop, take-append-drop, replicate-append-replicate}
+use lib.ListN.{length, set, take, drop, replicate, length-append, length-set, length-replicate, length-drop, take-append-drop}
+use borrow.Rule.Slice.PartMut.{put_mid}
 use lib.Seq.{length-take-le, take_at, drop-append-add, drop-drop, set_split}
 use lib.Ieee.{Float}
 use Rattle.knots.specs.Clear.{zeros}
@@ -69,14 +70,14 @@ over-three a v d l =
     ∙ (ap (over (a + 1) (v.y ∷ [])) (over-one a v.x d (omega arith)) ∙ over-over a (a + 1) (v.x ∷ []) (v.y ∷ []) d refl (omega arith)))
     ∙ over-over a (a + 2) (v.x ∷ v.y ∷ []) (v.z ∷ []) d refl (omega arith))
 
--- a number m times
-pub over-fill : (a i : ℕ) (t : Float) (d xs : List Float) → a + i < length d → xs ≡ over a (replicate i t) d → set xs (a + i) t ≡ over a (replicate (i + 1) t) d
-over-fill a i t d xs l e =
-    let n = length-replicate i t in
-    let long : length xs ≡ length d = ap length e ∙ over-long a (replicate i t) d (omega arith) in
-    over-one (a + i) t xs (omega arith)
-    ∙ (ap (over (a + i) (t ∷ [])) e
-    ∙ (over-over a (a + i) (replicate i t) (t ∷ []) d (omega arith) (omega arith) ∙ ap (λ (x : List Float). over a x d) (replicate-append-replicate i 1 t)))
+-- a number m times: what a fill of the part from place a on leaves
+pub filled : (a m k : ℕ) (t : Float) (d ys : List Float) → k ≡ m → a + m ≤ length d → ys ≡ replicate (length (take k (drop a d))) t → put_mid a k d ys ≡ over a (replicate m t) d
+unfolding over
+filled a m k t d ys K l E =
+    let n = length-drop a d in
+    let h : length (take k (drop a d)) ≡ m = length-take-le k (drop a d) (omega arith) ∙ K in
+    ap₂ (λ (x y : List Float). take a d ++ (x ++ y)) (E ∙ ap (λ (i : ℕ). replicate i t) h)
+    (drop-drop k a d ∙ ap (λ (i : ℕ). drop i d) (omega (arith, length-replicate m t)))
 
 -- a weight, where there are weights
 pub weight-over : (g : Bool) (i : ℕ) (w : Float) (d : List Float) → (g ≡ true → i < length d) → cond g (set d i w) d ≡ over (given g i) (given_of g (w ∷ [])) d

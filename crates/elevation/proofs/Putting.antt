@@ -77,9 +77,6 @@ module _ (o : Vector) (g : Bool) (l : List Control) (j : ℕ) (p₀ w₀ : List 
   putting-start = record { long-points = refl; long-weights = refl; count = refl; answer = refl; points = refl; weights = refl }
 
   module _ (a L : List Control) (i : ℕ) (p₁ w₁ : List Float) (I : Putting o g l j p₀ w₀ (a ++ L) i p₁ w₁) where
-    pub putting-count : i + length a ≤ j + length l
-    putting-count = let c = I.count in let s = length-append a L in omega arith
-
     module _ (p₂ w₂ : List Float) where
       pub putting-stop : (r : Bool) → Put o g a i p₁ w₁ p₂ w₂ r → r ≡ false → Put o g l j p₀ w₀ p₂ w₂ false
       putting-stop r P e = record {
@@ -171,17 +168,6 @@ module _ (o : Vector) (g : Bool) (h : ℕ → Control) (f m j : ℕ) (p₀ w₀ 
     pub upto : i ≤ m
     pub going : Putting o g (controls_of h f m) j p₀ w₀ (controls_of h (f + i) (m - i)) (j + i) p₁ w₁
 
-  pub put-start : InPut p₀ w₀ 0
-  put-start =
-      let a : f ≡ f + 0 = omega arith in
-      let b : m ≡ m - 0 = omega arith in
-      let c : j ≡ j + 0 = omega arith in
-      record {
-        upto = omega arith;
-        going = subst (λ (k : ℕ). Putting o g (controls_of h f m) j p₀ w₀ (controls_of h (f + 0) (m - 0)) k p₀ w₀) c
-            (subst (λ (x : List Control). Putting o g (controls_of h f m) j p₀ w₀ x j p₀ w₀) (ap₂ (controls_of h) a b) (putting-start o g (controls_of h f m) j p₀ w₀));
-      }
-
   module _ (p₁ w₁ : List Float) (i : ℕ) (I : InPut p₁ w₁ i) where
     module _ (b : i < m) (q : Control) (Q : q ≡ h (f + i)) (p₂ w₂ : List Float) where
       here : Putting o g (controls_of h f m) j p₀ w₀ ((q ∷ []) ++ controls_of h (f + (i + 1)) (m - (i + 1))) (j + i) p₁ w₁
@@ -213,14 +199,3 @@ module _ (o : Vector) (g : Bool) (h : ℕ → Control) (f m j : ℕ) (p₀ w₀ 
 
     pub put-end : m ≤ i → Put o g (controls_of h f m) j p₀ w₀ p₁ w₁ true
     put-end b = putting-end o g (controls_of h f m) j p₀ w₀ (controls_of h (f + i) (m - i)) (j + i) p₁ w₁ I.going (controls-none h f m i b)
-
--- ---- one list after the other
-pub put-append : (o : Vector) (g : Bool) (a b : List Control) (i k : ℕ) (p₀ w₀ p₁ w₁ p₂ w₂ : List Float) (r : Bool) → (i + length (a ++ b)) * 3 ≤ length p₀ → given g (i + length (a ++ b)) ≤ length w₀
-    → k ≡ i + length a → Put o g a i p₀ w₀ p₁ w₁ true → Put o g b k p₁ w₁ p₂ w₂ r → Put o g (a ++ b) i p₀ w₀ p₂ w₂ r
-put-append o g a b i k p₀ w₀ p₁ w₁ p₂ w₂ r P W K A B =
-    let one = putting-run o g (a ++ b) i p₀ w₀ a b i p₀ w₀ (putting-start o g (a ++ b) i p₀ w₀) p₁ w₁ P W true A refl in
-    record {
-      answer = B.answer ∙ one.answer;
-      points = λ z. B.points z ∙ (ap (λ (x : ℕ). over (x * 3) (points_of o b) p₁) K ∙ one.points);
-      weights = λ z. B.weights z ∙ (ap (λ (x : ℕ). over (given g x) (given_of g (weights_of b)) w₁) K ∙ one.weights);
-    }

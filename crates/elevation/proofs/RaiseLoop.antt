@@ -159,14 +159,8 @@ module _ (p e : ℕ) (r₀ : List Float) where
                   ∙ ap (λ (k : ℕ). raise_once k (raise_times p (d - p) (control_in r₀)) i) z);
             }
 
-    pub times-end : e ≤ d → RowsAre (raise_times p (e - p) (control_in r₀)) (e + 1) (length r₀) r₁
-    times-end l = let U = I.upto in let z : d ≡ e = omega arith in subst (λ (k : ℕ). RowsAre (raise_times p (k - p) (control_in r₀)) (k + 1) (length r₀) r₁) z I.holds
-
 -- ---- controls stored one by one
 module _ (h : ℕ → Control) (l : ℕ) where
-  pub hold-none : (r₁ : List Float) → length r₁ ≡ l → RowsAre h 0 l r₁
-  hold-none r₁ e = record { long = e; rows = λ i b. absurd (omega arith) }
-
   pub hold-more : (r₁ : List Float) (i : ℕ) → RowsAre h i l r₁ → i * 4 + 3 < l → (q : Control) → q ≡ h i → (r₂ : List Float) → r₂ ≡ row_put true r₁ i q → RowsAre h (i + 1) l r₂
   hold-more r₁ i I b q Q r₂ E =
       let L = I.long in

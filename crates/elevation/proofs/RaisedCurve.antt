@@ -1,5 +1,6 @@
 -- The raised curve, from the controls that stand in a run after the extraction.
 -- Assumes nothing.
+use Rattle.std.specs.Prelude.{Result, Err}
 use Prim.Native.Nat.{ℕ, ◌+◌, ◌-◌, ◌*◌, ◌≤◌, ◌<◌}
 use mathlib.Core.Bool.{Bool, true, false, not}
 use mathlib.Core.Path.{◌≡◌, refl, sym, ◌∙◌, ap, ap₂, subst}
@@ -11,10 +12,11 @@ use lib.ListN.{length}
 use lib.Dec.{eqb}
 use lib.Ieee.{Float}
 use Rattle.knots.specs.Below.{all_below}
-use Rattle.knots.specs.Refusal.{refuse, control-bad}
+use Rattle.knots.specs.Refusal.{refuse, checked}
+use Rattle.knots.specs.declared.refusal.Reason.TheVariants.{ControlBad}
 use Rattle.knots.specs.Clear.{zeros}
 use Rattle.knots.specs.declared.refusal.Refusal.{Refusal}
-use Rattle.knots.proofs.Refusals.{stop, skip}
+use Rattle.knots.proofs.Refusals.{refused, stopped_by}
 use Rattle.runs.specs.Point.{point_of}
 use Rattle.runs.specs.declared.vector.Vector.{Vector}
 use Rattle.edits.specs.Control.{vector_of, is_lifted}
@@ -25,6 +27,7 @@ use Rattle.edits.specs.Work.{points_from, weights_from, scale_in, controls, lift
 use Rattle.edits.specs.Rows.{scale_of}
 use Rattle.edits.specs.Passes.{row_of, OutMeets}
 use Rattle.edits.proofs.LiftCall.{lifted-bad, lifted-done}
+use Rattle.edits.proofs.Outcomes.{checked-none}
 use Rattle.edits.proofs.RowReads.{scale-fits, row-point}
 use Rattle.edits.specs.declared.control.Control.{Control}
 use Rattle.elevation.specs.Breaks.{breaks_of, is_full, missing_all}
@@ -59,18 +62,15 @@ module _ (p e : ℕ) (l : p ≤ e) (ks : List Float) (f h : ℕ → Control) (b 
   kept-cong bs B = ap₂ (λ (x y : List Control). x ++ y) (added-cong 0 (omega arith) true) (from-cong 1 bs (omega arith))
 
 -- ---- 19, or what is joined of the controls that stand in a run
-module _ (p e n : ℕ) (l : p ≤ e) (ks bs : List Float) (g : Bool) (P W : List Float) (k₀ p₀ w₀ k₁ p₁ w₁ : List Float) (r : Refusal) where
+module _ (p e n : ℕ) (l : p ≤ e) (ks bs : List Float) (g : Bool) (P W : List Float) (k₀ p₀ w₀ k₁ p₁ w₁ : List Float) where
   abbrev H : ℕ → Control
   H = extracted p e n ks bs g P W
 
-  pub raised-19 : all_below (λ i. is_lifted (H i)) (extracted_count p bs) ≡ false → r ≡ refuse control-bad → Raised p e n ks bs g P W k₀ p₀ w₀ k₁ p₁ w₁ r
-  unfolding raised_refusal
-  raised-19 F R = record { refusal = simp F R; knots = λ z. absurd (no z); points = λ z. absurd (no z); weights = λ z. absurd (no z) }
-    where
-      no : r.number ≡ 0 → ⊥
-      no y = let q : ◌≡◌ {A = ℕ} 19 0 = sym (ap (λ (x : Refusal). x.number) R) ∙ y in omega arith
+  pub raised-19 : all_below (λ i. is_lifted (H i)) (extracted_count p bs) ≡ false → (r : Refusal) → r ≡ refuse ControlBad → Raised p e n ks bs g P W k₀ p₀ w₀ k₁ p₁ w₁ (Err r)
+  unfolding raised_refusal checked
+  raised-19 F r R = record { refusal = simp F (ap Err R); knots = λ z. cc; points = λ z. cc; weights = λ z. cc }
 
-  module _ (F : all_below (λ i. is_lifted (H i)) (extracted_count p bs) ≡ true) (h : ℕ → Control) (S : (i : ℕ) → i < extracted_count p bs → h i ≡ H i) (o : Vector) (O : o ≡ point_of P 0)
+  module _ (F : all_below (λ i. is_lifted (H i)) (extracted_count p bs) ≡ true) (h : ℕ → Control) (S : (i : ℕ) → i < extracted_count p bs → h i ≡ H i) (o : Vector) (O : o ≡ point_of P 0) (r : Result Unit Refusal)
       (J : Joined p e n ks bs g h o k₀ p₀ w₀ k₁ p₁ w₁ r) where
     kept-is : kept_all p e ks h bs ≡ kept_all p e ks H bs
     unfolding extracted_count
@@ -91,11 +91,11 @@ module _ (p e n : ℕ) (ks ps : List Float) (g : Bool) (ws bs : List Float) (a b
   goal = raise_all p e n ks ps g ws bs
 
   -- the extraction is refused
-  pub raise-stop : (r : Refusal) → insert_all p g n ks ps ws (missing_all p ks bs) ≡ refuses r → (r.number ≡ 0 → ⊥) → (k₁ p₁ w₁ : List Float) → OutMeets a b c goal k₁ p₁ w₁ r
+  pub raise-stop : (r : Refusal) → insert_all p g n ks ps ws (missing_all p ks bs) ≡ refuses r → (k₁ p₁ w₁ : List Float) → OutMeets a b c goal k₁ p₁ w₁ (Err r)
   unfolding raise_all OutMeets
-  raise-stop r E h k₁ p₁ w₁ = let q : goal ≡ refuses r = ap (after_extraction (raised_outcome p e n ks bs g)) E in rw q ((refl, h))
+  raise-stop r E k₁ p₁ w₁ = let q : goal ≡ refuses r = ap (after_extraction (raised_outcome p e n ks bs g)) E in rw q refl
 
-  module _ (K P W : List Float) (E : insert_all p g n ks ps ws (missing_all p ks bs) ≡ gives K P W) (k₀ p₀ w₀ k₁ p₁ w₁ : List Float) (r : Refusal)
+  module _ (K P W : List Float) (E : insert_all p g n ks ps ws (missing_all p ks bs) ≡ gives K P W) (k₀ p₀ w₀ k₁ p₁ w₁ : List Float) (r : Result Unit Refusal)
       (D : Raised p e n ks bs g P W k₀ p₀ w₀ k₁ p₁ w₁ r) where
     made : goal ≡ raised_outcome p e n ks bs g P W
     unfolding raise_all
@@ -103,12 +103,12 @@ module _ (p e n : ℕ) (ks ps : List Float) (g : Bool) (ws bs : List Float) (a b
 
     pub raise-end : k₀ ≡ zeros a → p₀ ≡ zeros b → w₀ ≡ zeros c → OutMeets a b c goal k₁ p₁ w₁ r
     unfolding raised_outcome OutMeets
-    raise-end Z X Y = go (eqb r.number 0) refl
+    raise-end Z X Y = go (eqb (raised_refusal p e n ks bs g P W).number 0) refl
       where
-        go : (x : Bool) → eqb r.number 0 ≡ x → OutMeets a b c goal k₁ p₁ w₁ r
+        go : (x : Bool) → eqb (raised_refusal p e n ks bs g P W).number 0 ≡ x → OutMeets a b c goal k₁ p₁ w₁ r
         go true B =
-            let z = eqb-true r.number 0 B in
-            let q : goal ≡ gives (raised_knots p e n ks bs) (raised_points p e n ks bs g P W) (raised_weights p e n ks bs g P W) = made ∙ simp (skip D.refusal z) in
+            let z = D.refusal ∙ checked-none _ (eqb-true _ 0 B) in
+            let q : goal ≡ gives (raised_knots p e n ks bs) (raised_points p e n ks bs g P W) (raised_weights p e n ks bs g P W) = made ∙ simp B in
             rw q
             ((
               z,
@@ -117,9 +117,8 @@ module _ (p e n : ℕ) (ks ps : List Float) (g : Bool) (ws bs : List Float) (a b
               over_zeros c (raised_weights p e n ks bs g P W) w₀ w₁ Y (D.weights z),
             ))
         go false B =
-            let h = eqb-false r.number 0 B in
-            let q : goal ≡ refuses r = made ∙ simp (stop D.refusal h) (ap refuses (sym D.refusal)) in
-            rw q ((refl, h))
+            let q : goal ≡ refuses (raised_refusal p e n ks bs g P W) = made ∙ simp B in
+            rw q (D.refusal ∙ sym (refused _ (eqb-false _ 0 B)))
 
 -- ---- the extracted curve of m points stands in a run, and is lifted there
 pub elevated-is : (p e n : ℕ) (ks : List Float) → p < e → elevated_count p e n ks ≡ raised_count p e ks (breaks_of p n ks)
@@ -127,7 +126,7 @@ unfolding elevated_count
 elevated-is p e n ks l = simp (ne_eqb e p (λ z. omega arith))
 
 module _ (p e n : ℕ) (l : p ≤ e) (ks bs : List Float) (g : Bool) (m : ℕ) (M : m ≡ extracted_count p bs) (xs : List Float) (L : m * 4 ≤ length xs)
-    (s : Float) (S : s ≡ scale_in m g xs) (q : Refusal) (Q : q ≡ lift_refusal s m g xs) (k₀ p₀ w₀ k₁ p₁ w₁ : List Float) where
+    (s : Float) (S : s ≡ scale_in m g xs) (k₀ p₀ w₀ k₁ p₁ w₁ : List Float) where
   abbrev P : List Float
   P = points_from m xs
 
@@ -137,21 +136,22 @@ module _ (p e n : ℕ) (l : p ≤ e) (ks bs : List Float) (g : Bool) (m : ℕ) (
   scale : s ≡ scale_of g W
   scale = S ∙ scale-fits m g xs L
 
-  refusal : q ≡ lift_refusal (scale_of g W) m g xs
-  refusal = Q ∙ ap (λ (x : Float). lift_refusal x m g xs) scale
+  refusal : lift_refusal s m g xs ≡ lift_refusal (scale_of g W) m g xs
+  refusal = ap (λ (x : Float). lift_refusal x m g xs) scale
 
-  pub lift-stop : (q.number ≡ 0 → ⊥) → Raised p e n ks bs g P W k₀ p₀ w₀ k₁ p₁ w₁ q
-  lift-stop h =
-      let u = lifted-bad (scale_of g W) m g xs L q refusal h in
-      raised-19 p e n l ks bs g P W k₀ p₀ w₀ k₁ p₁ w₁ q (subst (λ (k : ℕ). all_below (λ i. is_lifted (controls (scale_of g W) m g xs i)) k ≡ false) M u.1) u.0
+  pub lift-stop : (r : Refusal) → Err r ≡ checked (lift_refusal s m g xs) → Raised p e n ks bs g P W k₀ p₀ w₀ k₁ p₁ w₁ (Err r)
+  lift-stop r E =
+      let t = stopped_by _ (E ∙ ap checked refusal) in
+      let u = lifted-bad (scale_of g W) m g xs L t.1 in
+      raised-19 p e n l ks bs g P W k₀ p₀ w₀ k₁ p₁ w₁ (subst (λ (k : ℕ). all_below (λ i. is_lifted (controls (scale_of g W) m g xs i)) k ≡ false) M u.1) r (t.0 ∙ u.0)
 
-  pub lift-joined : q.number ≡ 0 → (ys : List Float) → ys ≡ lifted_run s m g xs → 0 < m → (o : Vector) → o ≡ vector_of (row_of g xs 0)
-      → (r : Refusal) → Joined p e n ks bs g (row_of g ys) o k₀ p₀ w₀ k₁ p₁ w₁ r → Raised p e n ks bs g P W k₀ p₀ w₀ k₁ p₁ w₁ r
+  pub lift-joined : (lift_refusal s m g xs).number ≡ 0 → (ys : List Float) → ys ≡ lifted_run s m g xs → 0 < m → (o : Vector) → o ≡ vector_of (row_of g xs 0)
+      → (r : Result Unit Refusal) → Joined p e n ks bs g (row_of g ys) o k₀ p₀ w₀ k₁ p₁ w₁ r → Raised p e n ks bs g P W k₀ p₀ w₀ k₁ p₁ w₁ r
   lift-joined z ys Y b o O r J =
-      let D = lifted-done (scale_of g W) m g xs L q refusal z ys (Y ∙ ap (λ (x : Float). lifted_run x m g xs) scale) in
-      raised-joined p e n l ks bs g P W k₀ p₀ w₀ k₁ p₁ w₁ r
+      let D = lifted-done (scale_of g W) m g xs L (sym (ap (λ (x : Refusal). x.number) refusal) ∙ z) ys (Y ∙ ap (λ (x : Float). lifted_run x m g xs) scale) in
+      raised-joined p e n l ks bs g P W k₀ p₀ w₀ k₁ p₁ w₁
       (subst (λ (k : ℕ). all_below (λ i. is_lifted (controls (scale_of g W) m g xs i)) k ≡ true) M (sym D.answer)) (row_of g ys)
-      (λ i u. D.rows refl i (subst (λ (k : ℕ). i < k) (sym M) u)) o (O ∙ sym (row-point g m xs 0 b)) J
+      (λ i u. D.rows refl i (subst (λ (k : ℕ). i < k) (sym M) u)) o (O ∙ sym (row-point g m xs 0 b)) r J
 
 pub some-points : (p m : ℕ) (bs : List Float) → m ≡ extracted_count p bs → 0 < m
 unfolding extracted_count

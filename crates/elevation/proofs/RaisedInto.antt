@@ -1,5 +1,6 @@
 -- The curve laid into scratch, extracted there and raised, put together from its passes.
 -- Assumes nothing.
+use Rattle.std.specs.Prelude.{Result, Ok, Err}
 use Prim.Native.Nat.{ℕ, ◌+◌, ◌*◌, ◌/◌, ◌≤◌, ◌<◌}
 use mathlib.Core.Bool.{Bool}
 use mathlib.Core.Path.{◌≡◌, refl, sym, ◌∙◌, subst}
@@ -7,6 +8,7 @@ use mathlib.Core.List.{List}
 use native.Mathlib.Omega.{arith}
 use lib.ListN.{length}
 use lib.Ieee.{Float}
+use Rattle.knots.specs.Refusal.{checked}
 use Rattle.knots.specs.Clear.{zeros}
 use Rattle.knots.specs.Knots.{ValidKnots}
 use Rattle.knots.specs.declared.refusal.Refusal.{Refusal}
@@ -14,7 +16,7 @@ use Rattle.edits.specs.Rows.{given}
 use Rattle.edits.specs.Whole.{given_of}
 use Rattle.insertion.specs.Fold.{insert_all}
 use Rattle.edits.specs.Outcome.{Outcome}
-use Rattle.edits.specs.Work.{laid, knots_from, points_from, weights_from, lay_outcome, refusal_of, work_in}
+use Rattle.edits.specs.Work.{knots_from, points_from, weights_from, lay_outcome, refusal_of, work_in}
 use Rattle.edits.specs.Passes.{CurveIn, OutMeets}
 use Rattle.edits.proofs.RowReads.{given-fits}
 use Rattle.edits.proofs.WorkCalls.{laid-curve}
@@ -74,11 +76,11 @@ module _ (p : ℕ) (ks ps : List Float) (g : Bool) (ws : List Float) (e A B C d 
     room : m * 4 + length ks ≤ d
     room = let q = made-is in let s = scratch in let l = open-facts.curve.knots.long in omega arith
 
-    laid_out : (x₀ : List Float) → length x₀ ≡ d → (r : Refusal) (x₁ : List Float) → r ≡ refusal_of (lay_outcome ks ps g ws (m * 4) d)
-        → x₁ ≡ work_in (m * 4) g x₀ (lay_outcome ks ps g ws (m * 4) d) → (r.number ≡ 0) × CurveIn (m * 4) ks ps g ws x₀ x₁
+    laid_out : (x₀ : List Float) → length x₀ ≡ d → (r : Result Unit Refusal) (x₁ : List Float) → r ≡ checked (refusal_of (lay_outcome ks ps g ws (m * 4) d))
+        → x₁ ≡ work_in (m * 4) g x₀ (lay_outcome ks ps g ws (m * 4) d) → (r ≡ Ok tt) × CurveIn (m * 4) ks ps g ws x₀ x₁
     laid_out x₀ L = laid-curve ks ps g ws (m * 4) d x₀ L (given-fits g n (length ws) open-facts.curve.controls.weights) wide room
 
-    pub lay-none : (x₀ : List Float) → length x₀ ≡ d → (r : Refusal) → r ≡ refusal_of (lay_outcome ks ps g ws (m * 4) d) → r.number ≡ 0
+    pub lay-none : (x₀ : List Float) → length x₀ ≡ d → (r : Result Unit Refusal) → r ≡ checked (refusal_of (lay_outcome ks ps g ws (m * 4) d)) → r ≡ Ok tt
     lay-none x₀ L r R = (laid_out x₀ L r _ R refl).0
 
     module _ (x₀ : List Float) (L : length x₀ ≡ d) (x₁ : List Float) (X : x₁ ≡ work_in (m * 4) g x₀ (lay_outcome ks ps g ws (m * 4) d)) where
@@ -101,7 +103,7 @@ module _ (p : ℕ) (ks ps : List Float) (g : Bool) (ws : List Float) (e A B C d 
           let s = scratch in
           (in_reach, (subst (ValidKnots p n) (sym knots-are) open-facts.curve.knots, (omega arith, omega arith)))
 
-      module _ (x₂ : List Float) (r : Refusal)
+      module _ (x₂ : List Float) (r : Result Unit Refusal)
           (E : Extracted p g (n + length (missing_all p ks bs)) (m * 4) (insert_all p g n (knots_from (m * 4) p n x₁) (points_from n x₁) (weights_from g n x₁) (missing_all p ks bs)) x₂ r) where
         extraction : Extracted p g m (m * 4) (insert_all p g n ks ps (given_of g ws) (missing_all p ks bs)) x₂ r
         extraction =
@@ -111,10 +113,10 @@ module _ (p : ℕ) (ks ps : List Float) (g : Bool) (ws : List Float) (e A B C d 
             moved : {i i' j j' l l' : List Float} → i ≡ i' → j ≡ j' → l ≡ l' → insert_all p g n i j l (missing_all p ks bs) ≡ insert_all p g n i' j' l' (missing_all p ks bs)
             moved I J K = rw (I, J, K)
 
-        pub into-stop : (r.number ≡ 0 → ⊥) → (k₁ p₁ w₁ : List Float) → OutMeets A B C (raise_all p e n ks ps g (given_of g ws) bs) k₁ p₁ w₁ r
-        into-stop h k₁ p₁ w₁ = raise-stop p e n ks ps g (given_of g ws) bs A B C r (extraction.refused h) h k₁ p₁ w₁
+        pub into-stop : (x : Refusal) → r ≡ Err x → (k₁ p₁ w₁ : List Float) → OutMeets A B C (raise_all p e n ks ps g (given_of g ws) bs) k₁ p₁ w₁ (Err x)
+        into-stop x h k₁ p₁ w₁ = raise-stop p e n ks ps g (given_of g ws) bs A B C x (extraction.refused x h) k₁ p₁ w₁
 
-        pub into-end : r.number ≡ 0 → (k₀ p₀ w₀ k₁ p₁ w₁ : List Float) (s : Refusal) → Raised p e n ks bs g (points_from m x₂) (weights_from g m x₂) k₀ p₀ w₀ k₁ p₁ w₁ s
+        pub into-end : r ≡ Ok tt → (k₀ p₀ w₀ k₁ p₁ w₁ : List Float) (s : Result Unit Refusal) → Raised p e n ks bs g (points_from m x₂) (weights_from g m x₂) k₀ p₀ w₀ k₁ p₁ w₁ s
             → k₀ ≡ zeros A → p₀ ≡ zeros B → w₀ ≡ zeros C → OutMeets A B C (raise_all p e n ks ps g (given_of g ws) bs) k₁ p₁ w₁ s
         into-end z k₀ p₀ w₀ k₁ p₁ w₁ s R X' Y Z =
             raise-end p e n ks ps g (given_of g ws) bs A B C (knots_from (m * 4) p m x₂) (points_from m x₂) (weights_from g m x₂) (extraction.given z) k₀ p₀ w₀ k₁ p₁ w₁ s R X' Y Z

@@ -21,7 +21,8 @@ use Rattle.exact.proofs.Elevation.{elevation-same, elevation-same-end}
 use Rattle.doubles.specs.Run.{at, val_at}
 use Rattle.doubles.specs.Value.{val}
 use Rattle.knots.specs.Below.{all_below}
-use Rattle.knots.specs.Refusal.{refuse, control-bad, edit-bad}
+use Rattle.knots.specs.Refusal.{refuse}
+use Rattle.knots.specs.declared.refusal.Reason.TheVariants.{ControlBad, EditBad}
 use Rattle.knots.specs.Knots.{ValidKnots}
 use Rattle.knots.specs.Curve.{count_of, ValidCurve}
 use Rattle.knots.proofs.Refusals.{or_else-none, passed}
@@ -105,8 +106,8 @@ module _ (p : ℕ) (ks ps : List Float) (g : Bool) (ws : List Float) (e a b c d 
   raised-valid : (ps' ws' : List Float) → (raised_refusal p e n ks bs g ps' ws').number ≡ 0 → ValidKnots e m (raised_knots p e n ks bs)
   unfolding raised_refusal
   raised-valid ps' ws' z =
-      let x = passed (not (all_below (λ i. is_lifted (extracted p e n ks bs g ps' ws' i)) (extracted_count p bs))) (refuse control-bad) _ (λ q. omega arith) z in
-      let y = passed (not (all_blended (raised_controls p e n ks bs g ps' ws'))) (refuse edit-bad) _ (λ q. omega arith) x.1 in
+      let x = passed (not (all_below (λ i. is_lifted (extracted p e n ks bs g ps' ws' i)) (extracted_count p bs))) (refuse ControlBad) _ (λ q. omega arith) z in
+      let y = passed (not (all_blended (raised_controls p e n ks bs g ps' ws'))) (refuse EditBad) _ (λ q. omega arith) x.1 in
       (valid-formed e m (raised_knots p e n ks bs) (raised_points p e n ks bs g ps' ws') g (raised_weights p e n ks bs g ps' ws') y.1).0
 
   formed : Formed

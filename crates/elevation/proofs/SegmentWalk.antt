@@ -8,7 +8,6 @@ use native.Mathlib.Omega.{arith}
 use native.Mathlib.Nat.{mul-le-mul_left}
 use lib.ListN.{length, length-append}
 use lib.Ieee.{Float}
-use Rattle.doubles.specs.Run.{at}
 use Rattle.runs.specs.declared.vector.Vector.{Vector}
 use Rattle.edits.specs.Counts.{bit}
 use Rattle.edits.specs.Rows.{given}
@@ -17,10 +16,9 @@ use Rattle.edits.specs.declared.control.Control.{Control}
 use Rattle.elevation.specs.Breaks.{breaks_of, is_full, full_count}
 use Rattle.elevation.specs.Raise.{raise_times}
 use Rattle.elevation.specs.Elevate.{extracted_count, raised_count, controls_of, segment_of, added_by, kept_from, kept_all}
-use Rattle.elevation.specs.Passes.{control_in, RowsAre, Put, AtBreak, NextBreak}
+use Rattle.elevation.specs.Passes.{control_in, RowsAre, Put}
 use Rattle.elevation.proofs.RaiseLoop.{times-cong}
-use Rattle.elevation.proofs.BreakWalks.{left}
-use Rattle.elevation.proofs.Putting.{Putting, putting-start, putting-stop, putting-run, putting-end, put-append, given-within, controls-long, controls-cong}
+use Rattle.elevation.proofs.Putting.{Putting, putting-start, putting-stop, putting-run, putting-end, given-within, controls-long, controls-cong}
 
 -- ---- how many controls
 pub skip-sum : (b : Bool) (e : ℕ) → bit (not b) + (e + bit b) ≡ e + 1
@@ -83,109 +81,123 @@ module _ (p e f : ℕ) (l : p ≤ e) (b : Bool) (o : Vector) (g : Bool) (xs r₁
       subst (λ (x : List Control). Put o g x i p₀ w₀ p₁ w₁ r)
       (controls-cong (control_in r₂) aim s c (λ j u. raised_is j (omega arith)) ∙ ap₂ (controls_of aim) S C) P
 
--- ---- the first segment, and those after the breaks
-module _ (p e : ℕ) (l : p ≤ e) (ks xs : List Float) (o : Vector) (g : Bool) (bs p₀ w₀ p₁ w₁ : List Float) where
-  abbrev first : List Control
-  first = controls_of (raise_times p (e - p) (λ m. row_of g xs (0 + m))) 0 (e + 1)
-
-  first-is : first ≡ added_by p e (row_of g xs) 0 true
-  unfolding added_by segment_of
-  first-is = controls-cong _ _ 0 (e + 1) (λ i u. times-cong p (e - p) (λ m. row_of g xs (0 + m)) (λ m. row_of g xs (0 * (p + 1) + m)) (λ m b. ap (row_of g xs) (omega arith)) i (omega arith))
-
-  pub all-stop : (r : Bool) → Put o g first 0 p₀ w₀ p₁ w₁ r → r ≡ false → Put o g (kept_all p e ks (row_of g xs) bs) 0 p₀ w₀ p₁ w₁ false
-  unfolding kept_all
-  all-stop r P z =
-      putting-stop o g (kept_all p e ks (row_of g xs) bs) 0 p₀ w₀ (added_by p e (row_of g xs) 0 true) (kept_from p e ks (row_of g xs) 1 bs) 0 p₀ w₀
-      (putting-start o g (kept_all p e ks (row_of g xs) bs) 0 p₀ w₀) p₁ w₁ r (subst (λ (x : List Control). Put o g x 0 p₀ w₀ p₁ w₁ r) first-is P) z
-
-  pub all-put : raised_count p e ks bs * 3 ≤ length p₀ → given g (raised_count p e ks bs) ≤ length w₀ → (r : Bool) → Put o g first 0 p₀ w₀ p₁ w₁ r → r ≡ true
-      → (p₂ w₂ : List Float) (s : Bool) → Put o g (kept_from p e ks (row_of g xs) 1 bs) (e + 1) p₁ w₁ p₂ w₂ s → Put o g (kept_all p e ks (row_of g xs) bs) 0 p₀ w₀ p₂ w₂ s
-  unfolding kept_all
-  all-put P W r A z p₂ w₂ s B =
-      let c : raised_count p e ks bs ≡ 0 + length (kept_all p e ks (row_of g xs) bs) = omega (arith, kept-count p e ks (row_of g xs) bs) in
-      put-append o g (added_by p e (row_of g xs) 0 true) (kept_from p e ks (row_of g xs) 1 bs) 0 (e + 1) p₀ w₀ p₁ w₁ p₂ w₂ s
-      (subst (λ (x : ℕ). x * 3 ≤ length p₀) c P) (subst (λ (x : ℕ). given g x ≤ length w₀) c W) (omega (arith, added-long p e ks (row_of g xs) 0 true))
-      (subst (λ (x : Bool). Put o g (added_by p e (row_of g xs) 0 true) 0 p₀ w₀ p₁ w₁ x) z (subst (λ (x : List Control). Put o g x 0 p₀ w₀ p₁ w₁ r) first-is A)) B
-
--- ---- the loop over the breaks: segment j comes next, at place i
-module _ (p e n : ℕ) (ks : List Float) (xs : List Float) (o : Vector) (g : Bool) (p₀ w₀ : List Float) where
+-- ---- the loop over the breaks: the segment whose controls stand from control f on comes next, at place i
+module _ (p e n : ℕ) (ks xs : List Float) (o : Vector) (g : Bool) (p₀ w₀ : List Float) where
   abbrev BS : List Float
   BS = breaks_of p n ks
 
   abbrev whole : List Control
-  whole = kept_from p e ks (row_of g xs) 1 BS
+  whole = kept_all p e ks (row_of g xs) BS
 
-  pub record InRest (p₁ w₁ : List Float) (ts : List Float) (j i : ℕ) : Type 0 where
-    pub count : j + length ts ≡ length BS + 1
-    pub going : Putting o g whole (e + 1) p₀ w₀ (kept_from p e ks (row_of g xs) j ts) i p₁ w₁
+  pub record InRest (p₁ w₁ ts : List Float) (f i : ℕ) : Type 0 where
+    pub turn : ℕ
+    pub first : f ≡ turn * (p + 1)
+    pub count : turn + length ts ≡ length BS + 1
+    pub going : Putting o g whole 0 p₀ w₀ (kept_from p e ks (row_of g xs) turn ts) i p₁ w₁
 
-  pub rest-start : (ts : List Float) → BS ≡ ts → InRest p₀ w₀ ts 1 (e + 1)
-  rest-start ts E = subst (λ (x : List Float). InRest p₀ w₀ x 1 (e + 1)) E (record { count = omega arith; going = putting-start o g whole (e + 1) p₀ w₀ })
+  module _ (l : p ≤ e) (X : extracted_count p BS * 4 ≤ length xs) (P : raised_count p e ks BS * 3 ≤ length p₀) (W : given g (raised_count p e ks BS) ≤ length w₀) where
+    long : raised_count p e ks BS ≡ 0 + length whole
+    long = omega (arith, kept-count p e ks (row_of g xs) BS)
 
-  module _ (X : extracted_count p BS * 4 ≤ length xs) (P : raised_count p e ks BS * 3 ≤ length p₀) (W : given g (raised_count p e ks BS) ≤ length w₀) where
-    sum : e + 1 + length whole ≡ raised_count p e ks BS
-    sum = rest-count p e ks (row_of g xs) BS
+    points-room : (0 + length whole) * 3 ≤ length p₀
+    points-room = subst (λ (x : ℕ). x * 3 ≤ length p₀) long P
 
-    module _ (p₁ w₁ : List Float) (k j i : ℕ) (I : InRest p₁ w₁ (left ks n k) j i) where
-      module _ (B : AtBreak ks n k) (l : k < n) (b : Bool) (F : b ≡ is_full p ks (at ks k)) where
-        abbrev tail : List Float
-        tail = left ks n (k + 1)
+    weights-room : given g (0 + length whole) ≤ length w₀
+    weights-room = subst (λ (x : ℕ). given g x ≤ length w₀) long W
 
+    -- the first segment
+    abbrev first : List Control
+    first = controls_of (raise_times p (e - p) (λ m. row_of g xs (0 + m))) 0 (e + 1)
+
+    module _ (p₁ w₁ : List Float) (r : Bool) (A : Put o g first 0 p₀ w₀ p₁ w₁ r) where
+      first-is : Put o g (added_by p e (row_of g xs) 0 true) 0 p₀ w₀ p₁ w₁ r
+      unfolding added_by segment_of
+      first-is =
+          subst (λ (x : List Control). Put o g x 0 p₀ w₀ p₁ w₁ r)
+          (controls-cong _ _ 0 (e + 1) (λ i u. times-cong p (e - p) (λ m. row_of g xs (0 + m)) (λ m. row_of g xs (0 * (p + 1) + m)) (λ m b. ap (row_of g xs) (omega arith)) i (omega arith))) A
+
+      start : Putting o g whole 0 p₀ w₀ (added_by p e (row_of g xs) 0 true ++ kept_from p e ks (row_of g xs) 1 BS) 0 p₀ w₀
+      unfolding kept_all
+      start = putting-start o g whole 0 p₀ w₀
+
+      pub first-stop : r ≡ false → Put o g whole 0 p₀ w₀ p₁ w₁ false
+      first-stop z = putting-stop o g whole 0 p₀ w₀ (added_by p e (row_of g xs) 0 true) (kept_from p e ks (row_of g xs) 1 BS) 0 p₀ w₀ start p₁ w₁ r first-is z
+
+      pub rest-start : r ≡ true → (ts : List Float) → ts ≡ BS → InRest p₁ w₁ ts (p + 1) (e + 1)
+      rest-start z ts E =
+          let d = added-long p e ks (row_of g xs) 0 true in
+          let q : 0 + length (added_by p e (row_of g xs) 0 true) ≡ e + 1 = omega arith in
+          subst (λ (x : List Float). InRest p₁ w₁ x (p + 1) (e + 1)) (sym E)
+          (record {
+            turn = 1;
+            first = omega arith;
+            count = omega arith;
+            going = subst (λ (x : ℕ). Putting o g whole 0 p₀ w₀ (kept_from p e ks (row_of g xs) 1 BS) x p₁ w₁) q
+                (putting-run o g whole 0 p₀ w₀ (added_by p e (row_of g xs) 0 true) (kept_from p e ks (row_of g xs) 1 BS) 0 p₀ w₀ start p₁ w₁ points-room weights-room r first-is z);
+          })
+
+    module _ (p₁ w₁ ts : List Float) (f i : ℕ) (I : InRest p₁ w₁ ts f i) where
+      module _ (t : Float) (tail : List Float) (T : ts ≡ t ∷ tail) (b : Bool) (F : b ≡ is_full p ks t) where
         abbrev added : List Control
-        added = added_by p e (row_of g xs) j b
+        added = added_by p e (row_of g xs) I.turn b
 
-        count-here : j + suc (length tail) ≡ length BS + 1
-        count-here = ap (λ (x : List Float). j + length x) (sym (B.here l)) ∙ I.count
+        count-here : I.turn + suc (length tail) ≡ length BS + 1
+        count-here = ap (λ (x : List Float). I.turn + length x) (sym T) ∙ I.count
 
-        here : Putting o g whole (e + 1) p₀ w₀ (added ++ kept_from p e ks (row_of g xs) (j + 1) tail) i p₁ w₁
+        here : Putting o g whole 0 p₀ w₀ (added ++ kept_from p e ks (row_of g xs) (I.turn + 1) tail) i p₁ w₁
         unfolding kept_from
         here =
-            subst (λ (x : Bool). Putting o g whole (e + 1) p₀ w₀ (added_by p e (row_of g xs) j x ++ kept_from p e ks (row_of g xs) (j + 1) tail) i p₁ w₁) (sym F)
-            (subst (λ (x : List Float). Putting o g whole (e + 1) p₀ w₀ (kept_from p e ks (row_of g xs) j x) i p₁ w₁) (B.here l) I.going)
+            subst (λ (x : Bool). Putting o g whole 0 p₀ w₀ (added_by p e (row_of g xs) I.turn x ++ kept_from p e ks (row_of g xs) (I.turn + 1) tail) i p₁ w₁) (sym F)
+            (subst (λ (x : List Float). Putting o g whole 0 p₀ w₀ (kept_from p e ks (row_of g xs) I.turn x) i p₁ w₁) T I.going)
 
         places : i + (e + bit b) ≤ raised_count p e ks BS
         places =
             let c = here.count in
-            let a = length-append added (kept_from p e ks (row_of g xs) (j + 1) tail) in
-            let d = added-long p e ks (row_of g xs) j b in
-            let s = sum in
+            let a = length-append added (kept_from p e ks (row_of g xs) (I.turn + 1) tail) in
+            let d = added-long p e ks (row_of g xs) I.turn b in
+            let s = long in
             omega arith
 
-        pub rest-rows : (j * (p + 1) + (p + 1)) * 4 ≤ length xs
+        -- there is room for the segment
+        pub rest-room : ((f + (p + 1)) * 4 ≤ length xs) × ((i + (e + bit b)) * 3 ≤ length p₁) × (given g (i + (e + bit b)) ≤ length w₁)
         unfolding extracted_count
-        rest-rows =
+        rest-room =
             let c = count-here in
-            let s : j + 1 ≤ length BS + 1 = omega arith in
+            let s : I.turn + 1 ≤ length BS + 1 = omega arith in
             let m = mul-le-mul_left (p + 1) s in
-            omega arith
+            let h = I.first in
+            let a = places in
+            let v = given-within g i (e + bit b) (raised_count p e ks BS) places in
+            let x = I.going.long-points in
+            let y = I.going.long-weights in (
+              omega arith,
+              omega arith,
+              omega arith,
+            )
 
-        pub rest-points : (i + (e + bit b)) * 3 ≤ length p₁
-        rest-points = let a = places in let c = I.going.long-points in omega arith
-
-        pub rest-weights : given g (i + (e + bit b)) ≤ length w₁
-        rest-weights = let a = given-within g i (e + bit b) (raised_count p e ks BS) places in let c = I.going.long-weights in omega arith
-
-        module _ (p₂ w₂ : List Float) (r : Bool) (D : Put o g (controls_of (raise_times p (e - p) (λ m. row_of g xs (j * (p + 1) + m))) (bit (not b)) (e + bit b)) i p₁ w₁ p₂ w₂ r) where
+        module _ (p₂ w₂ : List Float) (r : Bool) (D : Put o g (controls_of (raise_times p (e - p) (λ m. row_of g xs (f + m))) (bit (not b)) (e + bit b)) i p₁ w₁ p₂ w₂ r) where
           segment : Put o g added i p₁ w₁ p₂ w₂ r
           unfolding added_by segment_of
-          segment = D
+          segment = subst (λ (x : ℕ). Put o g (controls_of (raise_times p (e - p) (λ m. row_of g xs (x + m))) (bit (not b)) (e + bit b)) i p₁ w₁ p₂ w₂ r) I.first D
 
-          pub rest-stop : r ≡ false → Put o g whole (e + 1) p₀ w₀ p₂ w₂ false
-          rest-stop z = putting-stop o g whole (e + 1) p₀ w₀ added (kept_from p e ks (row_of g xs) (j + 1) tail) i p₁ w₁ here p₂ w₂ r segment z
+          pub rest-stop : r ≡ false → Put o g whole 0 p₀ w₀ p₂ w₂ false
+          rest-stop z = putting-stop o g whole 0 p₀ w₀ added (kept_from p e ks (row_of g xs) (I.turn + 1) tail) i p₁ w₁ here p₂ w₂ r segment z
 
-          pub rest_more : r ≡ true → (k' : ℕ) → NextBreak ks n (k + 1) k' → (i' : ℕ) → i' ≡ i + (e + bit b) → InRest p₂ w₂ (left ks n k') (j + 1) i'
-          rest_more z k' N i' E =
-              let s = sum in
+          pub rest-more : r ≡ true → (i' : ℕ) → i' ≡ i + (e + bit b) → InRest p₂ w₂ tail (f + (p + 1)) i'
+          rest-more z i' E =
               let c = count-here in
-              let d = added-long p e ks (row_of g xs) j b in
+              let h = I.first in
+              let d = added-long p e ks (row_of g xs) I.turn b in
               let q : i + length added ≡ i' = omega arith in
-              subst (λ (x : List Float). InRest p₂ w₂ x (j + 1) i') N.same
-              (record {
+              record {
+                turn = I.turn + 1;
+                first = omega arith;
                 count = omega arith;
-                going = subst (λ (x : ℕ). Putting o g whole (e + 1) p₀ w₀ (kept_from p e ks (row_of g xs) (j + 1) tail) x p₂ w₂) q
-                    (putting-run o g whole (e + 1) p₀ w₀ added (kept_from p e ks (row_of g xs) (j + 1) tail) i p₁ w₁ here p₂ w₂
-                    (subst (λ (x : ℕ). x * 3 ≤ length p₀) (sym s) P) (subst (λ (x : ℕ). given g x ≤ length w₀) (sym s) W) r segment z);
-              })
+                going = subst (λ (x : ℕ). Putting o g whole 0 p₀ w₀ (kept_from p e ks (row_of g xs) (I.turn + 1) tail) x p₂ w₂) q
+                    (putting-run o g whole 0 p₀ w₀ added (kept_from p e ks (row_of g xs) (I.turn + 1) tail) i p₁ w₁ here p₂ w₂ points-room weights-room r segment z);
+              }
 
-      pub rest_end : left ks n k ≡ [] → Put o g whole (e + 1) p₀ w₀ p₁ w₁ true
-      rest_end E = putting-end o g whole (e + 1) p₀ w₀ (kept_from p e ks (row_of g xs) j (left ks n k)) i p₁ w₁ I.going (ap (kept_from p e ks (row_of g xs) j) E ∙ none_kept p e ks (row_of g xs) j)
+      pub rest-end : ts ≡ [] → Put o g whole 0 p₀ w₀ p₁ w₁ true
+      rest-end E =
+          putting-end o g whole 0 p₀ w₀ (kept_from p e ks (row_of g xs) I.turn ts) i p₁ w₁ I.going
+          (ap (kept_from p e ks (row_of g xs) I.turn) E ∙ none_kept p e ks (row_of g xs) I.turn)

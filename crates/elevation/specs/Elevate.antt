@@ -4,7 +4,8 @@
 use Rattle.std.specs.Prelude.{ℕ, zero, suc, ◌+◌, ◌-◌, ◌*◌, Bool, true, not, cond, ◌&&◌, List, [], ◌∷◌, ◌++◌, length, replicate, eqb, Float}
 use Rattle.doubles.specs.Run.{at}
 use Rattle.knots.specs.Below.{all_below}
-use Rattle.knots.specs.Refusal.{refuse, control-bad, edit-bad}
+use Rattle.knots.specs.Refusal.{refuse}
+use Rattle.knots.specs.declared.refusal.Reason.TheVariants.{ControlBad, EditBad}
 use Rattle.knots.specs.Curve.{formed_refusal}
 use Rattle.knots.specs.declared.refusal.Refusal.{Refusal}
 use Rattle.runs.specs.Point.{point_of, three_of}
@@ -85,8 +86,8 @@ module _ (p e n : ℕ) (ks bs : List Float) (g : Bool) (ps ws : List Float) wher
   -- 19, 20, and 1 to 10 of the curve that is formed
   unfoldable pub raised_refusal : Refusal
   raised_refusal =
-      cond (not (all_below (λ i. is_lifted (extracted i)) (extracted_count p bs))) (refuse control-bad)
-      (cond (not (all_blended raised_controls)) (refuse edit-bad)
+      cond (not (all_below (λ i. is_lifted (extracted i)) (extracted_count p bs))) (refuse ControlBad)
+      (cond (not (all_blended raised_controls)) (refuse EditBad)
       (formed_refusal e (raised_count p e ks bs) (raised_knots p e n ks bs) raised_points g raised_weights))
 
   unfoldable pub raised_outcome : Outcome

@@ -1,9 +1,10 @@
 -- What the passes of the code promise each other. The contract of `elevate_degree` names none of it.
 -- Assumes nothing.
-use Rattle.std.specs.Prelude.{ℕ, ◌+◌, ◌-◌, ◌*◌, ◌≤◌, ◌<◌, Bool, true, not, cond, ◌≡◌, List, ◌∷◌, ◌++◌, length, take, drop, Float}
+use Rattle.std.specs.Prelude.{ℕ, ◌+◌, ◌-◌, ◌*◌, ◌<◌, Bool, true, not, cond, ◌≡◌, List, ◌++◌, length, take, drop, Float, Result, Ok, Err}
 use Rattle.doubles.specs.Run.{at}
 use Rattle.runs.specs.declared.vector.Vector.{Vector}
-use Rattle.knots.specs.Refusal.{refuse, edit-bad}
+use Rattle.knots.specs.Refusal.{refuse, checked}
+use Rattle.knots.specs.declared.refusal.Reason.TheVariants.{EditBad}
 use Rattle.knots.specs.Curve.{formed_refusal}
 use Rattle.knots.specs.declared.refusal.Refusal.{Refusal}
 use Rattle.edits.specs.Outcome.{Outcome, gives, refuses}
@@ -11,6 +12,7 @@ use Rattle.edits.specs.Work.{knots_from, points_from, weights_from}
 use Rattle.edits.specs.Rows.{given}
 use Rattle.edits.specs.Whole.{given_of}
 use Rattle.edits.specs.declared.control.Control.{Control}
+use Rattle.elevation.specs.declared.inner.Breaks.{Breaks}
 use Rattle.elevation.specs.Breaks.{breaks_from, full_count}
 use Rattle.elevation.specs.Elevate.{raised_count, raised_knots, kept_all, all_blended, points_of, weights_of, raised_points, raised_weights, raised_refusal}
 
@@ -27,16 +29,9 @@ pub record RowsAre (h : ℕ → Control) (m l : ℕ) (xs : List Float) : Type 0 
   pub long : length xs ≡ l
   pub rows : (i : ℕ) → i < m → control_in xs i ≡ h i
 
--- place k is a break, or the end n
-pub record AtBreak (ks : List Float) (n k : ℕ) : Type 0 where
-  pub upto : k ≤ n
-  pub here : k < n → breaks_from ks k (n - k) ≡ at ks k ∷ breaks_from ks (k + 1) (n - (k + 1))
-
--- and it is the first of those from place i on
-pub record NextBreak (ks : List Float) (n i k : ℕ) : Type 0 where
-  pub from : i ≤ k
-  pub same : breaks_from ks i (n - i) ≡ breaks_from ks k (n - k)
-  pub place : AtBreak ks n k
+-- those that an iterator has still to give
+abbrev pub breaks_left : Breaks → List Float
+breaks_left s = breaks_from s.knots.now s.from (s.n - s.from)
 
 -- how many breaks there are, and how many of them are full
 pub record BreaksCounted (p : ℕ) (ks bs : List Float) (b f : ℕ) : Type 0 where
@@ -44,9 +39,9 @@ pub record BreaksCounted (p : ℕ) (ks bs : List Float) (b f : ℕ) : Type 0 whe
   pub full : f ≡ full_count p ks bs
 
 -- the outcome of the extraction: r is its refusal; where there is none, the curve of m points stands in a run, its knots from place a on
-pub record Extracted (p : ℕ) (g : Bool) (m a : ℕ) (goal : Outcome) (x₁ : List Float) (r : Refusal) : Type 0 where
-  pub refused : (r.number ≡ 0 → ⊥) → goal ≡ refuses r
-  pub given : r.number ≡ 0 → goal ≡ gives (knots_from a p m x₁) (points_from m x₁) (weights_from g m x₁)
+pub record Extracted (p : ℕ) (g : Bool) (m a : ℕ) (goal : Outcome) (x₁ : List Float) (r : Result Unit Refusal) : Type 0 where
+  pub refused : (x : Refusal) → r ≡ Err x → goal ≡ refuses x
+  pub given : r ≡ Ok tt → goal ≡ gives (knots_from a p m x₁) (points_from m x₁) (weights_from g m x₁)
 
 -- r says that no control of l is one for 20; then their points and weights stand in two runs, those of control i at its place
 pub record Put (o : Vector) (g : Bool) (l : List Control) (i : ℕ) (p₀ w₀ p₁ w₁ : List Float) (r : Bool) : Type 0 where
@@ -58,18 +53,18 @@ pub record Put (o : Vector) (g : Bool) (l : List Control) (i : ℕ) (p₀ w₀ p
 module _ (p e n : ℕ) (ks bs : List Float) (g : Bool) (h : ℕ → Control) (o : Vector) where
   unfoldable pub join_refusal : Refusal
   join_refusal =
-      cond (not (all_blended (kept_all p e ks h bs))) (refuse edit-bad)
+      cond (not (all_blended (kept_all p e ks h bs))) (refuse EditBad)
       (formed_refusal e (raised_count p e ks bs) (raised_knots p e n ks bs) (points_of o (kept_all p e ks h bs)) g (given_of g (weights_of (kept_all p e ks h bs))))
 
-  pub record Joined (k₀ p₀ w₀ k₁ p₁ w₁ : List Float) (r : Refusal) : Type 0 where
-    pub refusal : r ≡ join_refusal
-    pub knots : r.number ≡ 0 → k₁ ≡ over 0 (raised_knots p e n ks bs) k₀
-    pub points : r.number ≡ 0 → p₁ ≡ over 0 (points_of o (kept_all p e ks h bs)) p₀
-    pub weights : r.number ≡ 0 → w₁ ≡ over 0 (given_of g (weights_of (kept_all p e ks h bs))) w₀
+  pub record Joined (k₀ p₀ w₀ k₁ p₁ w₁ : List Float) (r : Result Unit Refusal) : Type 0 where
+    pub refusal : r ≡ checked join_refusal
+    pub knots : r ≡ Ok tt → k₁ ≡ over 0 (raised_knots p e n ks bs) k₀
+    pub points : r ≡ Ok tt → p₁ ≡ over 0 (points_of o (kept_all p e ks h bs)) p₀
+    pub weights : r ≡ Ok tt → w₁ ≡ over 0 (given_of g (weights_of (kept_all p e ks h bs))) w₀
 
 -- the raised curve of the points ps and weights ws of the extraction: r is its refusal. Where there is none, it stands at the front of three runs
-pub record Raised (p e n : ℕ) (ks bs : List Float) (g : Bool) (ps ws : List Float) (k₀ p₀ w₀ k₁ p₁ w₁ : List Float) (r : Refusal) : Type 0 where
-  pub refusal : r ≡ raised_refusal p e n ks bs g ps ws
-  pub knots : r.number ≡ 0 → k₁ ≡ over 0 (raised_knots p e n ks bs) k₀
-  pub points : r.number ≡ 0 → p₁ ≡ over 0 (raised_points p e n ks bs g ps ws) p₀
-  pub weights : r.number ≡ 0 → w₁ ≡ over 0 (raised_weights p e n ks bs g ps ws) w₀
+pub record Raised (p e n : ℕ) (ks bs : List Float) (g : Bool) (ps ws : List Float) (k₀ p₀ w₀ k₁ p₁ w₁ : List Float) (r : Result Unit Refusal) : Type 0 where
+  pub refusal : r ≡ checked (raised_refusal p e n ks bs g ps ws)
+  pub knots : r ≡ Ok tt → k₁ ≡ over 0 (raised_knots p e n ks bs) k₀
+  pub points : r ≡ Ok tt → p₁ ≡ over 0 (raised_points p e n ks bs g ps ws) p₀
+  pub weights : r ≡ Ok tt → w₁ ≡ over 0 (raised_weights p e n ks bs g ps ws) w₀

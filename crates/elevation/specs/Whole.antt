@@ -1,13 +1,14 @@
 -- What `elevate_degree` answers and leaves in the lent runs: a curve of degree p, knots ks, points ps and, where g is true, weights ws, raised to degree e.
 -- Assumes nothing.
-use Rattle.std.specs.Prelude.{ℕ, Bool, not, cond, ◌&&◌, List, eqb, ltb, Float}
-use Rattle.knots.specs.Refusal.{refuse, or_else, degree-lowered, elevation-high}
+use Rattle.std.specs.Prelude.{ℕ, Bool, not, cond, ◌&&◌, List, eqb, ltb, Float, Result}
+use Rattle.knots.specs.Refusal.{refuse, or_else}
+use Rattle.knots.specs.declared.refusal.Reason.TheVariants.{DegreeLowered, ElevationHigh}
 use Rattle.knots.specs.Curve.{count_of}
 use Rattle.knots.specs.declared.refusal.Refusal.{Refusal}
 use Rattle.edits.specs.Outcome.{Outcome, gives, refuses}
 use Rattle.edits.specs.Start.{edit_start, out_room, scratch_room}
 use Rattle.edits.specs.Whole.{given_of, EditMeets}
-use Rattle.edits.specs.declared.answer.EditAnswer.{EditAnswer}
+use Rattle.edits.specs.declared.answer.FormedCurve.{FormedCurve}
 use Rattle.elevation.specs.Breaks.{breaks_of}
 use Rattle.elevation.specs.Elevate.{extracted_count, raised_count, raise_all}
 
@@ -18,8 +19,8 @@ elevated_count p e n ks = cond (eqb e p) n (raised_count p e ks (breaks_of p n k
 -- 16, 18, 30 for the lent runs
 unfoldable pub raise_start : ℕ → ℕ → ℕ → List Float → Bool → ℕ → ℕ → ℕ → ℕ → Refusal
 raise_start p e n ks g a b c d =
-    cond (ltb e p) (refuse degree-lowered)
-    (cond (not (eqb e p) && ltb 64 e) (refuse elevation-high)
+    cond (ltb e p) (refuse DegreeLowered)
+    (cond (not (eqb e p) && ltb 64 e) (refuse ElevationHigh)
     (or_else (out_room e (elevated_count p e n ks) g a b c) (scratch_room p (extracted_count p (breaks_of p n ks)) d)))
 
 -- a copy, or the raised curve
@@ -36,5 +37,5 @@ module _ (p : ℕ) (ks ps : List Float) (g : Bool) (ws : List Float) (e : ℕ) (
   unfoldable pub elevate_outcome : Outcome
   elevate_outcome = cond (eqb elevate_start.number 0) (elevated p ks ps g ws e) (refuses elevate_start)
 
-  abbrev pub ElevateMeets : List Float → List Float → List Float → List Float → EditAnswer → Type 0
+  abbrev pub ElevateMeets : List Float → List Float → List Float → List Float → Result FormedCurve Refusal → Type 0
   ElevateMeets = EditMeets e (elevated_count p e (count_of ps) ks) elevate_outcome a b c d

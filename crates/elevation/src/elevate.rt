@@ -6,10 +6,10 @@ ghost use Rattle.elevation.specs.Whole.{elevate_start, elevated, ElevateMeets};
 use crate::copy::copy_curve;
 use crate::into::raise_into;
 use crate::start::{elevate_start, elevated_count};
-use edits::answer::EditAnswer;
+use edits::answer::FormedCurve;
 use edits::work::clear_all;
 use knots::clear::clear;
-use knots::refusal::{Refusal, refuse};
+use knots::refusal::Refusal;
 
 // A curve that keeps its degree is copied, another raised. What the outputs hold after a refusal is not said.
 fn form(
@@ -23,7 +23,7 @@ fn form(
     out_points: &mut [f64],
     out_weights: &mut [f64],
     work: &mut [f64],
-) -> Refusal
+) -> Result<(), Refusal>
     requires { (elevate_start degree knots.now points.now rational weights.now raised (length out_knots.old) (length out_points.old) (length out_weights.old) (length work.old)).number ≡ 0 }
     ensures { OutMeets (length out_knots.old) (length out_points.old) (length out_weights.old) (elevated degree knots.now points.now rational weights.now raised) out_knots.new out_points.new out_weights.new result }
 {
@@ -37,7 +37,7 @@ fn form(
             out_points,
             out_weights,
         );
-        return refuse(0);
+        return Ok(());
     }
     clear(out_knots);
     clear(out_points);
@@ -69,7 +69,7 @@ pub fn elevate_degree(
     out_points: &mut [f64],
     out_weights: &mut [f64],
     scratch: &mut [f64],
-) -> EditAnswer
+) -> Result<FormedCurve, Refusal>
     ensures { ElevateMeets degree knots.now points.now rational weights.now raised (length out_knots.old) (length out_points.old) (length out_weights.old) (length scratch.old) out_knots.new out_points.new out_weights.new scratch.new result }
 {
     let early = elevate_start(
@@ -84,11 +84,11 @@ pub fn elevate_degree(
         out_weights.len(),
         scratch.len(),
     );
-    if early.number != 0 {
+    if let Err(r) = early {
         clear_all(out_knots, out_points, out_weights, scratch);
-        return EditAnswer::Refused(early);
+        return Err(r);
     }
-    let refusal = form(
+    let late = form(
         degree,
         knots,
         points,
@@ -100,14 +100,14 @@ pub fn elevate_degree(
         out_weights,
         scratch,
     );
-    if refusal.number != 0 {
+    if let Err(r) = late {
         clear_all(out_knots, out_points, out_weights, scratch);
-        return EditAnswer::Refused(refusal);
+        return Err(r);
     }
     clear(scratch);
     let count = elevated_count(degree, raised, points.len() / 3, knots);
-    EditAnswer::Formed {
+    Ok(FormedCurve {
         degree: raised,
         count,
-    }
+    })
 }

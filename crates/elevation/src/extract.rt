@@ -6,10 +6,10 @@ ghost use Rattle.edits.specs.Work.{knots_from, points_from, weights_from};
 ghost use Rattle.elevation.specs.Breaks.{breaks_of, missing_all};
 ghost use Rattle.elevation.specs.Passes.{Extracted};
 
-use crate::walk::next_break;
+use crate::inner::Breaks;
 use edits::counts::missing;
 use insertion::times::insert_times;
-use knots::refusal::{Refusal, refuse};
+use knots::refusal::Refusal;
 
 // Each break is inserted until it is full; the curve stands in `work`, its knots from place a on. `knots` are those that it has at first.
 pub fn extract(
@@ -19,7 +19,7 @@ pub fn extract(
     rational: bool,
     a: usize,
     work: &mut [f64],
-) -> Refusal
+) -> Result<(), Refusal>
     requires p_lt_n { (p < n) × (n ≤ length knots.now) }
     requires valid_knots { ValidKnots p n (knots_from a p n work.old) }
     requires knots_bound { (n + length (missing_all p knots.now (breaks_of p n knots.now))) * 4 ≤ a }
@@ -27,16 +27,10 @@ pub fn extract(
     ensures { Extracted p rational (n + length (missing_all p knots.now (breaks_of p n knots.now))) a (insert_all p rational n (knots_from a p n work.old) (points_from n work.old) (weights_from rational n work.old) (missing_all p knots.now (breaks_of p n knots.now))) work.new result }
 {
     let mut count = n;
-    let mut k = next_break(knots, p + 1, n);
-    while k < n {
-        let t = knots[k];
+    for t in Breaks::new(p, n, knots) {
         let m = missing(p + 1, knots, t);
-        let refusal = insert_times(p, count, rational, t, m, a, work);
-        if refusal.number != 0 {
-            return refusal;
-        }
+        insert_times(p, count, rational, t, m, a, work)?;
         count += m;
-        k = next_break(knots, k + 1, n);
     }
-    refuse(0)
+    Ok(())
 }

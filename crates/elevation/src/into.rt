@@ -30,7 +30,7 @@ fn raise_extracted(
     out_points: &mut [f64],
     out_weights: &mut [f64],
     work: &mut [f64],
-) -> Refusal
+) -> Result<(), Refusal>
     requires p_lt_n { (p < n) × (n < length knots.now) × (n ≤ 1048576) × (p < e) × (e ≤ 64) }
     requires m_value { (m ≡ extracted_count p (breaks_of p n knots.now)) × (m * 4 ≤ length work.old) }
     requires e_in_bounds { raised_count p e knots.now (breaks_of p n knots.now) + e + 1 ≤ length out_knots.old }
@@ -40,10 +40,7 @@ fn raise_extracted(
 {
     let o = vector_of(row_at(rational, work, 0));
     let scale = scale_in(m, rational, work);
-    let lifted = lift_in(m, scale, rational, work);
-    if lifted.number != 0 {
-        return lifted;
-    }
+    lift_in(m, scale, rational, work)?;
     let count = elevated_count(p, e, n, knots);
     join(
         p,
@@ -72,7 +69,7 @@ pub fn raise_into(
     out_points: &mut [f64],
     out_weights: &mut [f64],
     work: &mut [f64],
-) -> Refusal
+) -> Result<(), Refusal>
     requires work_value { (elevate_start degree knots.now points.now rational weights.now raised (length out_knots.old) (length out_points.old) (length out_weights.old) (length work.old)).number ≡ 0 }
     requires fact { raised ≡ degree → ⊥ }
     requires out_knots_value { (out_knots.old ≡ zeros (length out_knots.old)) × (out_points.old ≡ zeros (length out_points.old)) × (out_weights.old ≡ zeros (length out_weights.old)) }
@@ -82,14 +79,8 @@ pub fn raise_into(
     let met = count_breaks(degree, n, knots);
     let m = (degree + 1) * (met.breaks + 1);
     let a = m * 4;
-    let laid = lay_curve(knots, points, rational, weights, a, work);
-    if laid.number != 0 {
-        return laid;
-    }
-    let refusal = extract(degree, n, knots, rational, a, work);
-    if refusal.number != 0 {
-        return refusal;
-    }
+    lay_curve(knots, points, rational, weights, a, work)?;
+    extract(degree, n, knots, rational, a, work)?;
     raise_extracted(
         degree,
         raised,

@@ -9,7 +9,7 @@ ghost use Rattle.elevation.specs.Passes.{Joined};
 use crate::put_knots::put_knots;
 use crate::segments::put_segments;
 use edits::work::front_refusal;
-use knots::refusal::{Refusal, refuse};
+use knots::refusal::{Reason, Refusal, refuse};
 use runs::vector::Vector;
 
 // The curve of `count` points is formed of the controls in a run, which are relative to o: 20, and 1 to 10.
@@ -25,7 +25,7 @@ pub fn join(
     out_knots: &mut [f64],
     out_points: &mut [f64],
     out_weights: &mut [f64],
-) -> Refusal
+) -> Result<(), Refusal>
     requires p_lt_n { (p < n) × (n < length knots.now) × (p ≤ e) × (e ≤ 64) }
     requires count_value { count ≡ raised_count p e knots.now (breaks_of p n knots.now) }
     requires knots_in_bounds { extracted_count p (breaks_of p n knots.now) * 4 ≤ length work.now }
@@ -36,7 +36,7 @@ pub fn join(
 {
     put_knots(p, e, n, knots, out_knots);
     if !put_segments(p, e, n, knots, work, o, rational, out_points, out_weights) {
-        return refuse(20);
+        return Err(refuse(Reason::EditBad));
     }
     front_refusal(e, count, rational, out_knots, out_points, out_weights)
 }

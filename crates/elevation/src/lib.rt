@@ -4,6 +4,7 @@
 mod copy;
 pub mod elevate;
 mod extract;
+mod inner;
 mod into;
 mod join;
 mod put_knots;

@@ -42,11 +42,9 @@ fn raise_once(d: usize, rows: &mut [f64])
     ensures { RowsAre (raise_once d (control_in rows.old)) (d + 2) (length rows.old) rows.new }
 {
     let end = row_at(true, rows, d);
-    let mut i = d;
-    while i > 0 {
+    for i in (1..=d).rev() {
         let q = raise_at(d, i, rows);
         put_row(true, rows, i, q);
-        i -= 1;
     }
     put_row(true, rows, d + 1, end);
 }
@@ -57,9 +55,7 @@ pub fn raise_rows(p: usize, e: usize, rows: &mut [f64])
     requires e_in_bounds { e * 4 + 3 < length rows.old }
     ensures { RowsAre (raise_times p (e - p) (control_in rows.old)) (e + 1) (length rows.old) rows.new }
 {
-    let mut d = p;
-    while d < e {
+    for d in p..e {
         raise_once(d, rows);
-        d += 1;
     }
 }

@@ -8,8 +8,9 @@ ghost use Rattle.elevation.specs.Raise.{raise_times};
 ghost use Rattle.elevation.specs.Elevate.{extracted_count, raised_count, controls_of, kept_all};
 ghost use Rattle.elevation.specs.Passes.{control_in, RowsAre, Put};
 
+use crate::inner::Breaks;
 use crate::raise::raise_rows;
-use crate::walk::{is_full, next_break};
+use crate::walk::is_full;
 use edits::control::{is_blended, lower_of};
 use edits::counts::bit_of;
 use edits::rows::{put_row, row_at};
@@ -23,11 +24,9 @@ fn load_rows(rational: bool, first: usize, m: usize, from: &[f64], rows: &mut [f
     requires m_in_bounds_2 { m * 4 ≤ length rows.old }
     ensures { RowsAre (λ i. row_of rational from.now (first + i)) m (length rows.old) rows.new }
 {
-    let mut i = 0usize;
-    while i < m {
+    for i in 0..m {
         let q = row_at(rational, from, first + i);
         put_row(true, rows, i, q);
-        i += 1;
     }
 }
 
@@ -47,8 +46,7 @@ fn put_rows(
     requires m_in_bounds_3 { given rational (place + m) ≤ length weights.old }
     ensures { Put o rational (controls_of (control_in rows.now) first m) place points.old weights.old points.new weights.new result }
 {
-    let mut i = 0usize;
-    while i < m {
+    for i in 0..m {
         let q = row_at(true, rows, first + i);
         if !is_blended(q) {
             return false;
@@ -56,7 +54,6 @@ fn put_rows(
         let at = place + i;
         put_point(points, at, lower_of(o, q));
         put_weight(weights, rational, at, q.w);
-        i += 1;
     }
     true
 }
@@ -109,18 +106,15 @@ pub fn put_segments(
     if !put_segment(p, e, 0, true, work, o, rational, 0, points, weights) {
         return false;
     }
+    let mut first = p + 1;
     let mut place = e + 1;
-    let mut j = 1usize;
-    let mut k = next_break(knots, p + 1, n);
-    while k < n {
-        let full = is_full(p, knots, knots[k]);
-        let first = j * (p + 1);
+    for t in Breaks::new(p, n, knots) {
+        let full = is_full(p, knots, t);
         if !put_segment(p, e, first, full, work, o, rational, place, points, weights) {
             return false;
         }
+        first += p + 1;
         place += e + bit_of(full);
-        j += 1;
-        k = next_break(knots, k + 1, n);
     }
     true
 }

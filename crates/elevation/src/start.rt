@@ -1,10 +1,11 @@
 // The refusals of an elevation before anything is formed.
 ghost use Rattle.std.specs.Prelude.{◌≡◌, not, ◌&&◌, ◌+◌, ◌-◌, ◌*◌, ◌<◌, ◌≤◌, length, eqb, ltb};
+ghost use Rattle.knots.specs.Refusal.{checked};
 ghost use Rattle.elevation.specs.Whole.{elevated_count, raise_start, elevate_start};
 
 use crate::walk::count_breaks;
 use edits::start::{edit_start, out_room, scratch_room};
-use knots::refusal::{Refusal, refuse};
+use knots::refusal::{Reason, Refusal, refuse};
 
 // The points of a raised curve with so many breaks, of which so many are full.
 fn raised_count(e: usize, breaks: usize, full: usize) -> usize
@@ -18,10 +19,7 @@ fn raised_count(e: usize, breaks: usize, full: usize) -> usize
 fn is_high(p: usize, e: usize) -> bool
     ensures { result ≡ (not (eqb e p) && ltb 64 e) }
 {
-    if e == p {
-        return false;
-    }
-    e > 64
+    e != p && e > 64
 }
 
 // The points of the answer: of the same degree as many as before.
@@ -48,23 +46,20 @@ fn raise_start(
     b: usize,
     c: usize,
     d: usize,
-) -> Refusal
+) -> Result<(), Refusal>
     requires { (p < n) × (n ≤ length knots.now) × (n ≤ 1048576) }
-    ensures { result ≡ raise_start p e n knots.now rational a b c d }
+    ensures { result ≡ checked (raise_start p e n knots.now rational a b c d) }
 {
     if e < p {
-        return refuse(16);
+        return Err(refuse(Reason::DegreeLowered));
     }
     if is_high(p, e) {
-        return refuse(18);
+        return Err(refuse(Reason::ElevationHigh));
     }
     let count = elevated_count(p, e, n, knots);
     let met = count_breaks(p, n, knots);
     let extracted = (p + 1) * (met.breaks + 1);
-    let room = out_room(e, count, rational, a, b, c);
-    if room.number != 0 {
-        return room;
-    }
+    out_room(e, count, rational, a, b, c)?;
     scratch_room(p, extracted, d)
 }
 
@@ -80,13 +75,10 @@ pub fn elevate_start(
     b: usize,
     c: usize,
     d: usize,
-) -> Refusal
-    ensures { result ≡ elevate_start degree knots.now points.now rational weights.now raised a b c d }
+) -> Result<(), Refusal>
+    ensures { result ≡ checked (elevate_start degree knots.now points.now rational weights.now raised a b c d) }
 {
-    let early = edit_start(degree, knots, points, rational, weights);
-    if early.number != 0 {
-        return early;
-    }
+    edit_start(degree, knots, points, rational, weights)?;
     raise_start(
         degree,
         raised,

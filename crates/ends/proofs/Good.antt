@@ -1,20 +1,20 @@
 -- Products of any intervals, and sums of good ones, are good. Assumes nothing.
-use mathlib.Core.Path.{◌≡◌, refl, sym, ap, ◌∙◌, subst}
-use mathlib.Core.Bool.{Bool, true, false, not, ◌||◌, cond}
+use mathlib.Core.Path.{◌≡◌, refl, sym, ◌∙◌, subst}
+use mathlib.Core.Bool.{Bool, true, false, not, cond}
 use lib.Dec.{T}
-use lib.Ieee.{Float, nan, inf, fin, binary64, Format, fits, is_nan, lt, neg, add, sub, mul}
+use lib.Ieee.{Float, nan, inf, fin, binary64, Format, is_nan, lt, neg, add, sub}
 use lib.Ieee.Bits.{is_false}
 use lib.Ieee.Fits.{add-fits, sub-fits, mul-fits, neg-fits, inf-fits}
 use Rattle.doubles.specs.Value.{Number, ◌⊑◌}
 use Rattle.doubles.specs.Neighbour.{next_up, next_down, up_from, down_from, least4, greatest4}
 use Rattle.doubles.proofs.TestFacts.{Tn-of, neg-neg}
 use Rattle.doubles.proofs.Order.{⊑_trans, lt_trans, lt_irrefl, lt-asym}
-use Rattle.doubles.proofs.Neighbour.{up_fits, down_fits, up_above, neg-lt, neg-nan}
+use Rattle.doubles.proofs.Neighbour.{up_fits, down_fits, up_above, neg-lt}
 use Rattle.doubles.proofs.Products.{number-neg}
 use Rattle.doubles.proofs.Opposite.{Opposed, add-opposed}
 use Rattle.doubles.proofs.Extremes.{Four, least, greatest}
 use Rattle.doubles.proofs.Symmetric.{bottom}
-use Rattle.doubles.proofs.Rising.{Above, Below, above-number, sum_number, sum-rising, under_top}
+use Rattle.doubles.proofs.Rising.{Above, Below, sum_number, sum-rising, under_top}
 use Rattle.interval.specs.Ops.{entire, point_of, checked_of, some_nan, add_of, sub_of, mul_of}
 use Rattle.interval.specs.declared.Interval.{Interval}
 use Rattle.interval.proofs.Facts.{none-nan, checked-out}

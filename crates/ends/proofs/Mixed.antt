@@ -1,8 +1,8 @@
 -- De Boor's step by ends is the step on the intervals of a net's points. Assumes nothing.
-use mathlib.Core.Path.{◌≡◌, refl, sym, ap, ap₂, ◌∙◌}
+use mathlib.Core.Path.{◌≡◌, refl, ap₂, ◌∙◌}
 use mathlib.Core.Bool.{Bool, true, false, ◌&&◌, cond}
 use lib.Dec.{T}
-use lib.Ieee.{neg, le}
+use lib.Ieee.{le}
 use lib.Ieee.Bits.{is_true}
 use lib.Ieee.Fits.{and_l, and_r}
 use Rattle.doubles.specs.Value.{one+}
@@ -10,14 +10,11 @@ use Rattle.doubles.proofs.TestFacts.{T_of, neg-neg}
 use Rattle.doubles.proofs.Order.{le_is}
 use Rattle.interval.specs.Ops.{point_of, new_of, add_of, sub_of, mul_of}
 use Rattle.interval.specs.declared.Interval.{Interval}
-use Rattle.interval.specs.declared.New.TheVariants.{Made, Nothing}
 use Rattle.jets.specs.Jet.{constant_of, jet_sub, jet_add, jet_mul}
 use Rattle.jets.specs.Net.{mix_jet, mix_of}
 use Rattle.jets.specs.declared.jet.Jet.{Jet}
 use Rattle.jets.specs.declared.net.Control.{Control}
-use Rattle.ends.specs.declared.ends.Ends.{Ends}
-use Rattle.ends.specs.declared.flat.Flat.{Flat}
-use Rattle.ends.specs.Ends.{whole_by, interval_by, ends_of, sum_of, factor_of, is_factor, times_of}
+use Rattle.ends.specs.Ends.{interval_by, ends_of, sum_of, factor_of, is_factor}
 use Rattle.ends.specs.Flat.{flat_of, dot_of, dot_by, shared, mixed_by, flat_mix}
 use Rattle.ends.specs.Good.{Good, GoodPoint}
 use Rattle.ends.proofs.Good.{mul-good, sum-good}

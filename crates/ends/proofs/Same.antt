@@ -1,21 +1,20 @@
 -- The operations on ends are those on intervals, to the bit. Assumes nothing.
 use mathlib.Core.Path.{◌≡◌, refl, sym, ap, ap₂, ◌∙◌, subst}
-use mathlib.Core.Bool.{Bool, true, false, not, ◌&&◌, ◌||◌, beq, cond}
+use mathlib.Core.Bool.{Bool, true, false, ◌||◌, beq, cond}
 use mathlib.Core.Logic.{inl, inr}
-use Prim.Native.Nat.{ℕ, zero, suc, ◌*◌, ◌<◌}
+use Prim.Native.Nat.{ℕ, zero, suc, ◌*◌}
 use native.Mathlib.Omega.{arith}
-use lib.IntN.{ℤ, pos}
 use lib.Dec.{T, eqb-suc-zero}
 use lib.Ieee.{Float, nan, inf, fin, binary64, up, down, fits, is_nan, lt, eq, ne, level, neg, add, mul, of_bits, to_bits}
 use lib.Ieee.Bits.{is_false}
 use lib.Ieee.Fits.{add-fits, mul-fits, neg-fits, cond-fits, and_l, and_r}
-use Rattle.doubles.specs.Value.{Number, ◌⊑◌, zero+}
+use Rattle.doubles.specs.Value.{Number, ◌⊑◌}
 use Rattle.doubles.specs.Neighbour.{next_up, next_down, up_from, down_from, least4, greatest4}
 use Rattle.doubles.proofs.TestFacts.{T_of, Tn-of, neg-neg, yes_or_no}
 use Rattle.doubles.proofs.Order.{⊑_trans, lt_irrefl, lt-asym}
-use Rattle.doubles.proofs.Neighbour.{up_least, neg-lt, neg-nan}
+use Rattle.doubles.proofs.Neighbour.{up_least}
 use Rattle.doubles.proofs.Products.{mul-neg, number-neg}
-use Rattle.doubles.proofs.Opposite.{Opposed, mul-swap}
+use Rattle.doubles.proofs.Opposite.{mul-swap}
 use Rattle.doubles.proofs.Extremes.{Four, Best, Over, least}
 use Rattle.doubles.proofs.Extremes as E
 use Rattle.doubles.proofs.Symmetric.{up_same, Peak, peak, peaks-up, peak-swapped, swapped, neg-least}
@@ -23,8 +22,7 @@ use Rattle.doubles.proofs.Rising.{above-number}
 use Rattle.doubles.proofs.Sums.{mul-rounded, rounded-number}
 use Rattle.interval.specs.Ops.{entire, checked_of, some_nan, add_of, mul_of}
 use Rattle.interval.specs.declared.Interval.{Interval}
-use Rattle.ends.specs.declared.ends.Ends.{Ends}
-use Rattle.ends.specs.Ends.{greatest, capped_of, step_of, ends_of, sum_of, most_of, is_part, factor_of, is_factor, times_of}
+use Rattle.ends.specs.Ends.{greatest, step_of, ends_of, sum_of, most_of, is_part, factor_of, is_factor, times_of}
 use Rattle.interval.proofs.Facts.{none-nan}
 use Rattle.ends.specs.Good.{Held, Good}
 use Rattle.ends.proofs.Good.{above-neg, stepped, opposites, under-number, low-number, high-number, sum_is}

@@ -1,5 +1,5 @@
 -- Intervals by how far they reach below and above 0, and the operations on them, to the bit. Definitions only.
-use Rattle.std.specs.Prelude.{pos, Bool, true, false, ◌&&◌, cond, Float}
+use Rattle.std.specs.Prelude.{pos, Bool, false, ◌&&◌, cond, Float, Option, Some, None}
 use Rattle.std.specs.Float.{fin, binary64}
 use Rattle.std.specs.Float.Ieee.{neg, lt, ne, add, mul}
 use Rattle.std.specs.Float.Ieee.Scale.{finite}
@@ -7,8 +7,6 @@ use Rattle.doubles.specs.Value.{zero+}
 use Rattle.doubles.specs.Neighbour.{next_up}
 use Rattle.interval.specs.Ops.{entire, new_of}
 use Rattle.interval.specs.declared.Interval.{Interval}
-use Rattle.interval.specs.declared.New.{New}
-use Rattle.interval.specs.declared.New.TheVariants.{Made, Nothing}
 use Rattle.ends.specs.declared.ends.Ends.{Ends}
 use Rattle.ends.specs.declared.factor.Factor.{Factor}
 
@@ -26,9 +24,9 @@ step_of x = next_up (capped_of x)
 abbrev pub ends_of : Interval → Ends
 ends_of i = record { under = neg i.lo; over = i.hi }
 
-abbrev pub whole_by : New → Interval
-whole_by (Made i) = i
-whole_by Nothing = entire
+abbrev pub whole_by : Option Interval → Interval
+whole_by (Some i) = i
+whole_by None = entire
 
 abbrev pub interval_by : Ends → Interval
 interval_by e = whole_by (new_of (neg e.under) e.over)

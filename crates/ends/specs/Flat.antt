@@ -1,27 +1,23 @@
 -- De Boor's step on points of a net without derivatives, by the ends of their intervals. Definitions only.
-use Rattle.std.specs.Prelude.{Bool, ◌&&◌, cond}
+use Rattle.std.specs.Prelude.{◌&&◌, cond, Result, Ok, Err}
 use Rattle.doubles.specs.Value.{one+}
 use Rattle.interval.specs.Ops.{point_of, add_of, sub_of, mul_of}
 use Rattle.interval.specs.declared.Interval.{Interval}
-use Rattle.jets.specs.declared.jet.JetAnswer.{JetAnswer}
-use Rattle.jets.specs.declared.jet.JetAnswer.TheVariants as F
+use Rattle.knots.specs.declared.refusal.Refusal.{Refusal}
+use Rattle.jets.specs.declared.jet.Jet.{Jet}
 use Rattle.jets.specs.declared.net.Control.{Control}
-use Rattle.jets.specs.declared.net.NetAnswer.{NetAnswer}
-use Rattle.jets.specs.declared.net.NetAnswer.TheVariants as N
 use Rattle.ends.specs.declared.ends.Ends.{Ends}
 use Rattle.ends.specs.declared.factor.Factor.{Factor}
 use Rattle.ends.specs.declared.flat.Flat.{Flat}
-use Rattle.ends.specs.declared.flat.FlatAnswer.{FlatAnswer}
-use Rattle.ends.specs.declared.flat.FlatAnswer.TheVariants.{Is, Refused}
 use Rattle.ends.specs.Ends.{ends_of, interval_by, sum_of, factor_of, is_factor, times_of}
 
 -- a point of the net with its derivatives left out
 abbrev pub flat_of : Control → Flat
 flat_of c = record { x = ends_of c.x.v; y = ends_of c.y.v; z = ends_of c.z.v; w = ends_of c.w.v }
 
-abbrev pub flat_net : NetAnswer → FlatAnswer
-flat_net (N.Is c) = Is (flat_of c)
-flat_net (N.Refused n) = Refused n
+abbrev pub flat_net : Result Control Refusal → Result Flat Refusal
+flat_net (Ok c) = Ok (flat_of c)
+flat_net (Err r) = Err r
 
 unfoldable pub dot_of : Factor → Ends → Factor → Ends → Ends
 dot_of p a q b = sum_of (times_of p a) (times_of q b)
@@ -42,6 +38,6 @@ flat_mix alpha a b =
     cond (is_factor (factor_of beta) && is_factor (factor_of alpha)) (shared (factor_of beta) a (factor_of alpha) b) (mixed_by beta a alpha b)
 
 -- two neighbours under their share, or its refusal
-abbrev pub flat_neighbours : JetAnswer → Flat → Flat → FlatAnswer
-flat_neighbours (F.Is alpha) a b = Is (flat_mix alpha.v a b)
-flat_neighbours (F.Refused n) a b = Refused n
+abbrev pub flat_neighbours : Result Jet Refusal → Flat → Flat → Result Flat Refusal
+flat_neighbours (Ok alpha) a b = Ok (flat_mix alpha.v a b)
+flat_neighbours (Err r) a b = Err r

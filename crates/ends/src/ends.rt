@@ -5,10 +5,10 @@ ghost use Rattle.std.specs.Float.{inf};
 ghost use Rattle.doubles.specs.Neighbour.{next_up};
 ghost use Rattle.ends.specs.Ends.{capped_of, step_of, ends_of, interval_by, sum_of};
 
-use interval::{Interval, New};
+use interval::Interval;
 
 // The interval [-under, over].
-#[derive(Clone, Copy)]
+#[derive(Clone, Copy, Debug, PartialEq)]
 pub struct Ends {
     pub under: f64,
     pub over: f64,
@@ -51,10 +51,7 @@ pub fn ends_of(i: Interval) -> Ends
 pub fn interval_of(e: Ends) -> Interval
     ensures { result ≡ interval_by e }
 {
-    match Interval::new(-e.under, e.over) {
-        New::Made(i) => i,
-        New::Nothing => Interval::entire(),
-    }
+    Interval::new(-e.under, e.over).unwrap_or(Interval::entire())
 }
 
 pub fn sum(a: Ends, b: Ends) -> Ends

@@ -7,7 +7,7 @@ use interval::Interval;
 use interval::float::is_finite;
 
 // Its ends.
-#[derive(Clone, Copy)]
+#[derive(Clone, Copy, Debug, PartialEq)]
 pub struct Factor {
     pub low: f64,
     pub high: f64,
@@ -26,23 +26,19 @@ pub fn factor_of(i: Interval) -> Factor
 fn is_part(x: f64) -> bool
     ensures { result ≡ is_part x }
 {
-    if is_finite(x) { x != 0.0 } else { false }
+    is_finite(x) && x != 0.0
 }
 
 pub fn is_factor(f: Factor) -> bool
     ensures { result ≡ is_factor f }
 {
-    if is_part(f.low) {
-        is_part(f.high)
-    } else {
-        false
-    }
+    is_part(f.low) && is_part(f.high)
 }
 
 pub fn are_factors(p: Factor, q: Factor) -> bool
     ensures { result ≡ (is_factor p && is_factor q) }
 {
-    if is_factor(p) { is_factor(q) } else { false }
+    is_factor(p) && is_factor(q)
 }
 
 fn most(a: f64, b: f64) -> f64

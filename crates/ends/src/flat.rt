@@ -6,22 +6,16 @@ ghost use Rattle.ends.specs.Flat.{dot_of, dot_by, mixed_by, flat_mix, flat_neigh
 
 use crate::ends::{Ends, ends_of, interval_of, sum};
 use crate::factor::{Factor, are_factors, factor_of, times};
-use interval::{Interval, Quotient};
+use interval::Interval;
+use knots::refusal::Refusal;
 
 // Three weighted coordinates and the weight.
-#[derive(Clone, Copy)]
+#[derive(Clone, Copy, Debug, PartialEq)]
 pub struct Flat {
     pub x: Ends,
     pub y: Ends,
     pub z: Ends,
     pub w: Ends,
-}
-
-// A point of the net, or the number of a refusal.
-#[derive(Clone, Copy)]
-pub enum FlatAnswer {
-    Is(Flat),
-    Refused(u32),
 }
 
 fn dot(p: Factor, a: Ends, q: Factor, b: Ends) -> Ends
@@ -68,14 +62,11 @@ fn mix(alpha: Interval, a: Flat, b: Flat) -> Flat
 }
 
 // Two neighbours under the share between two knots, (t - left) / (right - left).
-pub fn flat_step(t: Interval, left: f64, right: f64, a: Flat, b: Flat) -> FlatAnswer
+pub fn flat_step(t: Interval, left: f64, right: f64, a: Flat, b: Flat) -> Result<Flat, Refusal>
     ensures { result ≡ flat_neighbours (share_of (parameter_of t) left right) a b }
 {
     let l = Interval::point(left);
     let d = Interval::point(right).sub(l);
-    match interval::divide(Interval::point(1.0), d) {
-        Quotient::Is(q) => FlatAnswer::Is(mix(t.sub(l).mul(q), a, b)),
-        Quotient::HoldsZero => FlatAnswer::Refused(26),
-        Quotient::Unbounded => FlatAnswer::Refused(28),
-    }
+    let q = interval::divide(Interval::point(1.0), d)?;
+    Ok(mix(t.sub(l).mul(q), a, b))
 }

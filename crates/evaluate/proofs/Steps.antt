@@ -1,17 +1,21 @@
--- What no refusal of a step or of an evaluation says. A step on runs of fitting lengths reads nothing outside them, and a valid curve has such runs.
+-- What no refusal of a step or of an evaluation says, and what a call that checks first answers. A step on runs of fitting lengths reads nothing outside them, and a valid curve has such runs.
 -- Assumes nothing.
 use Prim.Native.Nat.{ℕ, ◌+◌, ◌*◌, ◌≤◌, ◌<◌}
-use mathlib.Core.Bool.{Bool, true}
-use mathlib.Core.Path.{◌≡◌, sym, ◌∙◌, ap, subst}
+use mathlib.Core.Bool.{Bool, true, cond}
+use mathlib.Core.Path.{◌≡◌, sym, ap, subst}
 use mathlib.Core.List.{List}
 use native.Mathlib.Omega.{arith}
 use lib.ListN.{length}
+use lib.Dec.{eqb}
 use lib.Ieee.{Float}
 use lib.Ieee.Scale.{finite}
+use borrow.Author.Tests.{eq-eqb}
+use Rattle.std.specs.Prelude.{Result, Err}
+use Rattle.knots.specs.Refusal.{checked}
 use Rattle.knots.specs.declared.refusal.Refusal.{Refusal}
 use Rattle.knots.specs.Curve.{count_of, curve_refusal, ValidCurve}
 use Rattle.knots.specs.Span.{searched, span_of, domain_refusal}
-use Rattle.knots.proofs.Refusals.{or_else-none}
+use Rattle.knots.proofs.Refusals.{or_else-none, stop, stopped_by}
 use Rattle.knots.proofs.Curves.{valid-curve}
 use Rattle.knots.specs.Shape.{degree_refusal, curve_shape}
 use Rattle.knots.proofs.Shapes.{degree-open, Fitting, shaped, shape-none}
@@ -50,33 +54,39 @@ module _ (p : ℕ) (ks ps : List Float) (g : Bool) (ws : List Float) where
       let b = f.below in
       (o.knots.degree, (H, (f.from, (f.reach, (omega arith, λ q. let w = o.weights q in omega arith)))))
 
-  module _ (c : Bool) (t : Float) (r : Refusal) where
+  module _ (c : Bool) (t : Float) where
     -- where nothing is refused the runs fit
     abbrev Fits : Type 0
-    Fits = (r.number ≡ 0 → p ≤ 64) × (r.number ≡ 0 → (curve_shape p ks ps g ws).number ≡ 0)
+    Fits = (p ≤ 64) × ((curve_shape p ks ps g ws).number ≡ 0)
 
-    pub step_fits : r ≡ step_refusal c p ks ps g ws t → Fits
+    pub step_fits : (step_refusal c p ks ps g ws t).number ≡ 0 → Fits
     unfolding step_refusal
-    step_fits e =
-        let a : r.number ≡ 0 → ((curve_shape p ks ps g ws).number ≡ 0) × ((parameter_refusal c p (count_of ps) ks t).number ≡ 0) =
-        λ h. or_else-none (curve_shape p ks ps g ws) (parameter_refusal c p (count_of ps) ks t) (sym (ap (λ (x : Refusal). x.number) e) ∙ h) in
-        (λ h. (parameter-open c p (count_of ps) ks t (a h).1).0, λ h. (a h).0)
+    step_fits h =
+        let a = or_else-none (curve_shape p ks ps g ws) (parameter_refusal c p (count_of ps) ks t) h in
+        ((parameter-open c p (count_of ps) ks t a.1).0, a.0)
 
     record EvalOpen : Type 0 where
       curve : ValidCurve p ks ps g ws
       high : p ≤ 64
       parameter : finite t ≡ true
 
-    eval-open : r ≡ eval_refusal c p ks ps g ws t → r.number ≡ 0 → EvalOpen
+    eval-open : (eval_refusal c p ks ps g ws t).number ≡ 0 → EvalOpen
     unfolding eval_refusal
-    eval-open e h =
-        let a = or_else-none (curve_refusal p ks ps g ws) (parameter_refusal c p (count_of ps) ks t) (sym (ap (λ (x : Refusal). x.number) e) ∙ h) in
+    eval-open h =
+        let a = or_else-none (curve_refusal p ks ps g ws) (parameter_refusal c p (count_of ps) ks t) h in
         let b = parameter-open c p (count_of ps) ks t a.1 in
         record { curve = valid-curve p ks ps g ws a.0; high = b.0; parameter = b.1 }
 
-    pub eval-fits : r ≡ eval_refusal c p ks ps g ws t → Fits
-    eval-fits e = (λ h. (eval-open e h).high, λ h. ap (λ (x : Refusal). x.number) (shape-none p ks ps g ws (eval-open e h).curve))
+    pub eval-fits : (eval_refusal c p ks ps g ws t).number ≡ 0 → Fits
+    eval-fits h = let o = eval-open h in (o.high, ap (λ (x : Refusal). x.number) (shape-none p ks ps g ws o.curve))
 
     -- and the search has found the span
-    pub open_span : r ≡ eval_refusal c p ks ps g ws t → r.number ≡ 0 → searched p (count_of ps) ks (looked p ks ps t) ≡ span_of p (count_of ps) ks (looked p ks ps t)
-    open_span e h = let o = eval-open e h in searched-is p (count_of ps) ks t o.curve.knots o.parameter
+    pub open_span : (eval_refusal c p ks ps g ws t).number ≡ 0 → searched p (count_of ps) ks (looked p ks ps t) ≡ span_of p (count_of ps) ks (looked p ks ps t)
+    open_span h = let o = eval-open h in searched-is p (count_of ps) ks t o.curve.knots o.parameter
+
+-- ---- a call answers the refusal of its check, or else what it finds
+pub handed_on : {A : Type 0} (a : Refusal) (x : Result A Refusal) {r : Refusal} → Err r ≡ checked a → Err r ≡ cond (eqb a.number 0) x (Err a)
+handed_on a x h = rw (stop a h) (ap Err (stopped_by a h).0)
+
+pub passed_on : {A : Type 0} (a : Refusal) (x y : Result A Refusal) → a.number ≡ 0 → x ≡ y → x ≡ cond (eqb a.number 0) y (Err a)
+passed_on a x y n e = rw (eq-eqb a.number 0 n) e

@@ -11,12 +11,14 @@ use lib.Dec.{eqb}
 use lib.Ieee.{Float}
 use borrow.Author.Tests.{eqb-true, eq-eqb, not-false}
 use Rattle.exact.specs.Scheme.{ders_of}
-use Rattle.knots.specs.Refusal.{refuse, accepted, along, or_else, net-size, points-uneven, parameter-outside}
+use Rattle.std.specs.Prelude.{Ok, Err}
+use Rattle.knots.specs.Refusal.{refuse, accepted, checked, along, or_else}
+use Rattle.knots.specs.declared.refusal.Reason.TheVariants.{NetSize, PointsUneven, ParameterOutside}
 use Rattle.knots.specs.Curve.{count_of}
 use Rattle.knots.specs.Span.{outside, clamped, refusing, clamping, domain_refusal, span_of, searched}
 use Rattle.knots.specs.Surface.{surface_refusal, ValidSurface}
 use Rattle.knots.specs.declared.refusal.Refusal.{Refusal}
-use Rattle.knots.proofs.Refusals.{passed, or_else-none, where-none}
+use Rattle.knots.proofs.Refusals.{passed, or_else-none}
 use Rattle.knots.proofs.Surfaces.{valid-surface}
 use Rattle.basis.specs.Floats.{floats}
 use Rattle.basis.specs.Basis.{cell, left_of, right_of}
@@ -24,16 +26,15 @@ use Rattle.basis.specs.Ders.{basis_table}
 use Rattle.basis.proofs.Whole.{Reach, basis-at}
 use Rattle.knots.specs.Shape.{degree_refusal, weight_shape, knot_shape, surface_shape}
 use Rattle.runs.specs.Point.{point_of}
-use Rattle.evaluate.specs.Surface.{NetReach, net_scale, net_sums, surface_quotient, active_net, surface_of, surface_answer, surface_found, degrees_refusal, parameters_refusal, surface_step_refusal}
+use Rattle.evaluate.specs.Surface.{NetReach, net_scale, net_sums, surface_quotient, active_net, surface_of, surface_found, degrees_refusal, parameters_refusal, surface_step_refusal}
 use Rattle.evaluate.specs.Surface.{surface_eval_refusal, surface_at_of, eval_surface_of}
 use Rattle.runs.specs.declared.vector.Vector.{Vector}
 use Rattle.evaluate.specs.declared.sums.Sums.{Sums}
 use Rattle.evaluate.specs.declared.surface.SurfaceDerivs.{SurfaceDerivs}
-use Rattle.evaluate.specs.declared.surface.SurfaceAnswer.TheVariants.{At, Refused}
 use Rattle.knots.proofs.Searches.{searched-is}
 use Rattle.knots.proofs.Answers.{domain-open, domain-none, modes-same, outside-refused}
 use Rattle.knots.proofs.Shapes.{degree-open, weights-open, weights-none, Fitting, knots-open, knots-none}
-use Rattle.evaluate.proofs.Steps.{Found}
+use Rattle.evaluate.proofs.Steps.{Found, handed_on, passed_on}
 use Rattle.evaluate.proofs.Nets.{net-place, net-cong}
 
 -- ---- sums over rows of the tables are sums over the derivatives
@@ -91,8 +92,8 @@ module _ (p q : ℕ) (us vs : List Float) (m n : ℕ) (ps : List Float) (g : Boo
   pub surface-shaped : (surface_shape p q us vs m n ps g ws).number ≡ 0 → SurfaceShaped
   unfolding surface_shape
   surface-shaped h =
-      let a = passed (not (eqb (length ps % 3) 0)) (refuse points-uneven) _ (λ e. omega arith) h in
-      let b = passed (not (eqb (count_of ps) (m * n))) (refuse net-size) _ (λ e. omega arith) a.1 in
+      let a = passed (not (eqb (length ps % 3) 0)) (refuse PointsUneven) _ (λ e. omega arith) h in
+      let b = passed (not (eqb (count_of ps) (m * n))) (refuse NetSize) _ (λ e. omega arith) a.1 in
       let c = or_else-none (along 0 (knot_shape p m us)) _ b.1 in
       let d = or_else-none (along 1 (knot_shape q n vs)) (weight_shape (count_of ps) g ws) c.1 in
       let e : count_of ps ≡ m * n = eqb-true (count_of ps) (m * n) (not-false _ b.0) in
@@ -135,54 +136,53 @@ module _ (p q : ℕ) (us vs : List Float) (m n : ℕ) (ps : List Float) (g : Boo
     pub weights-net : g ≡ true → NetReach (length ws) n (s - p) p (t - q) q
     weights-net e = subst (λ (l : ℕ). NetReach l n (s - p) p (t - q) q) (sym (o.weights e)) net-reach
 
-  module _ (c : Bool) (u v : Float) (r : Refusal) where
+  module _ (c : Bool) (u v : Float) where
     -- where nothing is refused the runs fit
     abbrev SurfaceFits : Type 0
-    SurfaceFits = (r.number ≡ 0 → p ≤ 64) × ((r.number ≡ 0 → q ≤ 64) × (r.number ≡ 0 → (surface_shape p q us vs m n ps g ws).number ≡ 0))
+    SurfaceFits = (p ≤ 64) × ((q ≤ 64) × ((surface_shape p q us vs m n ps g ws).number ≡ 0))
 
-    record StepOpen : Type 0 where
-      shape : (surface_shape p q us vs m n ps g ws).number ≡ 0
-      parameters : ParametersOpen c p q us vs m n u v
-
-    step-open : r ≡ surface_step_refusal c p q us vs m n ps g ws u v → r.number ≡ 0 → StepOpen
+    pub surface-step-fits : (surface_step_refusal c p q us vs m n ps g ws u v).number ≡ 0 → SurfaceFits
     unfolding surface_step_refusal
-    step-open e h =
-        let a = or_else-none (surface_shape p q us vs m n ps g ws) (parameters_refusal c p q us vs m n u v) (sym (ap (λ (x : Refusal). x.number) e) ∙ h) in
-        record { shape = a.0; parameters = parameters-open c p q us vs m n u v a.1 }
-
-    pub surface-step-fits : r ≡ surface_step_refusal c p q us vs m n ps g ws u v → SurfaceFits
-    surface-step-fits e = (λ h. (step-open e h).parameters.u-high, (λ h. (step-open e h).parameters.v_high, λ h. (step-open e h).shape))
+    surface-step-fits h =
+        let a = or_else-none (surface_shape p q us vs m n ps g ws) (parameters_refusal c p q us vs m n u v) h in
+        let b = parameters-open c p q us vs m n u v a.1 in
+        (b.u-high, (b.v_high, a.0))
 
     record SurfaceOpen : Type 0 where
       surface : ValidSurface p q us vs m n ps g ws
       parameters : ParametersOpen c p q us vs m n u v
 
-    surface-open : r ≡ surface_eval_refusal c p q us vs m n ps g ws u v → r.number ≡ 0 → SurfaceOpen
+    surface-open : (surface_eval_refusal c p q us vs m n ps g ws u v).number ≡ 0 → SurfaceOpen
     unfolding surface_eval_refusal
-    surface-open e h =
-        let a = or_else-none (surface_refusal p q us vs m n ps g ws) (parameters_refusal c p q us vs m n u v) (sym (ap (λ (x : Refusal). x.number) e) ∙ h) in
+    surface-open h =
+        let a = or_else-none (surface_refusal p q us vs m n ps g ws) (parameters_refusal c p q us vs m n u v) h in
         record { surface = valid-surface p q us vs m n ps g ws a.0; parameters = parameters-open c p q us vs m n u v a.1 }
 
-    pub surface-eval-fits : r ≡ surface_eval_refusal c p q us vs m n ps g ws u v → SurfaceFits
-    surface-eval-fits e =
-        (λ h. (surface-open e h).parameters.u-high, (λ h. (surface-open e h).parameters.v_high, λ h. ap (λ (x : Refusal). x.number) (surface-shape-none (surface-open e h).surface)))
+    pub surface-eval-fits : (surface_eval_refusal c p q us vs m n ps g ws u v).number ≡ 0 → SurfaceFits
+    surface-eval-fits h =
+        let o = surface-open h in
+        (o.parameters.u-high, (o.parameters.v_high, ap (λ (x : Refusal). x.number) (surface-shape-none o.surface)))
 
     -- ---- the answers: what was found, or the refusal, is the step's and the evaluation's
-    pub surface-step-is : r ≡ surface_step_refusal c p q us vs m n ps g ws u v → surface_answer r (surface_found p q us vs m n ps g ws u v) ≡ surface_at_of c p q us vs m n ps g ws u v
+    pub surface-step-refused : {r : Refusal} → Err r ≡ checked (surface_step_refusal c p q us vs m n ps g ws u v) → Err r ≡ surface_at_of c p q us vs m n ps g ws u v
     unfolding surface_at_of
-    surface-step-is e = ap (λ (x : Refusal). surface_answer x (surface_found p q us vs m n ps g ws u v)) e
+    surface-step-refused = handed_on _ _
 
-    pub surface-eval-is : r ≡ surface_eval_refusal c p q us vs m n ps g ws u v → surface_answer r (surface_found p q us vs m n ps g ws u v) ≡ eval_surface_of c p q us vs m n ps g ws u v
+    pub surface-eval-refused : {r : Refusal} → Err r ≡ checked (surface_eval_refusal c p q us vs m n ps g ws u v) → Err r ≡ eval_surface_of c p q us vs m n ps g ws u v
+    unfolding eval_surface_of
+    surface-eval-refused = handed_on _ _
+
+    pub surface-step-is : (surface_step_refusal c p q us vs m n ps g ws u v).number ≡ 0 → (d : SurfaceDerivs) → d ≡ surface_found p q us vs m n ps g ws u v → Ok d ≡ surface_at_of c p q us vs m n ps g ws u v
+    unfolding surface_at_of
+    surface-step-is h d e = passed_on _ _ _ h (ap Ok e)
+
+    pub surface-eval-is : (surface_eval_refusal c p q us vs m n ps g ws u v).number ≡ 0 → (d : SurfaceDerivs) → d ≡ surface_found p q us vs m n ps g ws u v → Ok d ≡ eval_surface_of c p q us vs m n ps g ws u v
     unfolding surface_found eval_surface_of
-    surface-eval-is e =
-        let along-u : r.number ≡ 0 → searched p m us (clamped p m us u) ≡ span_of p m us (clamped p m us u) = λ h.
-        searched-is p m us u (surface-open e h).surface.u (domain-open p m us u c (surface-open e h).parameters.u-open).0 in
-        let along-v : r.number ≡ 0 → searched q n vs (clamped q n vs v) ≡ span_of q n vs (clamped q n vs v) = λ h.
-        searched-is q n vs v (surface-open e h).surface.v (domain-open q n vs v c (surface-open e h).parameters.v-open).0 in
-        let at : ℕ → ℕ → SurfaceDerivs = λ s t. surface_of p q us vs n ps g ws s t (clamped p m us u) (clamped q n vs v) in
-        where-none r.number _ _ along-u (λ (s : ℕ). At (at s (searched q n vs (clamped q n vs v)))) (Refused r)
-        ∙ (where-none r.number _ _ along-v (λ (t : ℕ). At (at (span_of p m us (clamped p m us u)) t)) (Refused r)
-        ∙ ap (λ (x : Refusal). surface_answer x (at (span_of p m us (clamped p m us u)) (span_of q n vs (clamped q n vs v)))) e)
+    surface-eval-is h d e =
+        let o = surface-open h in
+        let along-u : searched p m us (clamped p m us u) ≡ span_of p m us (clamped p m us u) = searched-is p m us u o.surface.u (domain-open p m us u c o.parameters.u-open).0 in
+        let along-v : searched q n vs (clamped q n vs v) ≡ span_of q n vs (clamped q n vs v) = searched-is q n vs v o.surface.v (domain-open q n vs v c o.parameters.v-open).0 in
+        passed_on _ _ _ h (ap Ok (e ∙ ap₂ (λ (s t : ℕ). surface_of p q us vs n ps g ws s t (clamped p m us u) (clamped q n vs v)) along-u along-v))
 
   -- ---- where neither parameter is outside the domain, both modes answer alike
   pub surface-inside-same : (u v : Float) → outside p m us u ≡ false → outside q n vs v ≡ false
@@ -192,7 +192,7 @@ module _ (p q : ℕ) (us vs : List Float) (m n : ℕ) (ps : List Float) (g : Boo
 
   -- where one is, and the clamped call is not refused, the other is refused by 43
   refused-43 : (u v : Float) → (surface_eval_refusal clamping p q us vs m n ps g ws u v).number ≡ 0 → (outside p m us u || outside q n vs v) ≡ true
-      → surface_eval_refusal refusing p q us vs m n ps g ws u v ≡ refuse parameter-outside
+      → surface_eval_refusal refusing p q us vs m n ps g ws u v ≡ refuse ParameterOutside
   unfolding surface_eval_refusal parameters_refusal
   refused-43 u v h o =
       let a = or_else-none (surface_refusal p q us vs m n ps g ws) _ h in
@@ -201,11 +201,11 @@ module _ (p q : ℕ) (us vs : List Float) (m n : ℕ) (ps : List Float) (g : Boo
       simp (eq-eqb (surface_refusal p q us vs m n ps g ws).number 0 a.0, eq-eqb (degrees_refusal p q).number 0 b.0) (go d.0 d.1 (outside p m us u) refl o)
     where
       go : (domain_refusal clamping p m us u).number ≡ 0 → (domain_refusal clamping q n vs v).number ≡ 0 → (x : Bool) → outside p m us u ≡ x → (x || outside q n vs v) ≡ true
-          → or_else (domain_refusal refusing p m us u) (domain_refusal refusing q n vs v) ≡ refuse parameter-outside
+          → or_else (domain_refusal refusing p m us u) (domain_refusal refusing q n vs v) ≡ refuse ParameterOutside
       go x y true e o = simp (outside-refused p m us u x e)
       go x y false e o = simp (modes-same p m us u e, domain-none p m us u clamping x) (outside-refused q n vs v y o)
 
   pub surface-outside : (u v : Float) → (surface_eval_refusal clamping p q us vs m n ps g ws u v).number ≡ 0 → (outside p m us u || outside q n vs v) ≡ true
-      → eval_surface_of refusing p q us vs m n ps g ws u v ≡ Refused (refuse parameter-outside)
+      → eval_surface_of refusing p q us vs m n ps g ws u v ≡ Err (refuse ParameterOutside)
   unfolding eval_surface_of
   surface-outside u v h o = simp (refused-43 u v h o)

@@ -1,6 +1,6 @@
 -- The point and the first derivative of a curve, and the answers of `eval` and of its step `eval_at`, by the mode: it stands in the refusals alone.
 -- Assumes nothing.
-use Rattle.std.specs.Prelude.{ℕ, ◌+◌, ◌-◌, Bool, false, cond, List, eqb, Float}
+use Rattle.std.specs.Prelude.{ℕ, ◌+◌, ◌-◌, Bool, false, cond, List, eqb, Float, Result, Ok, Err}
 use Rattle.std.specs.Float.{binary64}
 use Rattle.std.specs.Float.Ieee.{add, sub, mul, div}
 use Rattle.exact.specs.Scheme.{ders_of}
@@ -16,8 +16,6 @@ use Rattle.runs.specs.Point.{point_of}
 use Rattle.runs.specs.declared.vector.Vector.{Vector}
 use Rattle.evaluate.specs.declared.sums.Sums.{Sums}
 use Rattle.evaluate.specs.declared.curve.CurveDerivs.{CurveDerivs}
-use Rattle.evaluate.specs.declared.curve.CurveAnswer.{CurveAnswer}
-use Rattle.evaluate.specs.declared.curve.CurveAnswer.TheVariants.{At, Refused}
 
 -- a point relative to o, and its derivative by the quotient rule, coordinate by coordinate
 abbrev pub point_part : Float → Float → Float → Float
@@ -57,8 +55,8 @@ unfoldable pub eval_refusal : Bool → ℕ → List Float → List Float → Boo
 eval_refusal c p ks ps g ws t = or_else (curve_refusal p ks ps g ws) (parameter_refusal c p (count_of ps) ks t)
 
 -- ---- answers
-abbrev pub answer : Refusal → CurveDerivs → CurveAnswer
-answer r d = cond (eqb r.number 0) (At d) (Refused r)
+abbrev pub answer : Refusal → CurveDerivs → Result CurveDerivs Refusal
+answer r d = cond (eqb r.number 0) (Ok d) (Err r)
 
 -- the parameter that is looked up
 abbrev pub looked : ℕ → List Float → List Float → Float → Float
@@ -68,8 +66,8 @@ looked p ks ps t = clamped p (count_of ps) ks t
 unfoldable pub found_of : ℕ → List Float → List Float → Bool → List Float → Float → CurveDerivs
 found_of p ks ps g ws t = curve_of p ks ps g ws (searched p (count_of ps) ks (looked p ks ps t)) (looked p ks ps t)
 
-unfoldable pub eval_at_of : Bool → ℕ → List Float → List Float → Bool → List Float → Float → CurveAnswer
+unfoldable pub eval_at_of : Bool → ℕ → List Float → List Float → Bool → List Float → Float → Result CurveDerivs Refusal
 eval_at_of c p ks ps g ws t = answer (step_refusal c p ks ps g ws t) (found_of p ks ps g ws t)
 
-unfoldable pub eval_of : Bool → ℕ → List Float → List Float → Bool → List Float → Float → CurveAnswer
+unfoldable pub eval_of : Bool → ℕ → List Float → List Float → Bool → List Float → Float → Result CurveDerivs Refusal
 eval_of c p ks ps g ws t = answer (eval_refusal c p ks ps g ws t) (curve_of p ks ps g ws (span_of p (count_of ps) ks (looked p ks ps t)) (looked p ks ps t))

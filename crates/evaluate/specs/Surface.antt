@@ -1,7 +1,7 @@
 -- The point and the first partial derivatives of a surface, and the answers of `eval_surface` and of its step `eval_surface_at`, by the mode.
 -- Along u a surface has the degree p, knots us and m points; along v q, vs and n.
 -- Assumes nothing.
-use Rattle.std.specs.Prelude.{ℕ, zero, suc, ◌+◌, ◌-◌, ◌*◌, ◌≤◌, ◌<◌, Bool, false, cond, List, eqb, Float}
+use Rattle.std.specs.Prelude.{ℕ, zero, suc, ◌+◌, ◌-◌, ◌*◌, ◌≤◌, ◌<◌, Bool, false, cond, List, eqb, Float, Result, Ok, Err}
 use Rattle.std.specs.Float.{binary64}
 use Rattle.std.specs.Float.Ieee.{mul}
 use Rattle.exact.specs.Scheme.{ders_of}
@@ -21,8 +21,6 @@ use Rattle.evaluate.specs.Curve.{point_from, slope_from}
 use Rattle.runs.specs.declared.vector.Vector.{Vector}
 use Rattle.evaluate.specs.declared.sums.Sums.{Sums}
 use Rattle.evaluate.specs.declared.surface.SurfaceDerivs.{SurfaceDerivs}
-use Rattle.evaluate.specs.declared.surface.SurfaceAnswer.{SurfaceAnswer}
-use Rattle.evaluate.specs.declared.surface.SurfaceAnswer.TheVariants.{At, Refused}
 
 -- the places of the p + 1 rows from row a on and the q + 1 columns from column b on lie below m, in a net of n columns
 abbrev pub NetReach : ℕ → ℕ → ℕ → ℕ → ℕ → ℕ → Type 0
@@ -73,8 +71,8 @@ module _ (c : Bool) (p q : ℕ) (us vs : List Float) (m n : ℕ) (ps : List Floa
   surface_eval_refusal = or_else (surface_refusal p q us vs m n ps g ws) (parameters_refusal c p q us vs m n u v)
 
 -- ---- answers
-abbrev pub surface_answer : Refusal → SurfaceDerivs → SurfaceAnswer
-surface_answer r d = cond (eqb r.number 0) (At d) (Refused r)
+abbrev pub surface_answer : Refusal → SurfaceDerivs → Result SurfaceDerivs Refusal
+surface_answer r d = cond (eqb r.number 0) (Ok d) (Err r)
 
 -- on any runs: the spans are what the search finds
 unfoldable pub surface_found : ℕ → ℕ → List Float → List Float → ℕ → ℕ → List Float → Bool → List Float → Float → Float → SurfaceDerivs
@@ -82,10 +80,10 @@ surface_found p q us vs m n ps g ws u v =
     surface_of p q us vs n ps g ws (searched p m us (clamped p m us u)) (searched q n vs (clamped q n vs v)) (clamped p m us u) (clamped q n vs v)
 
 module _ (c : Bool) (p q : ℕ) (us vs : List Float) (m n : ℕ) (ps : List Float) (g : Bool) (ws : List Float) (u v : Float) where
-  unfoldable pub surface_at_of : SurfaceAnswer
+  unfoldable pub surface_at_of : Result SurfaceDerivs Refusal
   surface_at_of = surface_answer (surface_step_refusal c p q us vs m n ps g ws u v) (surface_found p q us vs m n ps g ws u v)
 
-  unfoldable pub eval_surface_of : SurfaceAnswer
+  unfoldable pub eval_surface_of : Result SurfaceDerivs Refusal
   eval_surface_of =
       surface_answer (surface_eval_refusal c p q us vs m n ps g ws u v)
       (surface_of p q us vs n ps g ws (span_of p m us (clamped p m us u)) (span_of q n vs (clamped q n vs v)) (clamped p m us u) (clamped q n vs v))

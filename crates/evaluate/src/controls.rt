@@ -50,12 +50,8 @@ pub fn largest_in(m: f64, weights: &[f64], first: usize, n: usize) -> f64
     ensures { result ≡ largest_from m (λ j. at weights.now (first + j)) n }
 {
     let mut a = m;
-    let mut j = 0usize;
-    while j < n {
-        let i = first + j;
-        let w = weights[i];
-        a = larger_of(a, w);
-        j += 1;
+    for w in &weights[first..first + n] {
+        a = larger_of(a, *w);
     }
     a
 }
@@ -72,7 +68,7 @@ pub fn scale_at(rational: bool, weights: &[f64], first: usize, n: usize) -> f64
 }
 
 // What the basis functions and their first derivatives give.
-#[derive(Clone, Copy)]
+#[derive(Clone, Copy, Debug, PartialEq)]
 pub struct ValueSlope {
     pub value: Sums,
     pub slope: Sums,
@@ -102,8 +98,7 @@ pub fn value_and_slope(
         w: 0.0,
     };
     let mut slope = value;
-    let mut j = 0usize;
-    while j <= p {
+    for j in 0..=p {
         let i = first + j;
         let at = 65 + j;
         let n = ders[j];
@@ -112,7 +107,6 @@ pub fn value_and_slope(
         let q = point_at(points, i);
         value = plus_of(value, term_of(false, o, q, w, n));
         slope = plus_of(slope, term_of(false, o, q, w, dn));
-        j += 1;
     }
     ValueSlope { value, slope }
 }
@@ -141,15 +135,13 @@ pub fn row_sums(
         z: 0.0,
         w: 0.0,
     };
-    let mut j = 0usize;
-    while j <= p {
+    for j in 0..=p {
         let i = first + j;
         let at = k * 65 + j;
         let n = ders[at];
         let w = weight_at(rational, weights, scale, i);
         let q = point_at(points, i);
         s = plus_of(s, term_of(true, o, q, w, n));
-        j += 1;
     }
     s
 }

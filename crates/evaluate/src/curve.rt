@@ -2,7 +2,7 @@
 ghost use Rattle.std.specs.Prelude.{◌≡◌, true, ◌+◌, ◌*◌, ◌<◌, ◌≤◌, length};
 ghost use Rattle.knots.specs.Span.{refusing, clamping};
 ghost use Rattle.knots.specs.Shape.{curve_shape};
-ghost use Rattle.evaluate.specs.Curve.{quotient, curve_of, answer, found_of, eval_at_of, eval_of};
+ghost use Rattle.evaluate.specs.Curve.{quotient, curve_of, found_of, eval_at_of, eval_of};
 
 use crate::controls::{scale_at, value_and_slope};
 use crate::refusals::{eval_refusal, step_refusal};
@@ -13,16 +13,10 @@ use knots::span::{clamp, span_of};
 use runs::points::point_at;
 use runs::vector::Vector;
 
-#[derive(Clone, Copy)]
+#[derive(Clone, Copy, Debug, PartialEq)]
 pub struct CurveDerivs {
     pub point: Vector,
     pub d1: Vector,
-}
-
-#[derive(Clone, Copy)]
-pub enum CurveAnswer {
-    At(CurveDerivs),
-    Refused(Refusal),
 }
 
 // The point and the first derivative from the sums of rows 0 and 1, relative to o.
@@ -91,26 +85,6 @@ fn found_at(
     curve_at(span, u, degree, knots, points, rational, weights)
 }
 
-// The refusal, or the point and the first derivative at t of runs that fit each other where there is none.
-fn eval_with(
-    refusal: Refusal,
-    degree: usize,
-    knots: &[f64],
-    points: &[f64],
-    rational: bool,
-    weights: &[f64],
-    t: f64,
-) -> CurveAnswer
-    requires degree_bound { refusal.number ≡ 0 → degree ≤ 64 }
-    requires weights_value { refusal.number ≡ 0 → (curve_shape degree knots.now points.now rational weights.now).number ≡ 0 }
-    ensures { result ≡ answer refusal (found_of degree knots.now points.now rational weights.now t) }
-{
-    if refusal.number != 0 {
-        return CurveAnswer::Refused(refusal);
-    }
-    CurveAnswer::At(found_at(degree, knots, points, rational, weights, t))
-}
-
 // The step of eval in a mode, on a curve that was validated before: only lengths, the degree, t and the domain's ends are tested, so that many calls validate once.
 pub fn eval_step(
     clamps: bool,
@@ -120,11 +94,11 @@ pub fn eval_step(
     rational: bool,
     weights: &[f64],
     t: f64,
-) -> CurveAnswer
+) -> Result<CurveDerivs, Refusal>
     ensures { result ≡ eval_at_of clamps degree knots.now points.now rational weights.now t }
 {
-    let refusal = step_refusal(clamps, degree, knots, points, rational, weights, t);
-    eval_with(refusal, degree, knots, points, rational, weights, t)
+    step_refusal(clamps, degree, knots, points, rational, weights, t)?;
+    Ok(found_at(degree, knots, points, rational, weights, t))
 }
 
 // The same where a t outside the domain is refused.
@@ -135,7 +109,7 @@ pub fn eval_at(
     rational: bool,
     weights: &[f64],
     t: f64,
-) -> CurveAnswer
+) -> Result<CurveDerivs, Refusal>
     ensures { result ≡ eval_at_of refusing degree knots.now points.now rational weights.now t }
 {
     eval_step(false, degree, knots, points, rational, weights, t)
@@ -149,11 +123,11 @@ pub fn eval(
     rational: bool,
     weights: &[f64],
     t: f64,
-) -> CurveAnswer
+) -> Result<CurveDerivs, Refusal>
     ensures { result ≡ eval_of refusing degree knots.now points.now rational weights.now t }
 {
-    let refusal = eval_refusal(false, degree, knots, points, rational, weights, t);
-    eval_with(refusal, degree, knots, points, rational, weights, t)
+    eval_refusal(false, degree, knots, points, rational, weights, t)?;
+    Ok(found_at(degree, knots, points, rational, weights, t))
 }
 
 // The same, where a finite t outside the domain becomes the nearer end.
@@ -164,9 +138,9 @@ pub fn eval_clamped(
     rational: bool,
     weights: &[f64],
     t: f64,
-) -> CurveAnswer
+) -> Result<CurveDerivs, Refusal>
     ensures { result ≡ eval_of clamping degree knots.now points.now rational weights.now t }
 {
-    let refusal = eval_refusal(true, degree, knots, points, rational, weights, t);
-    eval_with(refusal, degree, knots, points, rational, weights, t)
+    eval_refusal(true, degree, knots, points, rational, weights, t)?;
+    Ok(found_at(degree, knots, points, rational, weights, t))
 }

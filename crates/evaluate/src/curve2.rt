@@ -2,28 +2,22 @@
 ghost use Rattle.std.specs.Prelude.{◌≡◌, true, ◌+◌, ◌*◌, ◌<◌, ◌≤◌, length};
 ghost use Rattle.knots.specs.Span.{refusing, clamping};
 ghost use Rattle.knots.specs.Shape.{curve_shape};
-ghost use Rattle.evaluate.specs.Curve2.{quotient2, curve2_of, finite2, told2, answer2, found2_of, eval2_at_of, eval2_of};
+ghost use Rattle.evaluate.specs.Curve2.{quotient2, curve2_of, finite2, told2, found2_of, eval2_at_of, eval2_of};
 
 use crate::controls::{row_sums, scale_at};
 use crate::refusals::{eval_refusal, step_refusal};
 use crate::sums::Sums;
 use basis::ders::basis_derivatives;
-use knots::refusal::{Refusal, refuse};
+use knots::refusal::{Reason, Refusal, refuse};
 use knots::span::{clamp, span_of};
 use runs::points::point_at;
 use runs::vector::{Vector, finite_vector};
 
-#[derive(Clone, Copy)]
+#[derive(Clone, Copy, Debug, PartialEq)]
 pub struct CurveDerivs2 {
     pub point: Vector,
     pub d1: Vector,
     pub d2: Vector,
-}
-
-#[derive(Clone, Copy)]
-pub enum CurveAnswer2 {
-    At(CurveDerivs2),
-    Refused(Refusal),
 }
 
 // The point and two derivatives from the sums of rows 0, 1 and 2, relative to o.
@@ -88,15 +82,7 @@ fn curve2_at(
 fn finite2_of(r: CurveDerivs2) -> bool
     ensures { result ≡ finite2 r }
 {
-    let point = r.point;
-    let d1 = r.d1;
-    let d2 = r.d2;
-    if finite_vector(point) {
-        if finite_vector(d1) {
-            return finite_vector(d2);
-        }
-    }
-    false
+    finite_vector(r.point) && finite_vector(r.d1) && finite_vector(r.d2)
 }
 
 // The point and two derivatives at t of runs that fit each other, on the span that the search finds.
@@ -119,33 +105,13 @@ fn found2_at(
 }
 
 // The answer of nine numbers: 21 where one is not finite.
-fn told2_of(r: CurveDerivs2) -> CurveAnswer2
+fn told2_of(r: CurveDerivs2) -> Result<CurveDerivs2, Refusal>
     ensures { result ≡ told2 r }
 {
     if finite2_of(r) {
-        return CurveAnswer2::At(r);
+        return Ok(r);
     }
-    CurveAnswer2::Refused(refuse(21))
-}
-
-// The refusal, or the point and two derivatives at t of runs that fit each other where there is none.
-fn eval2_with(
-    refusal: Refusal,
-    degree: usize,
-    knots: &[f64],
-    points: &[f64],
-    rational: bool,
-    weights: &[f64],
-    t: f64,
-) -> CurveAnswer2
-    requires degree_bound { refusal.number ≡ 0 → degree ≤ 64 }
-    requires weights_value { refusal.number ≡ 0 → (curve_shape degree knots.now points.now rational weights.now).number ≡ 0 }
-    ensures { result ≡ answer2 refusal (found2_of degree knots.now points.now rational weights.now t) }
-{
-    if refusal.number != 0 {
-        return CurveAnswer2::Refused(refusal);
-    }
-    told2_of(found2_at(degree, knots, points, rational, weights, t))
+    Err(refuse(Reason::SecondNotFinite))
 }
 
 // The step of eval2 in a mode, on a curve that was validated before: only lengths, the degree, t and the domain's ends are tested, so that many calls validate once.
@@ -157,11 +123,11 @@ pub fn eval2_step(
     rational: bool,
     weights: &[f64],
     t: f64,
-) -> CurveAnswer2
+) -> Result<CurveDerivs2, Refusal>
     ensures { result ≡ eval2_at_of clamps degree knots.now points.now rational weights.now t }
 {
-    let refusal = step_refusal(clamps, degree, knots, points, rational, weights, t);
-    eval2_with(refusal, degree, knots, points, rational, weights, t)
+    step_refusal(clamps, degree, knots, points, rational, weights, t)?;
+    told2_of(found2_at(degree, knots, points, rational, weights, t))
 }
 
 // The same where a t outside the domain is refused.
@@ -172,7 +138,7 @@ pub fn eval2_at(
     rational: bool,
     weights: &[f64],
     t: f64,
-) -> CurveAnswer2
+) -> Result<CurveDerivs2, Refusal>
     ensures { result ≡ eval2_at_of refusing degree knots.now points.now rational weights.now t }
 {
     eval2_step(false, degree, knots, points, rational, weights, t)
@@ -186,11 +152,11 @@ pub fn eval2(
     rational: bool,
     weights: &[f64],
     t: f64,
-) -> CurveAnswer2
+) -> Result<CurveDerivs2, Refusal>
     ensures { result ≡ eval2_of refusing degree knots.now points.now rational weights.now t }
 {
-    let refusal = eval_refusal(false, degree, knots, points, rational, weights, t);
-    eval2_with(refusal, degree, knots, points, rational, weights, t)
+    eval_refusal(false, degree, knots, points, rational, weights, t)?;
+    told2_of(found2_at(degree, knots, points, rational, weights, t))
 }
 
 // The same, where a finite t outside the domain becomes the nearer end.
@@ -201,9 +167,9 @@ pub fn eval2_clamped(
     rational: bool,
     weights: &[f64],
     t: f64,
-) -> CurveAnswer2
+) -> Result<CurveDerivs2, Refusal>
     ensures { result ≡ eval2_of clamping degree knots.now points.now rational weights.now t }
 {
-    let refusal = eval_refusal(true, degree, knots, points, rational, weights, t);
-    eval2_with(refusal, degree, knots, points, rational, weights, t)
+    eval_refusal(true, degree, knots, points, rational, weights, t)?;
+    told2_of(found2_at(degree, knots, points, rational, weights, t))
 }

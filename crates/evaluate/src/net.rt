@@ -12,7 +12,7 @@ use runs::points::point_at;
 use runs::vector::Vector;
 
 // The p + 1 rows from row a on and the q + 1 columns from column b on, of a net of so many columns.
-#[derive(Clone, Copy)]
+#[derive(Clone, Copy, Debug, PartialEq, Eq)]
 pub struct Net {
     pub columns: usize,
     pub a: usize,
@@ -33,13 +33,11 @@ pub fn net_scale(net: Net, rational: bool, weights: &[f64]) -> f64
         return 1.0;
     }
     let mut m = 0.0;
-    let mut k = 0usize;
-    while k <= net.p {
+    for k in 0..=net.p {
         let i = net.a + k;
         let row = i * net.columns;
         let at = row + net.b;
         m = largest_in(m, weights, at, net.q + 1);
-        k += 1;
     }
     m
 }
@@ -65,15 +63,13 @@ fn net_row(
     ensures { result ≡ sums_from s (row_term false points.now rational weights.now scale o first (λ l. mul binary64 x (cell ders.now j l))) (q + 1) }
 {
     let mut t = s;
-    let mut l = 0usize;
-    while l <= q {
+    for l in 0..=q {
         let i = first + l;
         let at = j * 65 + l;
         let n = x * ders[at];
         let w = weight_at(rational, weights, scale, i);
         let c = point_at(points, i);
         t = plus_of(t, term_of(false, o, c, w, n));
-        l += 1;
     }
     t
 }
@@ -100,24 +96,21 @@ pub fn net_sums(
     requires p_bound_2 { net.a + net.p < 18446744073709551616 }
     ensures { result ≡ net_sums points.now rational weights.now scale o net.columns net.a net.b (cell u_ders.now i) (cell v_ders.now j) (net.q + 1) (net.p + 1) }
 {
-    let q = net.q;
     let mut s = Sums {
         x: 0.0,
         y: 0.0,
         z: 0.0,
         w: 0.0,
     };
-    let mut k = 0usize;
-    while k <= net.p {
+    for k in 0..=net.p {
         let h = net.a + k;
         let row = h * net.columns;
         let first = row + net.b;
         let at = i * 65 + k;
         let x = u_ders[at];
         s = net_row(
-            s, o, x, j, q, first, scale, points, rational, weights, v_ders,
+            s, o, x, j, net.q, first, scale, points, rational, weights, v_ders,
         );
-        k += 1;
     }
     s
 }

@@ -1,5 +1,6 @@
 // The refusals of a call, by its mode: those of the curve or surface, then 31, 12 and 43; and of a step on what was validated before, with its lengths alone in their place.
 ghost use Rattle.std.specs.Prelude.{◌≡◌};
+ghost use Rattle.knots.specs.Refusal.{checked};
 ghost use Rattle.evaluate.specs.Curve.{parameter_refusal, step_refusal, eval_refusal};
 ghost use Rattle.evaluate.specs.Surface.{degrees_refusal, parameters_refusal, surface_step_refusal, surface_eval_refusal};
 
@@ -16,13 +17,10 @@ pub fn parameter_refusal(
     count: usize,
     knots: &[f64],
     t: f64,
-) -> Refusal
-    ensures { result ≡ parameter_refusal clamps degree count knots.now t }
+) -> Result<(), Refusal>
+    ensures { result ≡ checked (parameter_refusal clamps degree count knots.now t) }
 {
-    let refusal = degree_refusal(degree);
-    if refusal.number != 0 {
-        return refusal;
-    }
+    degree_refusal(degree)?;
     domain_refusal(clamps, degree, count, knots, t)
 }
 
@@ -35,13 +33,10 @@ pub fn step_refusal(
     rational: bool,
     weights: &[f64],
     t: f64,
-) -> Refusal
-    ensures { result ≡ step_refusal clamps degree knots.now points.now rational weights.now t }
+) -> Result<(), Refusal>
+    ensures { result ≡ checked (step_refusal clamps degree knots.now points.now rational weights.now t) }
 {
-    let refusal = curve_shape(degree, knots, points, rational, weights);
-    if refusal.number != 0 {
-        return refusal;
-    }
+    curve_shape(degree, knots, points, rational, weights)?;
     let count = points.len() / 3;
     parameter_refusal(clamps, degree, count, knots, t)
 }
@@ -55,25 +50,19 @@ pub fn eval_refusal(
     rational: bool,
     weights: &[f64],
     t: f64,
-) -> Refusal
-    ensures { result ≡ eval_refusal clamps degree knots.now points.now rational weights.now t }
+) -> Result<(), Refusal>
+    ensures { result ≡ checked (eval_refusal clamps degree knots.now points.now rational weights.now t) }
 {
-    let refusal = curve_refusal(degree, knots, points, rational, weights);
-    if refusal.number != 0 {
-        return refusal;
-    }
+    curve_refusal(degree, knots, points, rational, weights)?;
     let count = points.len() / 3;
     parameter_refusal(clamps, degree, count, knots, t)
 }
 
 // Refusal 31 of either direction.
-pub fn degrees_refusal(u_degree: usize, v_degree: usize) -> Refusal
-    ensures { result ≡ degrees_refusal u_degree v_degree }
+pub fn degrees_refusal(u_degree: usize, v_degree: usize) -> Result<(), Refusal>
+    ensures { result ≡ checked (degrees_refusal u_degree v_degree) }
 {
-    let refusal = degree_refusal(u_degree);
-    if refusal.number != 0 {
-        return refusal;
-    }
+    degree_refusal(u_degree)?;
     degree_refusal(v_degree)
 }
 
@@ -88,17 +77,11 @@ pub fn parameters_refusal(
     n: usize,
     u: f64,
     v: f64,
-) -> Refusal
-    ensures { result ≡ parameters_refusal clamps p q uk.now vk.now m n u v }
+) -> Result<(), Refusal>
+    ensures { result ≡ checked (parameters_refusal clamps p q uk.now vk.now m n u v) }
 {
-    let refusal = degrees_refusal(p, q);
-    if refusal.number != 0 {
-        return refusal;
-    }
-    let refusal = domain_refusal(clamps, p, m, uk, u);
-    if refusal.number != 0 {
-        return refusal;
-    }
+    degrees_refusal(p, q)?;
+    domain_refusal(clamps, p, m, uk, u)?;
     domain_refusal(clamps, q, n, vk, v)
 }
 
@@ -116,13 +99,10 @@ pub fn surface_step_refusal(
     weights: &[f64],
     u: f64,
     v: f64,
-) -> Refusal
-    ensures { result ≡ surface_step_refusal clamps p q uk.now vk.now m n points.now rational weights.now u v }
+) -> Result<(), Refusal>
+    ensures { result ≡ checked (surface_step_refusal clamps p q uk.now vk.now m n points.now rational weights.now u v) }
 {
-    let refusal = surface_shape(p, q, uk, vk, m, n, points, rational, weights);
-    if refusal.number != 0 {
-        return refusal;
-    }
+    surface_shape(p, q, uk, vk, m, n, points, rational, weights)?;
     parameters_refusal(clamps, p, q, uk, vk, m, n, u, v)
 }
 
@@ -140,12 +120,9 @@ pub fn surface_eval_refusal(
     weights: &[f64],
     u: f64,
     v: f64,
-) -> Refusal
-    ensures { result ≡ surface_eval_refusal clamps p q uk.now vk.now m n points.now rational weights.now u v }
+) -> Result<(), Refusal>
+    ensures { result ≡ checked (surface_eval_refusal clamps p q uk.now vk.now m n points.now rational weights.now u v) }
 {
-    let refusal = surface_refusal(p, q, uk, vk, m, n, points, rational, weights);
-    if refusal.number != 0 {
-        return refusal;
-    }
+    surface_refusal(p, q, uk, vk, m, n, points, rational, weights)?;
     parameters_refusal(clamps, p, q, uk, vk, m, n, u, v)
 }

@@ -3,7 +3,7 @@ ghost use Rattle.std.specs.Prelude.{◌≡◌};
 ghost use Rattle.evaluate.specs.Controls.{plus};
 
 // Sums over active points: points relative to a reference, and weights.
-#[derive(Clone, Copy)]
+#[derive(Clone, Copy, Debug, PartialEq)]
 pub struct Sums {
     pub x: f64,
     pub y: f64,

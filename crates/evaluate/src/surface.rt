@@ -2,7 +2,7 @@
 ghost use Rattle.std.specs.Prelude.{◌≡◌, true, ◌+◌, ◌-◌, ◌*◌, ◌/◌, ◌<◌, ◌≤◌, length};
 ghost use Rattle.knots.specs.Span.{refusing, clamping};
 ghost use Rattle.knots.specs.Shape.{surface_shape};
-ghost use Rattle.evaluate.specs.Surface.{NetReach, surface_quotient, surface_of, surface_answer, surface_found, surface_at_of, eval_surface_of};
+ghost use Rattle.evaluate.specs.Surface.{NetReach, surface_quotient, surface_of, surface_found, surface_at_of, eval_surface_of};
 
 use crate::net::{Net, net_scale, net_sums};
 use crate::refusals::{surface_eval_refusal, surface_step_refusal};
@@ -13,17 +13,11 @@ use knots::span::{clamp, span_of};
 use runs::points::point_at;
 use runs::vector::Vector;
 
-#[derive(Clone, Copy)]
+#[derive(Clone, Copy, Debug, PartialEq)]
 pub struct SurfaceDerivs {
     pub point: Vector,
     pub du: Vector,
     pub dv: Vector,
-}
-
-#[derive(Clone, Copy)]
-pub enum SurfaceAnswer {
-    At(SurfaceDerivs),
-    Refused(Refusal),
 }
 
 // The point and the partial derivatives from the three sums, relative to o.
@@ -126,32 +120,6 @@ fn surface_found(
     surface_at(s, t, x, y, p, q, uk, vk, n, points, rational, weights)
 }
 
-// The refusal, or the point and the first partial derivatives of runs that fit each other where there is none.
-fn surface_with(
-    refusal: Refusal,
-    p: usize,
-    q: usize,
-    uk: &[f64],
-    vk: &[f64],
-    m: usize,
-    n: usize,
-    points: &[f64],
-    rational: bool,
-    weights: &[f64],
-    u: f64,
-    v: f64,
-) -> SurfaceAnswer
-    requires p_bound { refusal.number ≡ 0 → p ≤ 64 }
-    requires q_bound { refusal.number ≡ 0 → q ≤ 64 }
-    requires weights_value { refusal.number ≡ 0 → (surface_shape p q uk.now vk.now m n points.now rational weights.now).number ≡ 0 }
-    ensures { result ≡ surface_answer refusal (surface_found p q uk.now vk.now m n points.now rational weights.now u v) }
-{
-    if refusal.number != 0 {
-        return SurfaceAnswer::Refused(refusal);
-    }
-    SurfaceAnswer::At(surface_found(p, q, uk, vk, m, n, points, rational, weights, u, v))
-}
-
 // The step of eval_surface, on a surface that was validated before: only lengths, the degrees, u, v and the domains' ends are tested.
 pub fn eval_surface_at(
     p: usize,
@@ -165,11 +133,11 @@ pub fn eval_surface_at(
     weights: &[f64],
     u: f64,
     v: f64,
-) -> SurfaceAnswer
+) -> Result<SurfaceDerivs, Refusal>
     ensures { result ≡ surface_at_of refusing p q uk.now vk.now m n points.now rational weights.now u v }
 {
-    let refusal = surface_step_refusal(false, p, q, uk, vk, m, n, points, rational, weights, u, v);
-    surface_with(refusal, p, q, uk, vk, m, n, points, rational, weights, u, v)
+    surface_step_refusal(false, p, q, uk, vk, m, n, points, rational, weights, u, v)?;
+    Ok(surface_found(p, q, uk, vk, m, n, points, rational, weights, u, v))
 }
 
 // The point and the first partial derivatives of a surface of degrees p and q, knots uk and vk, m · n points, or a refusal: 43 where u or v lies outside the domain.
@@ -185,11 +153,11 @@ pub fn eval_surface(
     weights: &[f64],
     u: f64,
     v: f64,
-) -> SurfaceAnswer
+) -> Result<SurfaceDerivs, Refusal>
     ensures { result ≡ eval_surface_of refusing p q uk.now vk.now m n points.now rational weights.now u v }
 {
-    let refusal = surface_eval_refusal(false, p, q, uk, vk, m, n, points, rational, weights, u, v);
-    surface_with(refusal, p, q, uk, vk, m, n, points, rational, weights, u, v)
+    surface_eval_refusal(false, p, q, uk, vk, m, n, points, rational, weights, u, v)?;
+    Ok(surface_found(p, q, uk, vk, m, n, points, rational, weights, u, v))
 }
 
 // The same, where finite parameters outside the domain become the nearer ends.
@@ -205,9 +173,9 @@ pub fn eval_surface_clamped(
     weights: &[f64],
     u: f64,
     v: f64,
-) -> SurfaceAnswer
+) -> Result<SurfaceDerivs, Refusal>
     ensures { result ≡ eval_surface_of clamping p q uk.now vk.now m n points.now rational weights.now u v }
 {
-    let refusal = surface_eval_refusal(true, p, q, uk, vk, m, n, points, rational, weights, u, v);
-    surface_with(refusal, p, q, uk, vk, m, n, points, rational, weights, u, v)
+    surface_eval_refusal(true, p, q, uk, vk, m, n, points, rational, weights, u, v)?;
+    Ok(surface_found(p, q, uk, vk, m, n, points, rational, weights, u, v))
 }

@@ -1,5 +1,6 @@
 -- From a cleared run to what a box leaves; and the answer of a bound from its case.
 -- Assumes nothing.
+use Rattle.std.specs.Prelude.{Ok}
 use Prim.Native.Nat.{ℕ, ◌≤◌}
 use native.Mathlib.Omega.{arith}
 use native.Mathlib.Nat.{zero-add}
@@ -13,7 +14,6 @@ use Rattle.knots.specs.declared.refusal.Refusal.{Refusal}
 use Rattle.runs.proofs.Stores.{sets-three}
 use Rattle.bounds.specs.declared.answer.Triple.{Triple}
 use Rattle.bounds.specs.declared.answer.NurbsBounds.{NurbsBounds}
-use Rattle.bounds.specs.declared.answer.Bounded.TheVariants.{Are}
 use Rattle.bounds.specs.Holds.{NotIdle}
 use Rattle.bounds.specs.Numbers.{bounded_values, six_of, stored_six}
 use Rattle.exports.specs.Answer.{Answer, values, Leaves}
@@ -29,9 +29,9 @@ pub leaves-triple : (t : Triple) (before cleared after : List Float) → cleared
 leaves-triple t = leaves-stored (six_of t)
 
 pub leaves-box : (b : NurbsBounds) (before cleared one two three : List Float) → cleared ≡ zeros (length before) → 18 ≤ length cleared → one ≡ stored_six cleared 0 b.point
-    → two ≡ stored_six one 6 b.du → three ≡ stored_six two 12 b.dv → Leaves (values (bounded_values (Are b))) before three 0
+    → two ≡ stored_six one 6 b.du → three ≡ stored_six two 12 b.dv → Leaves (values (bounded_values (Ok b))) before three 0
 leaves-box b before cleared one two three e room f g h =
-    leaves-stored (bounded_values (Are b)) before cleared three e room
+    leaves-stored (bounded_values (Ok b)) before cleared three e room
     (h
     ∙ (ap (λ (l : List Float). stored_six l 12 b.dv) (g ∙ ap (λ (l : List Float). stored_six l 6 b.du) f)
     ∙ sets-three (six_of b.point) (six_of b.du) (six_of b.dv) cleared 0 6 12 refl refl))

@@ -1,4 +1,8 @@
 -- What `tasulogi_interval_divide` returns is neither 28 nor 29: a divisor that is an interval has a quotient, or holds 0. Assumes nothing.
+use Rattle.std.specs.Prelude.{Some, None, Result, Ok, Err}
+use Rattle.interval.specs.declared.DivideError.TheVariants.{HoldsZero, Unbounded}
+use Rattle.interval.specs.declared.DivideError.{DivideError}
+use Rattle.interval.specs.declared.Interval.{Interval}
 use Prim.Native.Nat.{ℕ}
 use mathlib.Core.Path.{◌≡◌, refl, sym, subst}
 use mathlib.Core.Bool.{Bool, true, false, cond}
@@ -6,9 +10,6 @@ use mathlib.Core.List.{List}
 use lib.Dec.{T, ltb}
 use lib.ListN.{length}
 use lib.Ieee.{Float, le}
-use Rattle.interval.specs.declared.New.TheVariants.{Made, Nothing}
-use Rattle.interval.specs.declared.Quotient.{Quotient}
-use Rattle.interval.specs.declared.Quotient.TheVariants.{Is, HoldsZero, Unbounded}
 use Rattle.interval.specs.Ops.{new_of, divide_of}
 use Rattle.interval.proofs.Quotients.{Reasoned, between, divide-reasoned}
 use Rattle.bounds.specs.Holds.{NotIdle}
@@ -17,15 +18,15 @@ use Rattle.exports.specs.Tables.{packed_of}
 use Rattle.exports.specs.Answer.{Answer, number, Leaves}
 use Rattle.exports.specs.Intervals.{on_both, both_of, quotient_answer}
 
-reasoned-idle : (q : Quotient) (n : ℕ) → Reasoned q → NotIdle (number (quotient_answer q) n)
+reasoned-idle : (q : Result Interval DivideError) (n : ℕ) → Reasoned q → NotIdle (number (quotient_answer q) n)
 unfolding packed_of
-reasoned-idle (Is i) n h = go (ltb n 2)
+reasoned-idle (Ok i) n h = go (ltb n 2)
   where
     go : (x : Bool) → NotIdle (cond x 30 0)
     go true = idle 30 tt
     go false = idle 0 tt
-reasoned-idle HoldsZero n h = idle 26 tt
-reasoned-idle Unbounded n h = absurd h
+reasoned-idle (Err HoldsZero) n h = idle 26 tt
+reasoned-idle (Err Unbounded) n h = absurd h
 
 module _ (al ah bl bh : Float) where
   abbrev pub quotient : Answer
@@ -36,7 +37,7 @@ module _ (al ah bl bh : Float) where
   divided-idle n = go (le al ah) (le bl bh) refl
     where
       go : (x y : Bool) → le bl bh ≡ y
-          → NotIdle (number (on_both (both_of (cond x (Made (between al ah)) Nothing) (cond y (Made (between bl bh)) Nothing)) (λ a b. quotient_answer (divide_of a b))) n)
+          → NotIdle (number (on_both (both_of (cond x (Some (between al ah)) None) (cond y (Some (between bl bh)) None)) (λ a b. quotient_answer (divide_of a b))) n)
       go true true e = reasoned-idle (divide_of (between al ah) (between bl bh)) n (divide-reasoned (between al ah) bl bh (subst T (sym e) tt))
       go true false e = idle 99 tt
       go false true e = idle 99 tt

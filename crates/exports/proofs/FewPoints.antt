@@ -1,5 +1,7 @@
 -- A curve that an edit forms has fewer than 2^32 points: its runs were not too long.
 -- Assumes nothing.
+use Rattle.std.specs.Prelude.{Result}
+use Rattle.edits.specs.declared.answer.FormedCurve.{FormedCurve}
 use Prim.Native.Nat.{ℕ, ◌+◌, ◌<◌, ◌≤◌}
 use mathlib.Core.Bool.{Bool, true, false, cond}
 use mathlib.Core.Path.{◌≡◌, refl, sym, subst}
@@ -14,7 +16,6 @@ use Rattle.knots.specs.declared.refusal.Refusal.{Refusal}
 use Rattle.edits.specs.Outcome.{Outcome, gives, refuses}
 use Rattle.insertion.specs.Whole.{insert_start, insert_outcome, InsertMeets}
 use Rattle.edits.specs.Whole.{answer_of}
-use Rattle.edits.specs.declared.answer.EditAnswer.{EditAnswer}
 use Rattle.insertion.proofs.StartOpen.{start-open}
 use Rattle.trimming.specs.Trim.{kept_of, trim_start, trim_outcome, TrimMeets}
 use Rattle.trimming.proofs.Ranges.{below-long, start-open as trim-open}
@@ -28,22 +29,22 @@ formed-points p n (gives ks ps ws) = omega arith
 formed-points p n (refuses r) = omega arith
 
 -- it is enough to look at a start s that is not refused
-few : (p n : ℕ) (s : Refusal) (o : Outcome) (r : EditAnswer) → r ≡ answer_of p n (cond (eqb s.number 0) o (refuses s)) → (s.number ≡ 0 → n < 4294967296) → points_of r < 4294967296
-few p n s o r m h = subst (λ (x : EditAnswer). points_of x < 4294967296) (sym m) (go (eqb s.number 0) refl)
+few : (p n : ℕ) (s : Refusal) (o : Outcome) (r : Result FormedCurve Refusal) → r ≡ answer_of p n (cond (eqb s.number 0) o (refuses s)) → (s.number ≡ 0 → n < 4294967296) → points_of r < 4294967296
+few p n s o r m h = subst (λ (x : Result FormedCurve Refusal). points_of x < 4294967296) (sym m) (go (eqb s.number 0) refl)
   where
     go : (x : Bool) → eqb s.number 0 ≡ x → points_of (answer_of p n (cond x o (refuses s))) < 4294967296
     go true e = omega (arith, h (eqb-true _ _ e), formed-points p n o)
     go false e = omega arith
 
 module _ (p : ℕ) (ks ps : List Float) (g : Bool) (ws : List Float) where
-  pub few-inserted : (ts : List Float) {a b c d : ℕ} {k₁ p₁ w₁ s₁ : List Float} {r : EditAnswer} → InsertMeets p ks ps g ws ts a b c d k₁ p₁ w₁ s₁ r → points_of r < 4294967296
+  pub few-inserted : (ts : List Float) {a b c d : ℕ} {k₁ p₁ w₁ s₁ : List Float} {r : (Result FormedCurve Refusal)} → InsertMeets p ks ps g ws ts a b c d k₁ p₁ w₁ s₁ r → points_of r < 4294967296
   unfolding insert_outcome
   few-inserted ts {a} {b} {c} {d} m = few p (count_of ps + length ts) (insert_start p ks ps g ws ts a b c d) _ _ m.answer small
     where
       small : (insert_start p ks ps g ws ts a b c d).number ≡ 0 → count_of ps + length ts < 4294967296
       small z = let o = start-open p ks ps g ws ts a b c d z in let l = o.curve.short.points in let t = o.few in omega arith
 
-  pub few-kept : (lo hi : Float) {a b c d : ℕ} {k₁ p₁ w₁ s₁ : List Float} {r : EditAnswer} → TrimMeets p ks ps g ws lo hi a b c d k₁ p₁ w₁ s₁ r → points_of r < 4294967296
+  pub few-kept : (lo hi : Float) {a b c d : ℕ} {k₁ p₁ w₁ s₁ : List Float} {r : (Result FormedCurve Refusal)} → TrimMeets p ks ps g ws lo hi a b c d k₁ p₁ w₁ s₁ r → points_of r < 4294967296
   unfolding trim_outcome kept_of
   few-kept lo hi {a} {b} {c} {d} m = few p (kept_of p ks lo hi) (trim_start p ks ps g ws lo hi a b c d) _ _ m.answer small
     where
@@ -56,7 +57,7 @@ module _ (p : ℕ) (ks ps : List Float) (g : Bool) (ws : List Float) where
           let h = below-long ks hi in
           omega arith
 
-  pub few-raised : (e : ℕ) {a b c d : ℕ} {k₁ p₁ w₁ s₁ : List Float} {r : EditAnswer} → ElevateMeets p ks ps g ws e a b c d k₁ p₁ w₁ s₁ r → points_of r < 4294967296
+  pub few-raised : (e : ℕ) {a b c d : ℕ} {k₁ p₁ w₁ s₁ : List Float} {r : (Result FormedCurve Refusal)} → ElevateMeets p ks ps g ws e a b c d k₁ p₁ w₁ s₁ r → points_of r < 4294967296
   unfolding elevate_outcome
   few-raised e {a} {b} {c} {d} m = few e (elevated_count p e (count_of ps) ks) (elevate_start p ks ps g ws e a b c d) _ _ m.answer small
     where

@@ -1,7 +1,8 @@
 -- What an exported call answers, and from that the number it returns and the run it leaves. Definitions only.
 use Rattle.std.specs.Prelude.{ℕ, zero, suc, cond, ◌≡◌, List, ◌++◌, length, drop, ltb, Float}
 use Rattle.knots.specs.Clear.{zeros}
-use Rattle.knots.specs.Refusal.{row, length-bad}
+use Rattle.knots.specs.Refusal.{row}
+use Rattle.knots.specs.declared.refusal.Reason.TheVariants.{LengthBad}
 use Rattle.knots.specs.declared.refusal.Refusal.{Refusal}
 use Rattle.exports.specs.Tables.{packed_of}
 
@@ -22,7 +23,7 @@ told r xs = answer_by (packed_of r) xs
 -- the number returned where n doubles are lent: 30 says that the answer has no room
 abbrev pub number : Answer → ℕ → ℕ
 number (refused k) n = k
-number (values xs) n = cond (ltb n (length xs)) (row length-bad).0 0
+number (values xs) n = cond (ltb n (length xs)) (row LengthBad).0 0
 
 -- the lent run of n doubles afterwards
 abbrev pub run : Answer → ℕ → List Float

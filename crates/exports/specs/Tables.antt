@@ -1,10 +1,8 @@
 -- The numbers that stand for refusals with direction and place, for spans, and for the next span. Definitions only.
+use Rattle.std.specs.Prelude.{Option, Some, None, Result}
 use Rattle.std.specs.Prelude.{ℕ, ◌+◌, ◌*◌, cond, ltb, eqb, get_or}
 use Rattle.knots.specs.Numbers.{span_answer_refusal, span_answer_values}
 use Rattle.knots.specs.declared.refusal.Refusal.{Refusal}
-use Rattle.knots.specs.declared.span.SpanAnswer.{SpanAnswer}
-use Rattle.knots.specs.declared.walk.NextSpan.{NextSpan}
-use Rattle.knots.specs.declared.walk.NextSpan.TheVariants.{At, Nothing}
 
 -- what is added for a direction
 abbrev pub along : ℕ → ℕ
@@ -27,10 +25,10 @@ abbrev pub high_of : Refusal → ℕ
 high_of r = r.number * 4294967296 + half_of r.place
 
 -- the span, or the refusal with its number in the high half
-abbrev pub span_number : SpanAnswer → ℕ
+abbrev pub span_number : Result ℕ Refusal → ℕ
 span_number a = high_of (span_answer_refusal a) + get_or (span_answer_values a) 0 0
 
 -- the next span, or the count n where there is none
-abbrev pub next_number : ℕ → NextSpan → ℕ
-next_number n (At s) = s
-next_number n Nothing = n
+abbrev pub next_number : ℕ → Option ℕ → ℕ
+next_number n (Some s) = s
+next_number n None = n

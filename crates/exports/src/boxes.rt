@@ -8,16 +8,17 @@ ghost use Rattle.exports.specs.Answer.{Leaves, values};
 ghost use Rattle.exports.specs.Boxes.{bounded_answer, point_bounded_answer};
 
 use crate::answer::put_refusal;
-use bounds::answer::{Bounded, NurbsBounds, PointBounded, Triple};
+use bounds::answer::{NurbsBounds, Triple};
 use bounds::curve::bound_curve;
 use bounds::point::bound_point;
 use bounds::store::store_triple;
 use bounds::surface::bound_surface;
 use knots::clear::clear;
+use knots::refusal::Refusal;
 
 // The box, then +0.0; 30 where the run has no room for it.
 fn put_box(out: &mut [f64], b: NurbsBounds) -> u64
-    ensures { Leaves (values (bounded_values (Bounded.Are b))) out.old out.new result }
+    ensures { Leaves (values (bounded_values (Ok b))) out.old out.new result }
 {
     clear(out);
     if out.len() < 18 {
@@ -29,18 +30,18 @@ fn put_box(out: &mut [f64], b: NurbsBounds) -> u64
     0
 }
 
-fn put_bounded(out: &mut [f64], a: Bounded) -> u64
+fn put_bounded(out: &mut [f64], a: Result<NurbsBounds, Refusal>) -> u64
     ensures { Leaves (bounded_answer a) out.old out.new result }
 {
     match a {
-        Bounded::Are(b) => put_box(out, b),
-        Bounded::Refused(r) => put_refusal(out, r),
+        Ok(b) => put_box(out, b),
+        Err(r) => put_refusal(out, r),
     }
 }
 
 // The six numbers, then +0.0; 30 where the run has no room for them.
 fn put_triple(out: &mut [f64], t: Triple) -> u64
-    ensures { Leaves (values (point_values (PointBounded.Are t))) out.old out.new result }
+    ensures { Leaves (values (point_values (Ok t))) out.old out.new result }
 {
     clear(out);
     if out.len() < 6 {
@@ -50,12 +51,12 @@ fn put_triple(out: &mut [f64], t: Triple) -> u64
     0
 }
 
-fn put_point(out: &mut [f64], a: PointBounded) -> u64
+fn put_point(out: &mut [f64], a: Result<Triple, Refusal>) -> u64
     ensures { Leaves (point_bounded_answer a) out.old out.new result }
 {
     match a {
-        PointBounded::Are(t) => put_triple(out, t),
-        PointBounded::Refused(r) => put_refusal(out, r),
+        Ok(t) => put_triple(out, t),
+        Err(r) => put_refusal(out, r),
     }
 }
 

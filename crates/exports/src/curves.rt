@@ -1,10 +1,11 @@
 // Curves made of others: reversed, and at a fixed parameter of a surface. The runs hold the made curve, or +0.0.
 ghost use Rattle.std.specs.Prelude.{◌≡◌, length};
+ghost use Rattle.knots.specs.Refusal.{checked};
 ghost use Rattle.made.specs.Reverse.{reverse_refusal, ReverseMeets};
 ghost use Rattle.made.specs.IsoCurve.{iso_refusal, IsoMeets};
 ghost use Rattle.exports.specs.Tables.{packed_of};
 
-use crate::tables::packed;
+use crate::tables::packed_check;
 use made::iso_curve::iso_curve;
 use made::reverse::reversed;
 
@@ -20,9 +21,9 @@ pub fn tasulogi_reversed(
     out_weights: &mut [f64],
 ) -> u64
     ensures value { result ≡ packed_of (reverse_refusal degree knots.now points.now rational weights.now (length out_knots.old) (length out_points.old) (length out_weights.old)) }
-    ensures reverse_meets { ReverseMeets degree knots.now points.now rational weights.now (length out_knots.old) (length out_points.old) (length out_weights.old) out_knots.new out_points.new out_weights.new (reverse_refusal degree knots.now points.now rational weights.now (length out_knots.old) (length out_points.old) (length out_weights.old)) }
+    ensures reverse_meets { ReverseMeets degree knots.now points.now rational weights.now (length out_knots.old) (length out_points.old) (length out_weights.old) out_knots.new out_points.new out_weights.new (checked (reverse_refusal degree knots.now points.now rational weights.now (length out_knots.old) (length out_points.old) (length out_weights.old))) }
 {
-    packed(reversed(
+    packed_check(reversed(
         degree,
         knots,
         points,
@@ -51,9 +52,9 @@ pub fn tasulogi_iso_curve(
     ow: &mut [f64],
 ) -> u64
     ensures value { result ≡ packed_of (iso_refusal p q uk.now vk.now un vn points.now rational weights.now constant_u t (length op.old) (length ow.old)) }
-    ensures iso_meets { IsoMeets p q uk.now vk.now un vn points.now rational weights.now constant_u t (length op.old) (length ow.old) op.new ow.new (iso_refusal p q uk.now vk.now un vn points.now rational weights.now constant_u t (length op.old) (length ow.old)) }
+    ensures iso_meets { IsoMeets p q uk.now vk.now un vn points.now rational weights.now constant_u t (length op.old) (length ow.old) op.new ow.new (checked (iso_refusal p q uk.now vk.now un vn points.now rational weights.now constant_u t (length op.old) (length ow.old))) }
 {
-    packed(iso_curve(
+    packed_check(iso_curve(
         p, q, uk, vk, un, vn, points, rational, weights, constant_u, t, op, ow,
     ))
 }

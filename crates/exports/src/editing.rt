@@ -8,18 +8,19 @@ ghost use Rattle.elevation.specs.Whole.{elevated_count, elevate_outcome, Elevate
 ghost use Rattle.exports.specs.Edits.{points_of, edit_number};
 
 use crate::tables::packed;
-use edits::answer::EditAnswer;
+use edits::answer::FormedCurve;
 use elevation::elevate::elevate_degree;
 use insertion::insert::insert_knots;
+use knots::refusal::Refusal;
 use trimming::trim::trim;
 
-fn edit_number(a: EditAnswer) -> u64
+fn edit_number(a: Result<FormedCurve, Refusal>) -> u64
     requires { points_of a < 4294967296 }
     ensures { result ≡ edit_number a }
 {
     match a {
-        EditAnswer::Formed { degree, count } => count as u64 * 0x1_0000_0000,
-        EditAnswer::Refused(r) => packed(r),
+        Ok(formed) => formed.count as u64 * 0x1_0000_0000,
+        Err(r) => packed(r),
     }
 }
 

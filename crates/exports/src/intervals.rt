@@ -6,8 +6,9 @@ ghost use Rattle.exports.specs.Answer.{Leaves, values};
 ghost use Rattle.exports.specs.Intervals.{operation_of, ends, new_answer, quotient_answer, on_new, on_both, both_of, sign_number, inside_number};
 
 use crate::answer::{put, put_one, refuse};
-use crate::operands::{Both, pair};
-use interval::{Interval, New, Quotient, Sign};
+use crate::operands::pair;
+use interval::{Interval, Sign};
+use knots::refusal::Refusal;
 
 // What is returned where two doubles are no interval: document 01 has no number for it.
 const NO_INTERVAL: u32 = 99;
@@ -42,10 +43,9 @@ fn operation(code: u32, a: Interval, b: Interval) -> Interval
 fn binary(code: u32, al: f64, ah: f64, bl: f64, bh: f64, out: &mut [f64]) -> u32
     ensures { Leaves (on_both (both_of (new_of al ah) (new_of bl bh)) (λ a b. ends (operation_of code a b))) out.old out.new result }
 {
-    let p = pair(al, ah, bl, bh);
-    match p {
-        Both::Are(a, b) => put(out, operation(code, a, b)),
-        Both::Nothing => refuse(out, NO_INTERVAL),
+    match pair(al, ah, bl, bh) {
+        Some((a, b)) => put(out, operation(code, a, b)),
+        None => refuse(out, NO_INTERVAL),
     }
 }
 
@@ -66,10 +66,9 @@ pub fn tasulogi_interval_entire(out: &mut [f64]) -> u32
 pub fn tasulogi_interval_new(lo: f64, hi: f64, out: &mut [f64]) -> u32
     ensures { Leaves (new_answer (new_of lo hi)) out.old out.new result }
 {
-    let n = Interval::new(lo, hi);
-    match n {
-        New::Made(a) => put(out, a),
-        New::Nothing => refuse(out, NO_INTERVAL),
+    match Interval::new(lo, hi) {
+        Some(a) => put(out, a),
+        None => refuse(out, NO_INTERVAL),
     }
 }
 
@@ -84,10 +83,9 @@ pub fn tasulogi_interval_point(x: f64, out: &mut [f64]) -> u32
 pub fn tasulogi_interval_width(lo: f64, hi: f64, out: &mut [f64]) -> u32
     ensures { Leaves (on_new (new_of lo hi) (λ a. values (width_of a ∷ []))) out.old out.new result }
 {
-    let n = Interval::new(lo, hi);
-    match n {
-        New::Made(a) => put_one(out, a.width()),
-        New::Nothing => refuse(out, NO_INTERVAL),
+    match Interval::new(lo, hi) {
+        Some(a) => put_one(out, a.width()),
+        None => refuse(out, NO_INTERVAL),
     }
 }
 
@@ -95,10 +93,9 @@ pub fn tasulogi_interval_width(lo: f64, hi: f64, out: &mut [f64]) -> u32
 pub fn tasulogi_interval_contains(lo: f64, hi: f64, x: f64) -> u32
     ensures { result ≡ inside_number (new_of lo hi) x }
 {
-    let n = Interval::new(lo, hi);
-    match n {
-        New::Made(a) => { if a.contains(x) { 1 } else { 0 } }
-        New::Nothing => NO_INTERVAL,
+    match Interval::new(lo, hi) {
+        Some(a) => { if a.contains(x) { 1 } else { 0 } }
+        None => NO_INTERVAL,
     }
 }
 
@@ -106,18 +103,14 @@ pub fn tasulogi_interval_contains(lo: f64, hi: f64, x: f64) -> u32
 pub fn tasulogi_interval_sign(lo: f64, hi: f64) -> u32
     ensures { result ≡ sign_number (new_of lo hi) }
 {
-    let n = Interval::new(lo, hi);
-    match n {
-        New::Made(a) => {
-            let s = a.sign();
-            match s {
-                Sign::Positive => 1,
-                Sign::Negative => 2,
-                Sign::Zero => 3,
-                Sign::Unknown => 0,
-            }
-        }
-        New::Nothing => NO_INTERVAL,
+    match Interval::new(lo, hi) {
+        Some(a) => match a.sign() {
+            Sign::Positive => 1,
+            Sign::Negative => 2,
+            Sign::Zero => 3,
+            Sign::Unknown => 0,
+        },
+        None => NO_INTERVAL,
     }
 }
 
@@ -164,16 +157,11 @@ pub fn tasulogi_interval_divide(al: f64, ah: f64, bl: f64, bh: f64, out: &mut [f
     ensures leaves { Leaves (on_both (both_of (new_of al ah) (new_of bl bh)) (λ a b. quotient_answer (divide_of a b))) out.old out.new result }
     ensures not_idle { NotIdle result }
 {
-    let p = pair(al, ah, bl, bh);
-    match p {
-        Both::Are(a, b) => {
-            let q = interval::reciprocal(b);
-            match q {
-                Quotient::Is(r) => put(out, a.mul(r)),
-                Quotient::HoldsZero => refuse(out, 26),
-                Quotient::Unbounded => refuse(out, 28),
-            }
-        }
-        Both::Nothing => refuse(out, NO_INTERVAL),
+    match pair(al, ah, bl, bh) {
+        Some((a, b)) => match interval::reciprocal(b) {
+            Ok(r) => put(out, a.mul(r)),
+            Err(e) => refuse(out, Refusal::from(e).number),
+        },
+        None => refuse(out, NO_INTERVAL),
     }
 }

@@ -3,25 +3,13 @@ ghost use Rattle.std.specs.Prelude.{◌≡◌};
 ghost use Rattle.interval.specs.Ops.{new_of};
 ghost use Rattle.exports.specs.Intervals.{both_of};
 
-use interval::{Interval, New};
+use interval::Interval;
 
-#[derive(Clone, Copy)]
-pub enum Both {
-    Are(Interval, Interval),
-    Nothing,
-}
-
-// Both operands, or nothing where one of them is no interval.
-pub fn pair(al: f64, ah: f64, bl: f64, bh: f64) -> Both
+// Both operands, or none where one of them is no interval.
+pub fn pair(al: f64, ah: f64, bl: f64, bh: f64) -> Option<(Interval, Interval)>
     ensures { result ≡ both_of (new_of al ah) (new_of bl bh) }
 {
-    let a = Interval::new(al, ah);
-    let b = Interval::new(bl, bh);
-    match a {
-        New::Made(x) => match b {
-            New::Made(y) => Both::Are(x, y),
-            New::Nothing => Both::Nothing,
-        },
-        New::Nothing => Both::Nothing,
-    }
+    let a = Interval::new(al, ah)?;
+    let b = Interval::new(bl, bh)?;
+    Some((a, b))
 }

@@ -9,10 +9,11 @@ ghost use Rattle.exports.specs.Answer.{Leaves, values};
 ghost use Rattle.exports.specs.Points.{curve_answer, curve2_answer, surface_answer};
 
 use crate::answer::put_refusal;
-use evaluate::curve::{CurveAnswer, eval, eval_clamped};
-use evaluate::curve2::{CurveAnswer2, eval2, eval2_clamped};
-use evaluate::surface::{SurfaceAnswer, eval_surface, eval_surface_clamped};
+use evaluate::curve::{CurveDerivs, eval, eval_clamped};
+use evaluate::curve2::{CurveDerivs2, eval2, eval2_clamped};
+use evaluate::surface::{SurfaceDerivs, eval_surface, eval_surface_clamped};
 use knots::clear::clear;
+use knots::refusal::Refusal;
 use runs::store::store_vector;
 use runs::vector::Vector;
 
@@ -44,32 +45,32 @@ fn put_three_vectors(out: &mut [f64], a: Vector, b: Vector, c: Vector) -> u64
 }
 
 // A curve's point and first derivative, or the refusal.
-pub fn put_curve(out: &mut [f64], a: CurveAnswer) -> u64
+pub fn put_curve(out: &mut [f64], a: Result<CurveDerivs, Refusal>) -> u64
     ensures { Leaves (curve_answer a) out.old out.new result }
 {
     match a {
-        CurveAnswer::At(d) => put_vectors(out, d.point, d.d1),
-        CurveAnswer::Refused(r) => put_refusal(out, r),
+        Ok(d) => put_vectors(out, d.point, d.d1),
+        Err(r) => put_refusal(out, r),
     }
 }
 
 // Its point and two derivatives, or the refusal.
-fn put_curve2(out: &mut [f64], a: CurveAnswer2) -> u64
+fn put_curve2(out: &mut [f64], a: Result<CurveDerivs2, Refusal>) -> u64
     ensures { Leaves (curve2_answer a) out.old out.new result }
 {
     match a {
-        CurveAnswer2::At(d) => put_three_vectors(out, d.point, d.d1, d.d2),
-        CurveAnswer2::Refused(r) => put_refusal(out, r),
+        Ok(d) => put_three_vectors(out, d.point, d.d1, d.d2),
+        Err(r) => put_refusal(out, r),
     }
 }
 
 // A surface's point and its derivatives along u and v, or the refusal.
-fn put_surface(out: &mut [f64], a: SurfaceAnswer) -> u64
+fn put_surface(out: &mut [f64], a: Result<SurfaceDerivs, Refusal>) -> u64
     ensures { Leaves (surface_answer a) out.old out.new result }
 {
     match a {
-        SurfaceAnswer::At(s) => put_three_vectors(out, s.point, s.du, s.dv),
-        SurfaceAnswer::Refused(r) => put_refusal(out, r),
+        Ok(s) => put_three_vectors(out, s.point, s.du, s.dv),
+        Err(r) => put_refusal(out, r),
     }
 }
 

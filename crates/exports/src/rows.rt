@@ -8,27 +8,27 @@ ghost use Rattle.many.specs.RowsHold.{RowsHold, PointRowsHold};
 ghost use Rattle.exports.specs.Rows.{rows_number, rows_count};
 
 use crate::tables::{high, packed};
-use many::answer::ManyAnswer;
+use knots::refusal::Refusal;
 use many::boxes::{bound_points, bound_spans};
 use many::points::{eval_many, eval_many_clamped, eval2_many, eval2_many_clamped};
 
 // 0, or the refusal, packed.
-fn rows_number(a: ManyAnswer) -> u64
+fn rows_number(a: Result<usize, Refusal>) -> u64
     ensures { result ≡ rows_number a }
 {
     match a {
-        ManyAnswer::Rows(n) => 0,
-        ManyAnswer::Refused(r) => packed(r),
+        Ok(_) => 0,
+        Err(r) => packed(r),
     }
 }
 
 // How many rows there are, or a refusal with its number in the high half, where no count reaches.
-fn rows_count(a: ManyAnswer) -> u64
+fn rows_count(a: Result<usize, Refusal>) -> u64
     ensures { result ≡ rows_count a }
 {
     match a {
-        ManyAnswer::Rows(n) => n as u64,
-        ManyAnswer::Refused(r) => high(r),
+        Ok(n) => n as u64,
+        Err(r) => high(r),
     }
 }
 

@@ -5,16 +5,17 @@ ghost use Rattle.knots.specs.Walk.{next_span};
 ghost use Rattle.exports.specs.Tables.{span_number, next_number};
 
 use crate::tables::high;
-use knots::span::{SpanAnswer, clamp, find_span, find_span_clamped};
-use knots::walk::{NextSpan, next_span};
+use knots::refusal::Refusal;
+use knots::span::{clamp, find_span, find_span_clamped};
+use knots::walk::next_span;
 
 // A span, or a refusal with its number in the high half.
-fn span_number(a: SpanAnswer) -> u64
+fn span_number(a: Result<usize, Refusal>) -> u64
     ensures { result ≡ span_number a }
 {
     match a {
-        SpanAnswer::Span(s) => s as u64,
-        SpanAnswer::Refused(r) => high(r),
+        Ok(s) => s as u64,
+        Err(r) => high(r),
     }
 }
 
@@ -36,11 +37,7 @@ pub fn tasulogi_find_span_clamped(degree: usize, count: usize, knots: &[f64], u:
 pub fn tasulogi_next_span(degree: usize, count: usize, knots: &[f64], from: usize) -> usize
     ensures { result ≡ next_number count (next_span degree count knots.now from) }
 {
-    let a = next_span(degree, count, knots, from);
-    match a {
-        NextSpan::At(s) => s,
-        NextSpan::Nothing => count,
-    }
+    next_span(degree, count, knots, from).unwrap_or(count)
 }
 
 // The clamped parameter: u, or the nearer end of the domain.

@@ -1,6 +1,7 @@
 // Validation of curves and surfaces, and the class of a refusal.
 ghost use Rattle.std.specs.Prelude.{◌<◌, ◌≡◌};
-ghost use Rattle.knots.specs.Refusal.{class_of};
+ghost use Rattle.knots.specs.Refusal.{class_of, accepted, checked};
+ghost use Rattle.knots.specs.declared.refusal.Refusal.{Refusal};
 ghost use Rattle.knots.specs.Curve.{curve_refusal};
 ghost use Rattle.knots.specs.Surface.{surface_refusal};
 ghost use Rattle.exports.specs.Tables.{directed_of, half_of, packed_of, high_of};
@@ -51,6 +52,16 @@ pub fn high(r: Refusal) -> u64
     r.number as u64 * 0x1_0000_0000 + half(r.place)
 }
 
+// 0 where nothing is refused, before anything is packed; else the refusal, packed.
+pub fn packed_check(answer: Result<(), Refusal>) -> u64
+    ensures { (a : Refusal) → (a.number ≡ 0 → a ≡ accepted) → answer ≡ checked a → result ≡ packed_of a }
+{
+    match answer {
+        Ok(()) => 0,
+        Err(r) => packed(r),
+    }
+}
+
 // Invalid 0, degenerate 1, unimplemented 2, capacity 3, internal 4; 5 for what is no refusal number.
 pub fn tasulogi_class_of(number: u32) -> u8
     ensures { result ≡ class_of number }
@@ -58,7 +69,7 @@ pub fn tasulogi_class_of(number: u32) -> u8
     class_of(number)
 }
 
-// 0 for a valid curve, before anything is packed; else its refusal, packed.
+// 0 for a valid curve, else its refusal, packed.
 pub fn tasulogi_curve_refusal(
     degree: usize,
     knots: &[f64],
@@ -68,11 +79,7 @@ pub fn tasulogi_curve_refusal(
 ) -> u64
     ensures { result ≡ packed_of (curve_refusal degree knots.now points.now rational weights.now) }
 {
-    let r = curve_refusal(degree, knots, points, rational, weights);
-    if r.number == 0 {
-        return 0;
-    }
-    packed(r)
+    packed_check(curve_refusal(degree, knots, points, rational, weights))
 }
 
 // 0 for a valid surface, else its refusal, packed.
@@ -89,5 +96,5 @@ pub fn tasulogi_surface_refusal(
 ) -> u64
     ensures { result ≡ packed_of (surface_refusal p q uk.now vk.now un vn points.now rational weights.now) }
 {
-    packed(surface_refusal(p, q, uk, vk, un, vn, points, rational, weights))
+    packed_check(surface_refusal(p, q, uk, vk, un, vn, points, rational, weights))
 }

@@ -1,5 +1,6 @@
 -- Insertions one after the other into a curve that stands in a run: what the calls answer and leave is what the fold says.
 -- Assumes nothing.
+use Rattle.std.specs.Prelude.{Result, Ok, Err}
 use Prim.Native.Nat.{ℕ, ◌+◌, ◌*◌, ◌≤◌}
 use mathlib.Core.Bool.{Bool, true, false, cond}
 use mathlib.Core.Path.{◌≡◌, refl, sym, ◌∙◌, ap, subst}
@@ -9,12 +10,12 @@ use borrow.Author.Tests.{eqb-false, eq-eqb}
 use lib.ListN.{length, replicate, length-replicate}
 use lib.Dec.{eqb}
 use lib.Ieee.{Float}
-use Rattle.knots.specs.Refusal.{accepted}
+use Rattle.knots.specs.Refusal.{checked}
 use Rattle.knots.specs.Clear.{zeros}
 use Rattle.knots.specs.Curve.{count_of}
 use Rattle.knots.specs.Knots.{knot_refusal, ValidKnots}
 use Rattle.knots.specs.declared.refusal.Refusal.{Refusal}
-use Rattle.knots.proofs.Refusals.{skip}
+use Rattle.knots.proofs.Refusals.{let_by, stopped_by}
 use Rattle.knots.proofs.Valid.{not-refused}
 use Rattle.edits.specs.Rows.{given}
 use Rattle.insertion.specs.Insert.{inserted_knots, inserted_points, inserted_weights, insert_refusal}
@@ -102,7 +103,7 @@ module _ (a p n : ℕ) (g : Bool) (d ks ps ws : List Float) (v : ValidKnots p n 
   opens =
       let long = laid-long a d ks ps g ws in
       let e = work-fits (n + m) (n + m + p + 1) a (length L) x (omega (arith, long)) in
-      simp (skip {r = accepted} e refl) (ap (λ (l : List Float). (knot_refusal p n l).number) knots-are ∙ ap (λ (r : Refusal). r.number) (not-refused p n ks v))
+      simp (ap (λ (r : Refusal). eqb r.number 0) (sym e)) (ap (λ (l : List Float). (knot_refusal p n l).number) knots-are ∙ ap (λ (r : Refusal). r.number) (not-refused p n ks v))
 
   times-goal : times_outcome p n m a L g t ≡ goal
   unfolding times_outcome
@@ -117,20 +118,21 @@ module _ (a p n : ℕ) (g : Bool) (d ks ps ws : List Float) (v : ValidKnots p n 
       laid-laid a d ks ps g ws ls qs vs (omega (arith, count)) (omega (arith, v.long)) (omega arith) (omega arith)
   over (refuses r) e = ap zeros (laid-long a d ks ps g ws)
 
-  pub chained : (w w₁ : List Float) (r : Refusal) → w ≡ L → r ≡ refusal_of (times_outcome p n m a w g t) → w₁ ≡ work_in a g w (times_outcome p n m a w g t)
-      → (r ≡ refusal_of goal) × (w₁ ≡ work_in a g d goal)
+  pub chained : (w w₁ : List Float) (r : Result Unit Refusal) → w ≡ L → r ≡ checked (refusal_of (times_outcome p n m a w g t)) → w₁ ≡ work_in a g w (times_outcome p n m a w g t)
+      → (r ≡ checked (refusal_of goal)) × (w₁ ≡ work_in a g d goal)
   chained w w₁ r e R Z = (
-    R ∙ (ap (λ (l : List Float). refusal_of (times_outcome p n m a l g t)) e ∙ ap refusal_of times-goal),
+    R ∙ (ap (λ (l : List Float). checked (refusal_of (times_outcome p n m a l g t))) e ∙ ap (λ (o : Outcome). checked (refusal_of o)) times-goal),
     Z ∙ (ap (λ (l : List Float). work_in a g l (times_outcome p n m a l g t)) e ∙ (ap (work_in a g L) times-goal ∙ over goal refl)),
   )
 
 -- ---- what an outcome says, by its refusal
-pub refused-is : (p : ℕ) (g : Bool) (n : ℕ) (ks ps ws ts : List Float) (r : Refusal) → r ≡ refusal_of (insert_all p g n ks ps ws ts) → (r.number ≡ 0 → ⊥) → insert_all p g n ks ps ws ts ≡ refuses r
-refused-is p g n ks ps ws ts r e h = go (insert_all p g n ks ps ws ts) refl
+pub refused-is : (p : ℕ) (g : Bool) (n : ℕ) (ks ps ws ts : List Float) (r : Refusal) → Err r ≡ checked (refusal_of (insert_all p g n ks ps ws ts)) → insert_all p g n ks ps ws ts ≡ refuses r
+unfolding checked
+refused-is p g n ks ps ws ts r e = go (insert_all p g n ks ps ws ts) refl
   where
     go : (o : Outcome) → insert_all p g n ks ps ws ts ≡ o → insert_all p g n ks ps ws ts ≡ refuses r
-    go (gives ls qs vs) f = absurd (h (ap (λ (x : Refusal). x.number) (e ∙ ap refusal_of f)))
-    go (refuses x) f = f ∙ ap refuses (sym (e ∙ ap refusal_of f))
+    go (gives ls qs vs) f = let no = e ∙ ap (λ (o : Outcome). checked (refusal_of o)) f in cc
+    go (refuses x) f = f ∙ ap refuses (sym (stopped_by x (e ∙ ap (λ (o : Outcome). checked (refusal_of o)) f)).0)
 
 pub record Given (p : ℕ) (g : Bool) (n : ℕ) (ks ps ws ts : List Float) : Type 0 where
   pub knots : List Float
@@ -138,9 +140,9 @@ pub record Given (p : ℕ) (g : Bool) (n : ℕ) (ks ps ws ts : List Float) : Typ
   pub weights : List Float
   pub is : insert_all p g n ks ps ws ts ≡ gives knots points weights
 
-pub given_is : (p : ℕ) (g : Bool) (n : ℕ) (ks ps ws ts : List Float) (r : Refusal) → r ≡ refusal_of (insert_all p g n ks ps ws ts) → r.number ≡ 0 → Given p g n ks ps ws ts
-given_is p g n ks ps ws ts r e z = go (insert_all p g n ks ps ws ts) refl
+pub given_is : (p : ℕ) (g : Bool) (n : ℕ) (ks ps ws ts : List Float) → Ok tt ≡ checked (refusal_of (insert_all p g n ks ps ws ts)) → Given p g n ks ps ws ts
+given_is p g n ks ps ws ts e = go (insert_all p g n ks ps ws ts) refl
   where
     go : (o : Outcome) → insert_all p g n ks ps ws ts ≡ o → Given p g n ks ps ws ts
     go (gives ls qs vs) f = record { knots = ls; points = qs; weights = vs; is = f }
-    go (refuses x) f = absurd (refuses-some p g n ks ps ws ts x f (ap (λ (y : Refusal). y.number) (sym (e ∙ ap refusal_of f)) ∙ z))
+    go (refuses x) f = absurd (refuses-some p g n ks ps ws ts x f (let_by x (e ∙ ap (λ (o : Outcome). checked (refusal_of o)) f)))

@@ -1,6 +1,7 @@
 -- The loop over a list of knots: what is left of the fold.
 -- Assumes nothing.
-use Prim.Native.Nat.{ℕ, suc, ◌+◌, ◌-◌, ◌*◌, ◌≤◌, ◌<◌}
+use Rattle.std.specs.Prelude.{Ok, Err}
+use Prim.Native.Nat.{ℕ, suc, ◌+◌, ◌-◌, ◌≤◌, ◌<◌}
 use mathlib.Core.Bool.{Bool, not}
 use mathlib.Core.Path.{◌≡◌, refl, sym, ◌∙◌, ap, subst}
 use mathlib.Core.List.{List, [], ◌∷◌}
@@ -12,12 +13,13 @@ use lib.Seq.{drop-cons}
 use lib.Ieee.{Float, nan}
 use Rattle.doubles.specs.Run.{at}
 use Rattle.knots.specs.Below.{all_below}
-use Rattle.knots.specs.Refusal.{refuse, control-bad, edit-bad}
+use Rattle.knots.specs.Refusal.{refuse}
+use Rattle.knots.specs.declared.refusal.Reason.TheVariants.{ControlBad, EditBad}
 use Rattle.knots.specs.Knots.{ValidKnots}
 use Rattle.knots.specs.Curve.{ValidControls}
 use Rattle.knots.specs.Span.{span_of}
 use Rattle.knots.specs.declared.refusal.Refusal.{Refusal}
-use Rattle.knots.proofs.Refusals.{or_else-none, passed, stop, skip}
+use Rattle.knots.proofs.Refusals.{or_else-none, passed, let_by, skip, stop, stopped_by}
 use Rattle.knots.proofs.Curves.{valid-formed}
 use Rattle.edits.specs.Control.{is_lifted, is_blended}
 use Rattle.edits.specs.Counts.{multiplicity_of}
@@ -38,8 +40,8 @@ module _ (p n : ℕ) (ks ps : List Float) (g : Bool) (ws : List Float) (t : Floa
       let k = span_of p n ks t in
       let s = multiplicity_of ks t in
       let a = or_else-none (spot_refusal (at ks p) (at ks n) t p s) (form_refusal p n k s t ks ps g ws) h in
-      let b = passed (not (all_below (λ i. is_lifted (lifted p n k s t ks ps g ws i)) n)) (refuse control-bad) _ (λ e. omega arith) a.1 in
-      let c = passed (not (all_below (λ i. is_blended (blended p n k s t ks ps g ws i)) (n + 1))) (refuse edit-bad) _ (λ e. omega arith) b.1 in
+      let b = passed (not (all_below (λ i. is_lifted (lifted p n k s t ks ps g ws i)) n)) (refuse ControlBad) _ (λ e. omega arith) a.1 in
+      let c = passed (not (all_below (λ i. is_blended (blended p n k s t ks ps g ws i)) (n + 1))) (refuse EditBad) _ (λ e. omega arith) b.1 in
       valid-formed p (n + 1) (more_knots k t ks) (more_points p n k s t ks ps g ws) g (more_weights p n k s t ks ps g ws) c.1
 
   pub inserted-valid : (insert_refusal p n ks ps g ws t).number ≡ 0 → ValidKnots p (n + 1) (inserted_knots p n ks ps g ws t)
@@ -52,34 +54,33 @@ pub record Going (a p : ℕ) (g : Bool) (goal : Outcome) (w₀ w₁ : List Float
   pub others : (j : ℕ) → Untouched g n j → Outside a p n j → at w₁ j ≡ at w₀ j
 
 module _ (a p : ℕ) (g : Bool) (goal : Outcome) (w₀ w₁ : List Float) (n : ℕ) where
-  module _ (t : Float) (rest : List Float) (G : Going a p g goal w₀ w₁ n (t ∷ rest)) (w₂ : List Float) (r : Refusal)
-      (I : Inserted a p n (knots_from a p n w₁) (points_from n w₁) g (weights_from g n w₁) t w₁ w₂ r) where
-    going-refuses : (r.number ≡ 0 → ⊥) → (m : ℕ) → ListMeets a p m g w₀ goal w₂ r
+  module _ (t : Float) (rest : List Float) (G : Going a p g goal w₀ w₁ n (t ∷ rest)) (w₂ : List Float) where
+    going-refuses : (r : Refusal) → Inserted a p n (knots_from a p n w₁) (points_from n w₁) g (weights_from g n w₁) t w₁ w₂ (Err r) → (m : ℕ) → ListMeets a p m g w₀ goal w₂ (Err r)
     unfolding insert_all ListMeets
-    going-refuses h m =
-        let e : goal ≡ refuses r = G.left ∙ simp (stop I.refusal h) (ap refuses (sym I.refusal)) in
-        rw e ((refl, h))
+    going-refuses r I m =
+        let e : goal ≡ refuses r = G.left ∙ simp (stop _ I.refusal) (ap refuses (sym (stopped_by _ I.refusal).0)) in
+        rw e refl
 
-    going_more : r.number ≡ 0 → Going a p g goal w₀ w₂ (n + 1) rest
+    going_more : Inserted a p n (knots_from a p n w₁) (points_from n w₁) g (weights_from g n w₁) t w₁ w₂ (Ok tt) → Going a p g goal w₀ w₂ (n + 1) rest
     unfolding insert_all
-    going_more z =
-        let e : (insert_refusal p n (knots_from a p n w₁) (points_from n w₁) g (weights_from g n w₁) t).number ≡ 0 = sym (ap (λ (x : Refusal). x.number) I.refusal) ∙ z in
+    going_more I =
+        let e : (insert_refusal p n (knots_from a p n w₁) (points_from n w₁) g (weights_from g n w₁) t).number ≡ 0 = let_by _ I.refusal in
         let v = inserted-valid p n (knots_from a p n w₁) (points_from n w₁) g (weights_from g n w₁) t e in
-        let H = I.holds z in
+        let H = I.holds refl in
         record {
           valid = subst (ValidKnots p (n + 1)) (sym H.knots) v;
-          left = G.left ∙ simp (skip I.refusal z) (moved (sym H.knots) (sym H.points) (sym H.weights));
+          left = G.left ∙ simp (skip _ I.refusal) (moved (sym H.knots) (sym H.points) (sym H.weights));
           others = λ j u o. H.rest j u o ∙ G.others j (untouched-less g n j u) (outside-less a p n j o);
         }
       where
         moved : {i i' j j' l l' : List Float} → i ≡ i' → j ≡ j' → l ≡ l' → insert_all p g (n + 1) i j l rest ≡ insert_all p g (n + 1) i' j' l' rest
         moved X Y Z = rw (X, Y, Z)
 
-  going_done : Going a p g goal w₀ w₁ n [] → (r : Refusal) → r.number ≡ 0 → ListMeets a p n g w₀ goal w₁ r
+  going_done : Going a p g goal w₀ w₁ n [] → ListMeets a p n g w₀ goal w₁ (Ok tt)
   unfolding insert_all ListMeets
-  going_done G r z =
+  going_done G =
       let e : goal ≡ gives (knots_from a p n w₁) (points_from n w₁) (weights_from g n w₁) = G.left in
-      rw e ((z, record { knots = refl; points = refl; weights = refl; rest = G.others }))
+      rw e ((refl, record { knots = refl; points = refl; weights = refl; rest = G.others }))
 
 -- ---- i of the m knots of a list ts are inserted, and left i is what is left of it
 module _ (a p : ℕ) (g : Bool) (n m : ℕ) (ts : List Float) (left : ℕ → List Float) (w₀ : List Float) where
@@ -103,32 +104,29 @@ module _ (a p : ℕ) (g : Bool) (n m : ℕ) (ts : List Float) (left : ℕ → Li
 
   module _ (w₁ : List Float) (i : ℕ) (I : InTurns w₁ i) where
     module _ (b : i < m) where
-      pub turns-room : (n + m) * 4 ≤ a → a + (n + m + p + 1) ≤ length w₀ → ValidKnots p (n + i) (knots_from a p (n + i) w₁) × (((n + i + 1) * 4 ≤ a) × (a + (n + i + p + 1) < length w₁))
-      turns-room x y = let l = I.long in (I.going.valid, (omega arith, omega arith))
-
-      module _ (t : Float) (T : left i ≡ t ∷ left (i + 1)) (w₂ : List Float) (r : Refusal)
-          (D : Inserted a p (n + i) (knots_from a p (n + i) w₁) (points_from (n + i) w₁) g (weights_from g (n + i) w₁) t w₁ w₂ r) where
+      module _ (t : Float) (T : left i ≡ t ∷ left (i + 1)) (w₂ : List Float) where
         next : Going a p g aim w₀ w₁ (n + i) (t ∷ left (i + 1))
         next = subst (λ (l : List Float). Going a p g aim w₀ w₁ (n + i) l) T I.going
 
-        pub turns-stop : (r.number ≡ 0 → ⊥) → ListMeets a p (n + m) g w₀ aim w₂ r
-        turns-stop h = going-refuses a p g aim w₀ w₁ (n + i) t (left (i + 1)) next w₂ r D h (n + m)
+        pub turns-stop : (r : Refusal) → Inserted a p (n + i) (knots_from a p (n + i) w₁) (points_from (n + i) w₁) g (weights_from g (n + i) w₁) t w₁ w₂ (Err r)
+            → ListMeets a p (n + m) g w₀ aim w₂ (Err r)
+        turns-stop r D = going-refuses a p g aim w₀ w₁ (n + i) t (left (i + 1)) next w₂ r D (n + m)
 
-        pub turns_more : r.number ≡ 0 → length w₂ ≡ length w₁ → InTurns w₂ (i + 1)
-        turns_more z L =
+        pub turns_more : Inserted a p (n + i) (knots_from a p (n + i) w₁) (points_from (n + i) w₁) g (weights_from g (n + i) w₁) t w₁ w₂ (Ok tt) → length w₂ ≡ length w₁ → InTurns w₂ (i + 1)
+        turns_more D L =
             let e : n + i + 1 ≡ n + (i + 1) = omega arith in
             record {
               upto = omega arith;
               long = L ∙ I.long;
-              going = subst (λ (k : ℕ). Going a p g aim w₀ w₂ k (left (i + 1))) e (going_more a p g aim w₀ w₁ (n + i) t (left (i + 1)) next w₂ r D z);
+              going = subst (λ (k : ℕ). Going a p g aim w₀ w₂ k (left (i + 1))) e (going_more a p g aim w₀ w₁ (n + i) t (left (i + 1)) next w₂ D);
             }
 
-    pub turns-end : m ≤ i → left m ≡ [] → (r : Refusal) → r.number ≡ 0 → ListMeets a p (n + m) g w₀ aim w₁ r
-    turns-end b E r z =
+    pub turns-end : m ≤ i → left m ≡ [] → ListMeets a p (n + m) g w₀ aim w₁ (Ok tt)
+    turns-end b E =
         let U = I.upto in
         let e : i ≡ m = omega arith in
-        subst (λ (k : ℕ). ListMeets a p (n + k) g w₀ aim w₁ r) e
-        (going_done a p g aim w₀ w₁ (n + i) (subst (λ (l : List Float). Going a p g aim w₀ w₁ (n + i) l) (ap left e ∙ E) I.going) r z)
+        subst (λ (k : ℕ). ListMeets a p (n + k) g w₀ aim w₁ (Ok tt)) e
+        (going_done a p g aim w₀ w₁ (n + i) (subst (λ (l : List Float). Going a p g aim w₀ w₁ (n + i) l) (ap left e ∙ E) I.going))
 
 -- of a list
 pub drop-next : (ts : List Float) (i : ℕ) → i < length ts → drop i ts ≡ at ts i ∷ drop (i + 1) ts
@@ -140,9 +138,6 @@ drop-last ts = drop_of_length-le ts {i = length ts} (omega arith)
 -- of one knot
 pub more-next : (t : Float) (m i : ℕ) → i < m → replicate (m - i) t ≡ t ∷ replicate (m - (i + 1)) t
 more-next t m i b = let e : m - i ≡ suc (m - (i + 1)) = omega arith in ap (λ (k : ℕ). replicate k t) e
-
-pub more-first : (t : Float) (m : ℕ) → replicate m t ≡ replicate (m - 0) t
-more-first t m = let e : m ≡ m - 0 = omega arith in ap (λ (k : ℕ). replicate k t) e
 
 pub more-last : (t : Float) (m : ℕ) → replicate (m - m) t ≡ []
 more-last t m = let e : m - m ≡ 0 = omega arith in ap (λ (k : ℕ). replicate k t) e

@@ -1,5 +1,6 @@
 -- The curve that is given, laid into scratch: what is read back from there.
 -- Assumes nothing.
+use Rattle.std.specs.Prelude.{Result, Ok}
 use Prim.Native.Nat.{ℕ, ◌+◌, ◌*◌, ◌/◌, ◌≤◌}
 use mathlib.Core.Bool.{Bool}
 use mathlib.Core.Path.{◌≡◌, refl, sym, subst}
@@ -7,6 +8,7 @@ use mathlib.Core.List.{List}
 use native.Mathlib.Omega.{arith}
 use lib.ListN.{length}
 use lib.Ieee.{Float}
+use Rattle.knots.specs.Refusal.{checked}
 use Rattle.knots.specs.Knots.{ValidKnots}
 use Rattle.knots.specs.Curve.{ValidCurve}
 use Rattle.knots.specs.declared.refusal.Refusal.{Refusal}
@@ -27,11 +29,11 @@ module _ (p : ℕ) (ks ps : List Float) (g : Bool) (ws ts w₀ : List Float) (v 
   abbrev a : ℕ
   a = (n + length ts) * 4
 
-  module _ (r : Refusal) (w₁ : List Float) (R : r ≡ refusal_of (lay_outcome ks ps g ws a (length w₀))) (W : w₁ ≡ work_in a g w₀ (lay_outcome ks ps g ws a (length w₀))) where
-    stands : (r.number ≡ 0) × CurveIn a ks ps g ws w₀ w₁
+  module _ (r : Result Unit Refusal) (w₁ : List Float) (R : r ≡ checked (refusal_of (lay_outcome ks ps g ws a (length w₀)))) (W : w₁ ≡ work_in a g w₀ (lay_outcome ks ps g ws a (length w₀))) where
+    stands : (r ≡ Ok tt) × CurveIn a ks ps g ws w₀ w₁
     stands = laid-curve ks ps g ws a (length w₀) w₀ refl (given-fits g n (length ws) v.controls.weights) (omega arith) (let l = v.knots.long in omega arith) r w₁ R W
 
-    pub given-laid : r.number ≡ 0
+    pub given-laid : r ≡ Ok tt
     given-laid = stands.0
 
     knots-are : knots_from a p n w₁ ≡ ks

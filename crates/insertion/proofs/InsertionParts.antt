@@ -1,5 +1,6 @@
 -- The parts of one insertion: controls that are equal, refusals one after the other, a knot put among others.
 -- Assumes nothing.
+use Rattle.std.specs.Prelude.{Result}
 use Prim.Native.Nat.{ℕ, ◌+◌, ◌-◌, ◌/◌, ◌≤◌, ◌<◌}
 use mathlib.Core.Bool.{Bool, true, false, not, cond}
 use mathlib.Core.Path.{◌≡◌, refl, sym, ◌∙◌, ap, ap₂}
@@ -16,7 +17,8 @@ use Rattle.doubles.specs.Run.{at}
 use Rattle.doubles.specs.Value.{zero+}
 use Rattle.doubles.proofs.TestedOrder.{le-fails}
 use Rattle.knots.specs.Below.{all_below}
-use Rattle.knots.specs.Refusal.{refuse, accepted, placed, edit-bad, point-not-finite}
+use Rattle.knots.specs.Refusal.{refuse, accepted, placed, checked}
+use Rattle.knots.specs.declared.refusal.Reason.TheVariants.{EditBad, PointNotFinite}
 use Rattle.knots.specs.Knots.{all_finite, non_finite_at}
 use Rattle.knots.specs.Curve.{is_weight, all_weights, control_refusal}
 use Rattle.knots.specs.declared.refusal.Refusal.{Refusal}
@@ -49,13 +51,13 @@ module _ (p k s : ℕ) (t : Float) (ks : List Float) (f h : ℕ → Control) (n 
           simp (X, Y) (ap₂ (λ (a c : Control). blend_of a c (share_of t (at ks i) (at ks (i + p)))) (e (i - 1) (omega arith)) (e i (omega arith)))
       go false X false Y = let b = leb-false i (k - p) X in simp (X, Y) (e (i - 1) (omega arith))
 
-pub lower-cong : (o : Vector) (g : Bool) (f h : ℕ → Control) (m : ℕ) (r₀ r₁ : List Float) (r : Refusal) → ((i : ℕ) → i < m → f i ≡ h i) → LowerDone o g f m r₀ r₁ r → LowerDone o g h m r₀ r₁ r
+pub lower-cong : (o : Vector) (g : Bool) (f h : ℕ → Control) (m : ℕ) (r₀ r₁ : List Float) (r : Result Unit Refusal) → ((i : ℕ) → i < m → f i ≡ h i) → LowerDone o g f m r₀ r₁ r → LowerDone o g h m r₀ r₁ r
 unfolding lower_refusal
 lower-cong o g f h m r₀ r₁ r e D = record {
-  answer = D.answer ∙ same
+  answer = D.answer ∙ ap checked (same
       (all-cong (λ i. is_blended (f i)) (λ i. is_blended (h i)) m (λ i l. ap is_blended (e i l)))
       (all-cong (λ i. finite_vector (lower_of o (f i))) (λ i. finite_vector (lower_of o (h i))) m sound)
-      (off-cong (λ i. finite_vector (lower_of o (f i))) (λ i. finite_vector (lower_of o (h i))) m sound);
+      (off-cong (λ i. finite_vector (lower_of o (f i))) (λ i. finite_vector (lower_of o (h i))) m sound));
   rows = λ z i l. D.rows z i l ∙ ap (λ (q : Control). stored g (kept_row (lower_of o q) q.w)) (e i l);
   rest = D.rest;
 }
@@ -64,15 +66,15 @@ lower-cong o g f h m r₀ r₁ r e D = record {
     sound i l = ap (λ (q : Control). finite_vector (lower_of o q)) (e i l)
 
     same : {x y u v : Bool} {i j : ℕ} → x ≡ y → u ≡ v → i ≡ j
-        → cond (not x) (refuse edit-bad) (cond (not u) (placed i (refuse point-not-finite)) accepted) ≡ cond (not y) (refuse edit-bad) (cond (not v) (placed j (refuse point-not-finite)) accepted)
+        → cond (not x) (refuse EditBad) (cond (not u) (placed i (refuse PointNotFinite)) accepted) ≡ cond (not y) (refuse EditBad) (cond (not v) (placed j (refuse PointNotFinite)) accepted)
     same X U I = rw (X, U, I)
 
 -- ---- one refusal after the other
-pub first_of : (a b : Bool) (x y z r : Refusal) → a ≡ false → r ≡ x → r ≡ cond (not a) x (cond (not b) y z)
-first_of a b x y z r A e = simp A e
+pub first_of : (a b : Bool) (x y z : Refusal) → a ≡ false → x ≡ cond (not a) x (cond (not b) y z)
+first_of a b x y z A = simp A
 
-pub joined : (a b c : Bool) (x y u z r : Refusal) → a ≡ true → (b ≡ true → cond (not c) u accepted ≡ z) → r ≡ cond (not b) y (cond (not c) u accepted) → r ≡ cond (not a) x (cond (not b) y z)
-joined true true c x y u z r A h e = e ∙ h refl
+pub joined : (a b c : Bool) (x y u z : Refusal) (r : Result Unit Refusal) → a ≡ true → (b ≡ true → cond (not c) u accepted ≡ z) → r ≡ checked (cond (not b) y (cond (not c) u accepted)) → r ≡ checked (cond (not a) x (cond (not b) y z))
+joined true true c x y u z r A h e = e ∙ ap checked (h refl)
 joined true false c x y u z r A h e = e
 joined false b c x y u z r A h e = let q : ◌≡◌ {A = ℕ} 0 1 = cc in absurd (omega arith)
 
@@ -87,7 +89,7 @@ weight_is q h =
     and-true (finite q.w) _ f (le-fails q.w zero+ f refl (not-true _ c))
 
 pub points-left : (n : ℕ) (ps : List Float) (g : Bool) (h : ℕ → Control) → all_below (λ i. is_blended (h i)) n ≡ true
-    → cond (not (all_finite ps)) (placed (non_finite_at ps / 3) (refuse point-not-finite)) accepted ≡ control_refusal n ps g (tabulate (given g n) (weight_in h))
+    → cond (not (all_finite ps)) (placed (non_finite_at ps / 3) (refuse PointNotFinite)) accepted ≡ control_refusal n ps g (tabulate (given g n) (weight_in h))
 unfolding control_refusal all_weights
 points-left n ps true h B =
     let l = length-tabulate n (weight_in h) in

@@ -16,6 +16,5 @@ pub mod GivenCurve
 pub mod StartOpen
 pub mod TimesCalls
 pub mod Chained
-pub mod InsertAnswers
 pub mod Textbook
 pub mod ExactList

@@ -1,5 +1,6 @@
 -- The loop that gives a curve's controls a knot more and brings them back to points: what is there after so many turns.
 -- Assumes nothing.
+use Rattle.std.specs.Prelude.{Ok, Err}
 use Prim.Native.Nat.{ℕ, ◌+◌, ◌-◌, ◌*◌, ◌≤◌, ◌<◌}
 use mathlib.Core.Bool.{Bool, true, false, ◌&&◌}
 use mathlib.Core.Path.{◌≡◌, refl, sym, ◌∙◌, ap, ap₂, subst}
@@ -12,7 +13,8 @@ use lib.Dec.{leb}
 use lib.Ieee.{Float}
 use Rattle.doubles.specs.Run.{at}
 use Rattle.knots.specs.Below.{all_below, off_at}
-use Rattle.knots.specs.Refusal.{refuse, accepted, placed, edit-bad, point-not-finite}
+use Rattle.knots.specs.Refusal.{refuse, placed, checked}
+use Rattle.knots.specs.declared.refusal.Reason.TheVariants.{EditBad, PointNotFinite}
 use Rattle.knots.specs.declared.refusal.Refusal.{Refusal}
 use Rattle.knots.proofs.Below.{all_none, all_more, all-step, all-fails, all_end, off-cong}
 use Rattle.runs.specs.Point.{finite_vector}
@@ -72,17 +74,14 @@ module _ (p k s : ℕ) (t : Float) (n a : ℕ) (o : Vector) (g : Bool) (r₀ : L
               moved U W X Y = rw (U, W, X, Y)
           go false X false Y = simp (X, Y) I.last
 
-      pub lower-stop : is_blended q ≡ false → (r : Refusal) → r ≡ refuse edit-bad → LowerDone o g blends (n + 1) r₀ r₁ r
-      unfolding lower_refusal
+      pub lower-stop : is_blended q ≡ false → (r : Refusal) → r ≡ refuse EditBad → LowerDone o g blends (n + 1) r₀ r₁ (Err r)
+      unfolding lower_refusal checked
       lower-stop e r R = record {
-        answer = simp (all-fails (λ j. is_blended (blends j)) (n + 1) i (omega arith) (ap is_blended (sym blend_is) ∙ e)) R;
-        rows = λ z. absurd (no z);
+        answer = simp (all-fails (λ j. is_blended (blends j)) (n + 1) i (omega arith) (ap is_blended (sym blend_is) ∙ e)) (ap Err R);
+        rows = λ z i l. cc;
         rest = λ j u. I.done.rest j (less j u);
       }
         where
-          no : r.number ≡ 0 → ⊥
-          no z = let y : ◌≡◌ {A = ℕ} 20 0 = sym (ap (λ (x : Refusal). x.number) R) ∙ z in omega arith
-
           less : (j : ℕ) → Untouched g (n + 1) j → Untouched g i j
           less j (inl u) = inl (omega arith)
           less j (inr u) = inr u
@@ -119,22 +118,19 @@ module _ (p k s : ℕ) (t : Float) (n a : ℕ) (o : Vector) (g : Bool) (r₀ : L
         off-cong (λ j. finite_vector (vector_of (row_of g r₁ j))) (λ j. finite_vector (lower_of o (blends j))) (n + 1)
         (λ j l. ap (λ (q : Control). finite_vector (vector_of q)) (I.done.rows j (omega (arith, done_at))))
 
-    pub lower-bad : fine ≡ false → (r : Refusal) (k : ℕ) → k ≡ off_at (λ j. finite_vector (vector_of (row_of g r₁ j))) (n + 1) → r ≡ placed k (refuse point-not-finite)
-        → LowerDone o g blends (n + 1) r₀ r₁ r
-    unfolding lower_refusal
+    pub lower-bad : fine ≡ false → (r : Refusal) (k : ℕ) → k ≡ off_at (λ j. finite_vector (vector_of (row_of g r₁ j))) (n + 1) → r ≡ placed k (refuse PointNotFinite)
+        → LowerDone o g blends (n + 1) r₀ r₁ (Err r)
+    unfolding lower_refusal checked
     lower-bad e r k O R = record {
-      answer = simp (blended, sym whole ∙ e) (R ∙ ap (λ (i : ℕ). placed i (refuse point-not-finite)) (O ∙ place_is));
-      rows = λ z. absurd (no z);
+      answer = simp (blended, sym whole ∙ e) (ap Err (R ∙ ap (λ (i : ℕ). placed i (refuse PointNotFinite)) (O ∙ place_is)));
+      rows = λ z i l. cc;
       rest = others;
     }
-      where
-        no : r.number ≡ 0 → ⊥
-        no z = let y : ◌≡◌ {A = ℕ} 8 0 = sym (ap (λ (x : Refusal). x.number) R) ∙ z in omega arith
 
-    pub lower-end : fine ≡ true → (r : Refusal) → r ≡ accepted → LowerDone o g blends (n + 1) r₀ r₁ r
-    unfolding lower_refusal
-    lower-end e r R = record {
-      answer = simp (blended, sym whole ∙ e) R;
+    pub lower-end : fine ≡ true → LowerDone o g blends (n + 1) r₀ r₁ (Ok tt)
+    unfolding lower_refusal checked
+    lower-end e = record {
+      answer = simp (blended, sym whole ∙ e);
       rows = λ z. subst (λ (m : ℕ). (j : ℕ) → j < m → row_of g r₁ j ≡ low o g blends j) done_at I.done.rows;
       rest = others;
     }

@@ -10,7 +10,8 @@ use lib.Ieee.{Float, eq}
 use lib.Ieee.Scale.{finite}
 use Rattle.doubles.specs.Run.{at}
 use Rattle.knots.specs.Below.{all_below}
-use Rattle.knots.specs.Refusal.{refuse, accepted, placed, or_else, control-bad, edit-bad, point-not-finite}
+use Rattle.knots.specs.Refusal.{refuse, accepted, placed, or_else}
+use Rattle.knots.specs.declared.refusal.Reason.TheVariants.{ControlBad, EditBad, PointNotFinite}
 use Rattle.knots.specs.Knots.{all_finite, non_finite_at, ValidKnots}
 use Rattle.knots.specs.Curve.{formed_refusal}
 use Rattle.knots.specs.Span.{SpanAt, span_of}
@@ -45,8 +46,8 @@ module _ (r : Refusal) (l : Late r) where
 late_is : (m : ℕ) → 8 ≤ m → (8 < m → 19 ≤ m) → m ≤ 20 → (r : Refusal) → r.number ≡ m → Late r
 late_is m a b c r e = record { some = omega arith; gap = λ l. omega (arith, b (omega arith)); last = omega arith }
 
-late-formed : (a b c : Bool) (i : ℕ) (y r : Refusal) → (b ≡ true → cond (not c) (placed i (refuse point-not-finite)) accepted ≡ y)
-    → r ≡ cond (not a) (refuse control-bad) (cond (not b) (refuse edit-bad) y) → (r.number ≡ 0 → ⊥) → Late r
+late-formed : (a b c : Bool) (i : ℕ) (y r : Refusal) → (b ≡ true → cond (not c) (placed i (refuse PointNotFinite)) accepted ≡ y)
+    → r ≡ cond (not a) (refuse ControlBad) (cond (not b) (refuse EditBad) y) → (r.number ≡ 0 → ⊥) → Late r
 late-formed false b c i y r k e h = late_is 19 (omega arith) (λ l. omega arith) (omega arith) r (ap (λ (x : Refusal). x.number) e)
 late-formed true false c i y r k e h = late_is 20 (omega arith) (λ l. omega arith) (omega arith) r (ap (λ (x : Refusal). x.number) e)
 late-formed true true false i y r k e h = late_is 8 (omega arith) (λ l. omega arith) (omega arith) r (ap (λ (x : Refusal). x.number) (e ∙ sym (k refl)))

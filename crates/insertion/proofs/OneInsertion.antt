@@ -1,12 +1,13 @@
 -- One insertion, put together from its passes: 19, 20, and the curve that is formed.
 -- Assumes nothing.
+use Rattle.std.specs.Prelude.{Result, Ok, Err}
 use Prim.Native.Nat.{ℕ, ◌+◌, ◌*◌, ◌/◌, ◌%◌, ◌≤◌, ◌<◌}
 use mathlib.Core.Bool.{Bool, true, false, not, cond}
 use mathlib.Core.Path.{◌≡◌, refl, sym, ◌∙◌, ap, ap₂, subst}
 use mathlib.Core.Logic.{inl, inr}
 use mathlib.Core.List.{List, ◌++◌}
 use native.Mathlib.Omega.{arith}
-use borrow.Author.Tests.{not-false, not-true, ltb-false}
+use borrow.Author.Tests.{eq-eqb, not-false, not-true, ltb-false}
 use lib.ListN.{length, drop, length-take, length-drop}
 use lib.Seq.{ext_get_or}
 use lib.Dec.{ltb}
@@ -16,14 +17,15 @@ use Rattle.doubles.specs.Run.{at}
 use Rattle.doubles.specs.Value.{one+}
 use Rattle.doubles.proofs.TestedOrder.{le-fails, lt-asym}
 use Rattle.knots.specs.Below.{all_below, off_at}
-use Rattle.knots.specs.Refusal.{refuse, accepted, placed, knot-outside, knot-full, control-bad, edit-bad, point-not-finite}
+use Rattle.knots.specs.Refusal.{refuse, accepted, placed, checked}
+use Rattle.knots.specs.declared.refusal.Reason.TheVariants.{KnotOutside, KnotFull, ControlBad, EditBad, PointNotFinite}
 use Rattle.knots.specs.Knots.{ValidKnots}
 use Rattle.knots.specs.Curve.{formed_refusal}
 use Rattle.knots.specs.Span.{SpanAt, span_of}
 use Rattle.knots.specs.Span.{SpanFound}
 use Rattle.knots.specs.declared.refusal.Refusal.{Refusal}
 use Rattle.knots.proofs.Below.{and_left, and_right}
-use Rattle.knots.proofs.Refusals.{passed, stop, skip}
+use Rattle.knots.proofs.Refusals.{passed, refused-first}
 use Rattle.runs.specs.Tabulate.{tabulate}
 use Rattle.runs.proofs.Tabulated.{tabulate-cong}
 use Rattle.runs.specs.Point.{point_of, finite_vector}
@@ -72,25 +74,22 @@ module _ (a p n k s : ℕ) (t : Float) (g : Bool) (w₀ : List Float) where
   abbrev all-blended : Bool
   all-blended = all_below (λ i. is_blended (blended p n k s t KS PS g WS i)) (n + 1)
 
-  abbrev checked : Refusal
-  checked = formed_refusal p (n + 1) (more_knots k t KS) (more_points p n k s t KS PS g WS) g (more_weights p n k s t KS PS g WS)
+  abbrev lastly : Refusal
+  lastly = formed_refusal p (n + 1) (more_knots k t KS) (more_points p n k s t KS PS g WS) g (more_weights p n k s t KS PS g WS)
 
-  pub form-19 : all-lifted ≡ false → (r : Refusal) → r ≡ refuse control-bad → (w₂ : List Float) → Formed a p n k s t KS PS g WS w₀ w₂ r
-  unfolding form_refusal
+  pub form-19 : all-lifted ≡ false → (r : Refusal) → r ≡ refuse ControlBad → (w₂ : List Float) → Formed a p n k s t KS PS g WS w₀ w₂ (Err r)
+  unfolding form_refusal checked
   form-19 F r e w₂ = record {
-    refusal = first_of all-lifted all-blended (refuse control-bad) (refuse edit-bad) checked r F e;
-    holds = λ z. absurd (no z);
+    refusal = ap Err e ∙ ap checked (first_of all-lifted all-blended (refuse ControlBad) (refuse EditBad) lastly F);
+    holds = λ z. cc;
   }
-    where
-      no : r.number ≡ 0 → ⊥
-      no z = let q : ◌≡◌ {A = ℕ} 19 0 = sym (ap (λ (y : Refusal). y.number) e) ∙ z in omega arith
 
   module _ (K : k < n) (o : Vector) (O : o ≡ vector_of (row_of g w₀ 0)) (w₁ : List Float) (A : LiftDone g (lifted p n k s t KS PS g WS) n w₀ w₁ true) where
     o_is : o ≡ point_of PS 0
     o_is = O ∙ sym (row-point g n w₀ 0 (omega arith))
 
     module _ (S : s ≤ p) (P : p ≤ k) (room : (n + 1) * 4 ≤ a) (l : a + (n + p + 1) < length w₀) (L₁ : length w₁ ≡ length w₀) (v : ValidKnots p (n + 1) (more_knots k t KS))
-        (w₂ : List Float) (r : Refusal)
+        (w₂ : List Float) (r : Result Unit Refusal)
         (B : LowerDone o g (blend_at p k s t (knots_from a p n w₁) (row_of g w₁)) (n + 1) w₁ w₂ r) where
       -- the knots stay where they are
       pub knots-kept : (m : ℕ) (xs ys : List Float) → m * 4 ≤ a → length xs ≡ length ys → ((j : ℕ) → Untouched g m j → at xs j ≡ at ys j) → knots_from a p n xs ≡ knots_from a p n ys
@@ -112,37 +111,37 @@ module _ (a p n k s : ℕ) (t : Float) (g : Bool) (w₀ : List Float) where
       all-fine = all_below (λ i. finite_vector (lower_of (point_of PS 0) (blended p n k s t KS PS g WS i))) (n + 1)
 
       abbrev first-bad : Refusal
-      first-bad = placed (off_at (λ i. finite_vector (lower_of (point_of PS 0) (blended p n k s t KS PS g WS i))) (n + 1)) (refuse point-not-finite)
+      first-bad = placed (off_at (λ i. finite_vector (lower_of (point_of PS 0) (blended p n k s t KS PS g WS i))) (n + 1)) (refuse PointNotFinite)
 
-      left : all-blended ≡ true → cond (not all-fine) first-bad accepted ≡ checked
+      left : all-blended ≡ true → cond (not all-fine) first-bad accepted ≡ lastly
       unfolding more_points more_weights
       left h =
-          ap₂ (λ (y : Bool) (i : ℕ). cond (not y) (placed i (refuse point-not-finite)) accepted)
+          ap₂ (λ (y : Bool) (i : ℕ). cond (not y) (placed i (refuse PointNotFinite)) accepted)
           (sym (points-finite (point_of PS 0) (blended p n k s t KS PS g WS) (n + 1))) (sym (points-place (point_of PS 0) (blended p n k s t KS PS g WS) (n + 1)))
           ∙ (points-left (n + 1) (more_points p n k s t KS PS g WS) g (blended p n k s t KS PS g WS) h
           ∙ controls-left p (n + 1) (more_knots k t KS) (more_points p n k s t KS PS g WS) g (more_weights p n k s t KS PS g WS) v)
 
-      refusal_is : r ≡ form_refusal p n k s t KS PS g WS
+      refusal_is : r ≡ checked (form_refusal p n k s t KS PS g WS)
       unfolding form_refusal lower_refusal
-      refusal_is = joined all-lifted all-blended all-fine (refuse control-bad) (refuse edit-bad) first-bad checked r (sym A.answer) left lower-done.answer
+      refusal_is = joined all-lifted all-blended all-fine (refuse ControlBad) (refuse EditBad) first-bad lastly r (sym A.answer) left lower-done.answer
 
-      pub form-late : (r.number ≡ 0 → ⊥) → Formed a p n k s t KS PS g WS w₀ w₂ r
+      pub form-late : (r ≡ Ok tt → ⊥) → Formed a p n k s t KS PS g WS w₀ w₂ r
       form-late h = record { refusal = refusal_is; holds = λ z. absurd (h z) }
 
       module _ (L₂ : length w₂ ≡ length w₁) (w₃ : List Float) (L₃ : length w₃ ≡ length w₂) (E : w₃ ≡ tabulate (a + (n + p + 1) + 1) (knot_at (a + k) t w₂) ++ drop (a + (n + p + 1) + 1) w₂) where
         low : (j : ℕ) → j < a → at w₃ j ≡ at w₂ j
         low j b = put_low a p n k t K w₂ w₃ (omega arith) E j (omega arith)
 
-        row_is : r.number ≡ 0 → (i : ℕ) → i < n + 1 → row_of g w₃ i ≡ stored g (kept_row (lower_of (point_of PS 0) (blended p n k s t KS PS g WS i)) (blended p n k s t KS PS g WS i).w)
+        row_is : r ≡ Ok tt → (i : ℕ) → i < n + 1 → row_of g w₃ i ≡ stored g (kept_row (lower_of (point_of PS 0) (blended p n k s t KS PS g WS i)) (blended p n k s t KS PS g WS i).w)
         row_is z i b = rows_same g w₃ w₂ i (λ c d. low (i * 4 + c) (omega arith)) ∙ lower-done.rows z i b
 
-        points-are : r.number ≡ 0 → points_from (n + 1) w₃ ≡ more_points p n k s t KS PS g WS
+        points-are : r ≡ Ok tt → points_from (n + 1) w₃ ≡ more_points p n k s t KS PS g WS
         unfolding more_points
         points-are z = tabulate-cong ((n + 1) * 3) (λ j. at w₃ (j / 3 * 4 + j % 3)) (lower_at (point_of PS 0) (blended p n k s t KS PS g WS))
             (λ j b. row-axis g (n + 1) w₃ (j / 3) (j % 3) (omega arith) ∙ (ap (λ (q : Control). axis (j % 3) (vector_of q)) (row_is z (j / 3) (omega arith))
             ∙ lower-is (point_of PS 0) (blended p n k s t KS PS g WS) (j / 3) (j % 3) j refl refl))
 
-        weights-are : (c : Bool) → c ≡ g → r.number ≡ 0 → weights_from c (n + 1) w₃ ≡ tabulate (given c (n + 1)) (weight_in (blended p n k s t KS PS g WS))
+        weights-are : (c : Bool) → c ≡ g → r ≡ Ok tt → weights_from c (n + 1) w₃ ≡ tabulate (given c (n + 1)) (weight_in (blended p n k s t KS PS g WS))
         weights-are true e z = tabulate-cong (n + 1) (λ j. at w₃ (j * 4 + 3)) (weight_in (blended p n k s t KS PS g WS))
             (λ j b. ap (λ (y : Bool). cond y (at w₃ (j * 4 + 3)) one+) e ∙ (ap (λ (q : Control). q.w) (row_is z j b) ∙ ap (λ (y : Bool). cond y (blended p n k s t KS PS g WS j).w one+) (sym e)))
         weights-are false e z = refl
@@ -177,8 +176,8 @@ module _ (p n : ℕ) (ks ps : List Float) (g : Bool) (ws : List Float) (t : Floa
   spot-open s v h =
       let C = v.count in
       let L = v.long in
-      let a = passed (not (inside (at ks p) (at ks n) t)) (refuse knot-outside) _ (λ e. omega arith) h in
-      let b = passed (ltb p s) (refuse knot-full) accepted (λ e. omega arith) a.1 in
+      let a = passed (not (inside (at ks p) (at ks n) t)) (refuse KnotOutside) _ (λ e. omega arith) h in
+      let b = passed (ltb p s) (refuse KnotFull) accepted (λ e. omega arith) a.1 in
       let i = not-false (inside (at ks p) (at ks n) t) a.0 in
       let f : finite t ≡ true = and_left (finite t) _ i in
       let r = and_right (finite t) _ i in
@@ -197,19 +196,18 @@ module _ (p n : ℕ) (ks ps : List Float) (g : Bool) (ws : List Float) (t : Floa
       let a = span-found p n ks t v o.within k F in
       (a.0, a.1, grown-valid p n ks v t o.within.parameter k a.0 o.low o.high (subst (λ (i : ℕ). i ≤ p) S o.room))
 
-  module _ (a : ℕ) (w₀ w₁ : List Float) (s k : ℕ) (S : s ≡ multiplicity_of ks t) (r : Refusal) where
-    pub insert-early : r ≡ spot_refusal (at ks p) (at ks n) t p s → (r.number ≡ 0 → ⊥) → Inserted a p n ks ps g ws t w₀ w₁ r
+  module _ (a : ℕ) (w₀ w₁ : List Float) (s k : ℕ) (S : s ≡ multiplicity_of ks t) where
+    pub insert-early : (r : Refusal) → Err r ≡ checked (spot_refusal (at ks p) (at ks n) t p s) → Inserted a p n ks ps g ws t w₀ w₁ (Err r)
     unfolding insert_refusal
-    insert-early E h =
-        let D : r ≡ spot_refusal (at ks p) (at ks n) t p (multiplicity_of ks t) = E ∙ ap (spot_refusal (at ks p) (at ks n) t p) S in
-        record { refusal = simp (stop D h) D; holds = λ z. absurd (h z) }
+    insert-early r E = record { refusal = refused-first _ _ (E ∙ ap (λ (i : ℕ). checked (spot_refusal (at ks p) (at ks n) t p i)) S); holds = λ z. cc }
 
-    pub insert-done : (x : Refusal) → x ≡ spot_refusal (at ks p) (at ks n) t p s → x.number ≡ 0 → k ≡ span_of p n ks t → Formed a p n k s t ks ps g ws w₀ w₁ r → Inserted a p n ks ps g ws t w₀ w₁ r
+    pub insert-done : (r : Result Unit Refusal) → (spot_refusal (at ks p) (at ks n) t p s).number ≡ 0 → k ≡ span_of p n ks t → Formed a p n k s t ks ps g ws w₀ w₁ r
+        → Inserted a p n ks ps g ws t w₀ w₁ r
     unfolding insert_refusal inserted_knots inserted_points inserted_weights
-    insert-done x E z K F =
-        let D : x ≡ spot_refusal (at ks p) (at ks n) t p (multiplicity_of ks t) = E ∙ ap (spot_refusal (at ks p) (at ks n) t p) S in
+    insert-done r z K F =
+        let D : (spot_refusal (at ks p) (at ks n) t p (multiplicity_of ks t)).number ≡ 0 = subst (λ (i : ℕ). (spot_refusal (at ks p) (at ks n) t p i).number ≡ 0) S z in
         let G = subst (λ (i : ℕ). Formed a p n (span_of p n ks t) i t ks ps g ws w₀ w₁ r) S (subst (λ (i : ℕ). Formed a p n i s t ks ps g ws w₀ w₁ r) K F) in
-        record { refusal = simp (skip D z) G.refusal; holds = G.holds }
+        record { refusal = simp (eq-eqb (spot_refusal (at ks p) (at ks n) t p (multiplicity_of ks t)).number 0 D) G.refusal; holds = G.holds }
 
 -- the same span, where the same knots are written another way
 pub moved-span : {p n k : ℕ} {t : Float} {ks ls : List Float} → ks ≡ ls → SpanFound p n ks t k → SpanFound p n ls t k

@@ -7,7 +7,8 @@ use mathlib.Core.List.{List}
 use native.Mathlib.Omega.{arith}
 use lib.ListN.{length}
 use lib.Ieee.{Float}
-use Rattle.knots.specs.Refusal.{refuse, length-bad}
+use Rattle.knots.specs.Refusal.{refuse}
+use Rattle.knots.specs.declared.refusal.Reason.TheVariants.{LengthBad}
 use Rattle.knots.specs.Curve.{longest, over_long, count_of, ValidCurve}
 use Rattle.knots.proofs.Refusals.{passed, or_else-none}
 use Rattle.knots.proofs.Curves.{within}
@@ -26,7 +27,7 @@ module _ (p : ℕ) (ks ps : List Float) (g : Bool) (ws ts : List Float) (a b c d
   unfolding insert_start
   start-open h =
       let N = count_of ps + length ts in
-      let x = passed (over_long true ts) (refuse length-bad) _ (λ e. omega arith) h in
+      let x = passed (over_long true ts) (refuse LengthBad) _ (λ e. omega arith) h in
       let y = or_else-none (edit_start p ks ps g ws) _ x.1 in
       let z = or_else-none (out_room p N g a b c) (scratch_room p N d) y.1 in
       record {

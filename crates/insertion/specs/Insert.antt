@@ -5,7 +5,8 @@ use Rattle.std.specs.Float.Ieee.{le}
 use Rattle.std.specs.Float.Ieee.Scale.{finite}
 use Rattle.doubles.specs.Run.{at}
 use Rattle.knots.specs.Below.{all_below}
-use Rattle.knots.specs.Refusal.{refuse, accepted, or_else, knot-outside, knot-full, control-bad, edit-bad}
+use Rattle.knots.specs.Refusal.{refuse, accepted, or_else}
+use Rattle.knots.specs.declared.refusal.Reason.TheVariants.{KnotOutside, KnotFull, ControlBad, EditBad}
 use Rattle.knots.specs.Curve.{formed_refusal}
 use Rattle.knots.specs.Span.{span_of}
 use Rattle.knots.specs.declared.refusal.Refusal.{Refusal}
@@ -29,7 +30,7 @@ inside lo hi t = finite t && (not (le t lo) && not (le hi t))
 
 -- 13, 14 of a knot that the curve has s times
 unfoldable pub spot_refusal : Float → Float → Float → ℕ → ℕ → Refusal
-spot_refusal lo hi t p s = cond (not (inside lo hi t)) (refuse knot-outside) (cond (ltb p s) (refuse knot-full) accepted)
+spot_refusal lo hi t p s = cond (not (inside lo hi t)) (refuse KnotOutside) (cond (ltb p s) (refuse KnotFull) accepted)
 
 -- control i with the knot t more, of knots ks and degree p: k the last place whose knot is at most t, s the multiplicity of t
 unfoldable pub blend_at : ℕ → ℕ → ℕ → Float → List Float → (ℕ → Control) → ℕ → Control
@@ -55,8 +56,8 @@ module _ (p n k s : ℕ) (t : Float) (ks ps : List Float) (g : Bool) (ws : List 
   -- 19, 20, and 1 to 10 of the curve that is formed
   unfoldable pub form_refusal : Refusal
   form_refusal =
-      cond (not (all_below (λ i. is_lifted (lifted i)) n)) (refuse control-bad)
-      (cond (not (all_below (λ i. is_blended (blended i)) (n + 1))) (refuse edit-bad)
+      cond (not (all_below (λ i. is_lifted (lifted i)) n)) (refuse ControlBad)
+      (cond (not (all_below (λ i. is_blended (blended i)) (n + 1))) (refuse EditBad)
       (formed_refusal p (n + 1) (more_knots k t ks) more_points g more_weights))
 
 -- the whole

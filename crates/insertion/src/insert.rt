@@ -9,7 +9,7 @@ ghost use Rattle.edits.specs.Passes.{OutMeets};
 
 use crate::list::insert_all;
 use crate::start::insert_start;
-use edits::answer::EditAnswer;
+use edits::answer::FormedCurve;
 use edits::work::{clear_all, lay_curve, take_curve};
 use knots::refusal::Refusal;
 use runs::copy::clear_from;
@@ -26,7 +26,7 @@ fn insert_into(
     out_points: &mut [f64],
     out_weights: &mut [f64],
     work: &mut [f64],
-) -> Refusal
+) -> Result<(), Refusal>
     requires valid_curve { ValidCurve degree knots.now points.now rational weights.now }
     requires degree_in_bounds { length points.now / 3 + length inserted.now + degree + 1 ≤ length out_knots.old }
     requires inserted_in_bounds { (length points.now / 3 + length inserted.now) * 3 ≤ length out_points.old }
@@ -37,14 +37,8 @@ fn insert_into(
     let n = points.len() / 3;
     let m = n + inserted.len();
     let a = m * 4;
-    let laid = lay_curve(knots, points, rational, weights, a, work);
-    if laid.number != 0 {
-        return laid;
-    }
-    let refusal = insert_all(degree, n, rational, inserted, a, work);
-    if refusal.number != 0 {
-        return refusal;
-    }
+    lay_curve(knots, points, rational, weights, a, work)?;
+    insert_all(degree, n, rational, inserted, a, work)?;
     take_curve(
         degree,
         m,
@@ -70,7 +64,7 @@ pub fn insert_knots(
     out_points: &mut [f64],
     out_weights: &mut [f64],
     scratch: &mut [f64],
-) -> EditAnswer
+) -> Result<FormedCurve, Refusal>
     ensures { InsertMeets degree knots.now points.now rational weights.now inserted.now (length out_knots.old) (length out_points.old) (length out_weights.old) (length scratch.old) out_knots.new out_points.new out_weights.new scratch.new result }
 {
     let a = out_knots.len();
@@ -80,11 +74,11 @@ pub fn insert_knots(
     let early = insert_start(
         degree, knots, points, rational, weights, inserted, a, b, c, d,
     );
-    if early.number != 0 {
+    if let Err(r) = early {
         clear_all(out_knots, out_points, out_weights, scratch);
-        return EditAnswer::Refused(early);
+        return Err(r);
     }
-    let refusal = insert_into(
+    let late = insert_into(
         degree,
         knots,
         points,
@@ -96,11 +90,11 @@ pub fn insert_knots(
         out_weights,
         scratch,
     );
-    if refusal.number != 0 {
+    if let Err(r) = late {
         clear_all(out_knots, out_points, out_weights, scratch);
-        return EditAnswer::Refused(refusal);
+        return Err(r);
     }
     clear_from(scratch, 0);
     let count = points.len() / 3 + inserted.len();
-    EditAnswer::Formed { degree, count }
+    Ok(FormedCurve { degree, count })
 }

@@ -7,7 +7,7 @@ ghost use Rattle.insertion.specs.Passes.{ListMeets};
 
 use crate::one::insert_one;
 use edits::rows::scale_in;
-use knots::refusal::{Refusal, refuse};
+use knots::refusal::Refusal;
 
 // Each knot goes into the curve that the one before it formed: all weights are divided by their largest anew, and the first point is the reference anew.
 pub fn insert_all(
@@ -17,22 +17,16 @@ pub fn insert_all(
     inserted: &[f64],
     a: usize,
     work: &mut [f64],
-) -> Refusal
+) -> Result<(), Refusal>
     requires valid_knots { ValidKnots p n (knots_from a p n work.old) }
     requires inserted_bound { ((n + length inserted.now) * 4 ≤ a) × (a + (n + length inserted.now + p + 1) ≤ length work.old) }
     ensures { ListMeets a p (n + length inserted.now) rational work.old (insert_all p rational n (knots_from a p n work.old) (points_from n work.old) (weights_from rational n work.old) inserted.now) work.new result }
 {
-    let mut i = 0usize;
-    while i < inserted.len() {
-        let t = inserted[i];
+    for (i, &t) in inserted.iter().enumerate() {
         let scale = scale_in(n + i, rational, work);
-        let refusal = insert_one(p, n + i, scale, rational, t, a, work);
-        if refusal.number != 0 {
-            return refusal;
-        }
-        i += 1;
+        insert_one(p, n + i, scale, rational, t, a, work)?;
     }
-    refuse(0)
+    Ok(())
 }
 
 // One knot, m times.
@@ -44,19 +38,14 @@ pub fn insert_many(
     m: usize,
     a: usize,
     work: &mut [f64],
-) -> Refusal
+) -> Result<(), Refusal>
     requires valid_knots { ValidKnots p n (knots_from a p n work.old) }
     requires m_bound { ((n + m) * 4 ≤ a) × (a + (n + m + p + 1) ≤ length work.old) }
     ensures { ListMeets a p (n + m) rational work.old (insert_all p rational n (knots_from a p n work.old) (points_from n work.old) (weights_from rational n work.old) (replicate m t)) work.new result }
 {
-    let mut j = 0usize;
-    while j < m {
+    for j in 0..m {
         let scale = scale_in(n + j, rational, work);
-        let refusal = insert_one(p, n + j, scale, rational, t, a, work);
-        if refusal.number != 0 {
-            return refusal;
-        }
-        j += 1;
+        insert_one(p, n + j, scale, rational, t, a, work)?;
     }
-    refuse(0)
+    Ok(())
 }

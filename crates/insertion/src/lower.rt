@@ -11,11 +11,11 @@ ghost use Rattle.insertion.specs.Passes.{blend_one, LowerDone};
 
 use edits::control::{Control, blend_of, is_blended, lower_of, share_of};
 use edits::rows::{kept_row, put_row, row_at, vector_of};
-use knots::refusal::{Refusal, refuse, refuse_at};
+use knots::refusal::{Reason, Refusal, refuse, refuse_at};
 use runs::vector::{Vector, finite_vector};
 
 // Where a knot goes: the degree, the knot t, the last place k whose knot is at most t, and how many knots equal t.
-#[derive(Clone, Copy)]
+#[derive(Clone, Copy, Debug, PartialEq)]
 pub struct Spot {
     pub p: usize,
     pub k: usize,
@@ -45,14 +45,12 @@ fn blend_at(spot: Spot, a: usize, rows: &[f64], i: usize, before: Control, here:
 fn non_finite_row(rational: bool, m: usize, rows: &[f64]) -> usize
     ensures { result ≡ off_at (λ i. finite_vector (vector_of (row_of rational rows.now i))) m }
 {
-    let mut i = 0usize;
-    while i < m {
+    for i in 0..m {
         if !finite_vector(vector_of(row_at(rational, rows, i))) {
             return i;
         }
-        i += 1;
     }
-    i
+    m
 }
 
 // The rows of n controls become those of the n + 1 points with a knot more: 20 where it is for a control; else 8 with the place of the first point that has a coordinate that is not finite. A row is lent alone, so that the compiler sees that it is whole.
@@ -63,32 +61,31 @@ pub fn lower_rows(
     o: Vector,
     rational: bool,
     rows: &mut [f64],
-) -> Refusal
+) -> Result<(), Refusal>
     requires s_le_p { (spot.s ≤ spot.p) × (spot.p ≤ spot.k) }
     requires k_lt_n { (spot.k < n) × ((n + 1) * 4 ≤ a) }
     requires p_in_bounds { a + n + spot.p < length rows.old }
     ensures { LowerDone o rational (blend_at spot.p spot.k spot.s spot.t (knots_from a spot.p n rows.old) (row_of rational rows.old)) (n + 1) rows.old rows.new result }
 {
+    let m = n + 1;
     let mut fine = true;
     let mut before = row_at(rational, rows, 0);
-    let mut i = 0usize;
-    while i <= n {
+    for i in 0..m {
         let at = i * 4;
         let end = at + 4;
         let here = row_at(rational, &rows[at..end], 0);
         let q = blend_at(spot, a, rows, i, before, here);
         if !is_blended(q) {
-            return refuse(20);
+            return Err(refuse(Reason::EditBad));
         }
         let v = lower_of(o, q);
         fine = fine & finite_vector(v);
         put_row(rational, &mut rows[at..end], 0, kept_row(v, q.w));
         before = here;
-        i += 1;
     }
     if !fine {
-        let first = non_finite_row(rational, n + 1, rows);
-        return refuse_at(8, first);
+        let first = non_finite_row(rational, m, rows);
+        return Err(refuse_at(Reason::PointNotFinite, first));
     }
-    refuse(0)
+    Ok(())
 }

@@ -1,10 +1,11 @@
 // The refusals of an insertion before anything is formed.
 ghost use Rattle.std.specs.Prelude.{◌≡◌};
+ghost use Rattle.knots.specs.Refusal.{checked};
 ghost use Rattle.insertion.specs.Whole.{insert_start};
 
 use edits::start::{edit_start, out_room, scratch_room};
 use knots::limits::over_long;
-use knots::refusal::{Refusal, refuse};
+use knots::refusal::{Reason, Refusal, refuse};
 
 // 30 for the list, the curve's refusal, 17, 30 for the lent runs.
 pub fn insert_start(
@@ -18,20 +19,14 @@ pub fn insert_start(
     b: usize,
     c: usize,
     d: usize,
-) -> Refusal
-    ensures { result ≡ insert_start degree knots.now points.now rational weights.now inserted.now a b c d }
+) -> Result<(), Refusal>
+    ensures { result ≡ checked (insert_start degree knots.now points.now rational weights.now inserted.now a b c d) }
 {
     if over_long(true, inserted) {
-        return refuse(30);
+        return Err(refuse(Reason::LengthBad));
     }
-    let early = edit_start(degree, knots, points, rational, weights);
-    if early.number != 0 {
-        return early;
-    }
+    edit_start(degree, knots, points, rational, weights)?;
     let n = points.len() / 3 + inserted.len();
-    let room = out_room(degree, n, rational, a, b, c);
-    if room.number != 0 {
-        return room;
-    }
+    out_room(degree, n, rational, a, b, c)?;
     scratch_room(degree, n, d)
 }

@@ -1,5 +1,6 @@
 // One knot inserted many times into a curve that stands in a lent run, for other edits.
 ghost use Rattle.std.specs.Prelude.{◌≡◌};
+ghost use Rattle.knots.specs.Refusal.{checked};
 ghost use Rattle.edits.specs.Work.{refusal_of, work_in};
 ghost use Rattle.insertion.specs.Times.{times_start, times_outcome};
 
@@ -7,29 +8,26 @@ use crate::list::insert_many;
 use edits::work::work_room;
 use knots::clear::clear;
 use knots::knots::knot_refusal;
-use knots::refusal::{Refusal, refuse};
+use knots::refusal::{Reason, Refusal, refuse};
 
 // 30, and 1 to 7 of the knots that stand in the run.
-fn times_start(p: usize, n: usize, m: usize, a: usize, work: &[f64]) -> Refusal
-    ensures { result ≡ times_start p n m a work.now }
+fn times_start(p: usize, n: usize, m: usize, a: usize, work: &[f64]) -> Result<(), Refusal>
+    ensures { result ≡ checked (times_start p n m a work.now) }
 {
     let l = work.len();
     if a > l {
-        return refuse(30);
+        return Err(refuse(Reason::LengthBad));
     }
     if n > a {
-        return refuse(30);
+        return Err(refuse(Reason::LengthBad));
     }
     if m > a {
-        return refuse(30);
+        return Err(refuse(Reason::LengthBad));
     }
     if p > l {
-        return refuse(30);
+        return Err(refuse(Reason::LengthBad));
     }
-    let room = work_room(n + m, n + m + p + 1, a, l);
-    if room.number != 0 {
-        return room;
-    }
+    work_room(n + m, n + m + p + 1, a, l)?;
     let end = a + (n + p + 1);
     knot_refusal(p, n, &work[a..end])
 }
@@ -43,19 +41,17 @@ pub fn insert_times(
     m: usize,
     a: usize,
     work: &mut [f64],
-) -> Refusal
-    ensures value { result ≡ refusal_of (times_outcome p n m a work.old rational t) }
+) -> Result<(), Refusal>
+    ensures value { result ≡ checked (refusal_of (times_outcome p n m a work.old rational t)) }
     ensures work_after { work.new ≡ work_in a rational work.old (times_outcome p n m a work.old rational t) }
 {
-    let early = times_start(p, n, m, a, work);
-    if early.number != 0 {
+    if let Err(r) = times_start(p, n, m, a, work) {
         clear(work);
-        return early;
+        return Err(r);
     }
-    let late = insert_many(p, n, rational, t, m, a, work);
-    if late.number != 0 {
+    if let Err(r) = insert_many(p, n, rational, t, m, a, work) {
         clear(work);
-        return late;
+        return Err(r);
     }
-    refuse(0)
+    Ok(())
 }

@@ -18,10 +18,9 @@ use Rattle.doubles.proofs.Limits.{lower-number, upper-number, lower-out, upper-o
 use Rattle.doubles.proofs.Reciprocals.{recip-lower, recip-upper, recip-number}
 use Rattle.doubles.proofs.Squares.{square-number, square-upper, square-lower, zero-lower}
 use Rattle.interval.specs.declared.Interval.{Interval}
-use Rattle.interval.specs.declared.New.{New}
-use Rattle.interval.specs.declared.New.TheVariants.{Made, Nothing}
-use Rattle.interval.specs.declared.Quotient.{Quotient}
-use Rattle.interval.specs.declared.Quotient.TheVariants.{Is, HoldsZero, Unbounded}
+use Rattle.interval.specs.declared.DivideError.{DivideError}
+use Rattle.interval.specs.declared.DivideError.TheVariants.{HoldsZero, Unbounded}
+use Rattle.std.specs.Prelude.{Option, Some, None, Result, Ok, Err}
 use Rattle.interval.specs.declared.Sign.{Sign}
 use Rattle.interval.specs.declared.Sign.TheVariants.{Positive, Negative, Zero, Unknown}
 use Rattle.interval.specs.Ops.{entire, point_of, checked_of, add_of, sub_of, mul_of, neg_of, some_nan, sqr_of, contains_of, new_of, made_by, reciprocal_of, times_by, divide_of, hull_of, width_of, sign_of}
@@ -165,32 +164,32 @@ ends-ordered (fin s m e) (fin t n d) x a b = elim (yes_or_no (lt (fin t n d) (fi
 ]
 
 -- so an interval is made of them
-abbrev MadeInside : New → ℚ → Type 0
-MadeInside (Made c) x = Inside c x
-MadeInside Nothing x = ⊥
+abbrev MadeInside : Option Interval → ℚ → Type 0
+MadeInside (Some c) x = Inside c x
+MadeInside None x = ⊥
 
 new-inside : (l h : Float) (x : ℚ) → Lower l x → Upper h x → MadeInside (new_of l h) x
 unfolding new_of
 new-inside l h x L H = go (le l h) (ends-ordered l h x L H)
   where
-    go : (b : Bool) → T b → MadeInside (cond b (Made (record { lo = l; hi = h })) Nothing) x
+    go : (b : Bool) → T b → MadeInside (cond b (Some (record { lo = l; hi = h })) None) x
     go true t = record { low = L; high = H }
     go false t = absurd t
 
 -- a quotient that holds x, or a divisor that holds 0: never `Unbounded`
-abbrev pub Formed : Quotient → ℚ → Type 0
-Formed (Is c) x = Inside c x
-Formed HoldsZero x = Unit
-Formed Unbounded x = ⊥
+abbrev pub Formed : Result Interval DivideError → ℚ → Type 0
+Formed (Ok c) x = Inside c x
+Formed (Err HoldsZero) x = Unit
+Formed (Err Unbounded) x = ⊥
 
-made-formed : (n : New) (x : ℚ) → MadeInside n x → Formed (made_by n) x
-made-formed (Made c) x i = i
-made-formed Nothing x i = absurd i
+made-formed : (n : Option Interval) (x : ℚ) → MadeInside n x → Formed (made_by n) x
+made-formed (Some c) x i = i
+made-formed None x i = absurd i
 
-formed-inside : (q : Quotient) (x : ℚ) → Formed q x → Encloses q x
-formed-inside (Is c) x i = i
-formed-inside HoldsZero x i = tt
-formed-inside Unbounded x i = tt
+formed-inside : (q : Result Interval DivideError) (x : ℚ) → Formed q x → Encloses q x
+formed-inside (Ok c) x i = i
+formed-inside (Err HoldsZero) x i = tt
+formed-inside (Err Unbounded) x i = tt
 
 pub reciprocal-formed : (b : Interval) (y : ℚ) → Inside b y → Formed (reciprocal_of b) (inv y)
 unfolding reciprocal_of contains_of
@@ -214,7 +213,7 @@ reciprocal-formed b y j = go (contains_of b zero+) (off_zero b.lo b.hi y j.low j
         (recip-lower binary64 (fmin p q) (min-fits binary64 p q hp hq) l.number y b.hi (elim o [ inl t ↦ inl (end-above b.lo y t j.low) | inr t ↦ inr t ]) j.high l.second)
         (recip-upper binary64 (fmax p q) (max-fits binary64 p q hp hq) g.number y b.lo (elim o [ inl t ↦ inl t | inr t ↦ inr (end_below b.hi y t j.high) ]) j.low g.first)
 
-    go : (t : Bool) → (T (not t) → T (lt zero+ b.lo) ⊎ T (lt b.hi zero+)) → Formed (cond t HoldsZero (made_by (new_of (next_down (fmin p q)) (next_up (fmax p q))))) (inv y)
+    go : (t : Bool) → (T (not t) → T (lt zero+ b.lo) ⊎ T (lt b.hi zero+)) → Formed (cond t (Err HoldsZero) (made_by (new_of (next_down (fmin p q)) (next_up (fmax p q))))) (inv y)
     go true o = tt
     go false o = made-formed (new_of (next_down (fmin p q)) (next_up (fmax p q))) (inv y) (ends (o tt))
 
@@ -222,10 +221,10 @@ pub divide-formed : (a b : Interval) (x y : ℚ) → Inside a x → Inside b y �
 unfolding divide_of
 divide-formed a b x y i j = subst (Formed (divide_of a b)) (sym (div_is x y)) (go (reciprocal_of b) (reciprocal-formed b y j))
   where
-    go : (r : Quotient) → Formed r (inv y) → Formed (times_by a r) (x *q inv y)
-    go (Is c) k = mul-inside a c x (inv y) i k
-    go HoldsZero k = tt
-    go Unbounded k = k
+    go : (r : Result Interval DivideError) → Formed r (inv y) → Formed (times_by a r) (x *q inv y)
+    go (Ok c) k = mul-inside a c x (inv y) i k
+    go (Err HoldsZero) k = tt
+    go (Err Unbounded) k = k
 
 pub reciprocal-inside : (b : Interval) (y : ℚ) → Inside b y → Encloses (reciprocal_of b) (inv y)
 reciprocal-inside b y j = formed-inside (reciprocal_of b) (inv y) (reciprocal-formed b y j)

@@ -5,7 +5,7 @@ use lib.Ieee.{Float, nan, inf, fin, binary64, div, le, lt, neg, ne, is_nan, of_b
 use Rattle.doubles.specs.Neighbour.{up_from, down_from, next_up, next_down, fmin, fmax}
 use Rattle.doubles.proofs.TestFacts.{Tn-of, ne-self}
 use Rattle.interval.specs.Ops.{new_of}
-use Rattle.interval.specs.declared.New.TheVariants.{Nothing}
+use Rattle.std.specs.Prelude.{None}
 
 pub only_nan : (x : Float) → is_nan x ≡ true → nan ≡ x
 unfolding is_nan
@@ -47,7 +47,7 @@ max_of (inf s) b = refl
 max_of (fin s m d) b = refl
 
 -- of two NaNs there is no interval
-pub no_number : (a b : Float) → is_nan (cond (is_nan a) b a) ≡ true → new_of (next_down (fmin a b)) (next_up (fmax a b)) ≡ Nothing
+pub no_number : (a b : Float) → is_nan (cond (is_nan a) b a) ≡ true → new_of (next_down (fmin a b)) (next_up (fmax a b)) ≡ None
 unfolding new_of up_from down_from le lt neg is_nan
 no_number nan nan e = refl
 no_number nan (inf s) e = absurd (subst T (sym e) tt)

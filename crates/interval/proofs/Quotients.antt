@@ -9,20 +9,21 @@ use Rattle.doubles.proofs.Limits.{lower-self, upper_self}
 use Rattle.interval.specs.Inside.{Inside}
 use Rattle.interval.specs.Ops.{contains_of, new_of, reciprocal_of, times_by, divide_of}
 use Rattle.interval.specs.declared.Interval.{Interval}
-use Rattle.interval.specs.declared.Quotient.{Quotient}
-use Rattle.interval.specs.declared.Quotient.TheVariants.{Is, HoldsZero, Unbounded}
+use Rattle.interval.specs.declared.DivideError.{DivideError}
+use Rattle.interval.specs.declared.DivideError.TheVariants.{HoldsZero, Unbounded}
+use Rattle.std.specs.Prelude.{Result, Ok, Err}
 use Rattle.interval.proofs.Contain.{Formed, reciprocal-formed}
 
 -- a quotient, or none since the divisor holds 0
-abbrev pub Reasoned : Quotient → Type 0
-Reasoned (Is c) = Unit
-Reasoned HoldsZero = Unit
-Reasoned Unbounded = ⊥
+abbrev pub Reasoned : Result Interval DivideError → Type 0
+Reasoned (Ok c) = Unit
+Reasoned (Err HoldsZero) = Unit
+Reasoned (Err Unbounded) = ⊥
 
-formed-reasoned : (q : Quotient) (x : ℚ) → Formed q x → Reasoned q
-formed-reasoned (Is c) x h = tt
-formed-reasoned HoldsZero x h = tt
-formed-reasoned Unbounded x h = h
+formed-reasoned : (q : Result Interval DivideError) (x : ℚ) → Formed q x → Reasoned q
+formed-reasoned (Ok c) x h = tt
+formed-reasoned (Err HoldsZero) x h = tt
+formed-reasoned (Err Unbounded) x h = h
 
 abbrev pub between : Float → Float → Interval
 between a b = record { lo = a; hi = b }
@@ -58,7 +59,7 @@ pub divide-reasoned : (a : Interval) (lo hi : Float) → T (le lo hi) → Reason
 unfolding divide_of
 divide-reasoned a lo hi h = go (reciprocal_of (between lo hi)) (reciprocal-reasoned lo hi h)
   where
-    go : (q : Quotient) → Reasoned q → Reasoned (times_by a q)
-    go (Is c) m = tt
-    go HoldsZero m = tt
-    go Unbounded m = m
+    go : (q : Result Interval DivideError) → Reasoned q → Reasoned (times_by a q)
+    go (Ok c) m = tt
+    go (Err HoldsZero) m = tt
+    go (Err Unbounded) m = m

@@ -1,22 +1,20 @@
 -- The operations of the crate as functions of the values: what each contract says is the result (document 01, module 1, and the divide of module 6).
-use Rattle.std.specs.Prelude.{Bool, true, false, cond, ◌&&◌, ◌||◌, is_nan, Float}
+use Rattle.std.specs.Prelude.{Bool, true, false, cond, ◌&&◌, ◌||◌, is_nan, Float, Option, Some, None, Result, Ok, Err}
 use Rattle.std.specs.Float.{inf, binary64}
 use Rattle.std.specs.Float.Ieee.{neg, lt, le, eq, add, sub, mul, div}
 use Rattle.doubles.specs.Neighbour.{next_up, next_down, fmin, fmax, fabs, least4, greatest4}
 use Rattle.doubles.specs.Value.{zero+, one+}
 use Rattle.interval.specs.declared.Interval.{Interval}
-use Rattle.interval.specs.declared.New.{New}
-use Rattle.interval.specs.declared.New.TheVariants.{Made, Nothing}
-use Rattle.interval.specs.declared.Quotient.{Quotient}
-use Rattle.interval.specs.declared.Quotient.TheVariants.{Is, HoldsZero, Unbounded}
+use Rattle.interval.specs.declared.DivideError.{DivideError}
+use Rattle.interval.specs.declared.DivideError.TheVariants.{HoldsZero, Unbounded}
 use Rattle.interval.specs.declared.Sign.{Sign}
 use Rattle.interval.specs.declared.Sign.TheVariants.{Positive, Negative, Zero, Unknown}
 
 abbrev pub entire : Interval
 entire = record { lo = inf true; hi = inf false }
 
-unfoldable pub new_of : Float → Float → New
-new_of a b = cond (le a b) (Made (record { lo = a; hi = b })) Nothing
+unfoldable pub new_of : Float → Float → Option Interval
+new_of a b = cond (le a b) (Some (record { lo = a; hi = b })) None
 
 unfoldable pub point_of : Float → Interval
 point_of x = cond (is_nan x) entire (record { lo = x; hi = x })
@@ -74,21 +72,20 @@ is_symmetric a = eq a.lo (neg a.hi)
 abbrev pub neg_of : Interval → Interval
 neg_of a = record { lo = neg a.hi; hi = neg a.lo }
 
-abbrev pub made_by : New → Quotient
-made_by (Made r) = Is r
-made_by Nothing = Unbounded
+abbrev pub made_by : Option Interval → Result Interval DivideError
+made_by (Some r) = Ok r
+made_by None = Err Unbounded
 
 -- the outward interval of both reciprocals
-unfoldable pub reciprocal_of : Interval → Quotient
+unfoldable pub reciprocal_of : Interval → Result Interval DivideError
 reciprocal_of b =
     let x = div binary64 one+ b.lo in
     let y = div binary64 one+ b.hi in
-    cond (contains_of b zero+) HoldsZero (made_by (new_of (next_down (fmin x y)) (next_up (fmax x y))))
+    cond (contains_of b zero+) (Err HoldsZero) (made_by (new_of (next_down (fmin x y)) (next_up (fmax x y))))
 
-abbrev pub times_by : Interval → Quotient → Quotient
-times_by a (Is r) = Is (mul_of a r)
-times_by a HoldsZero = HoldsZero
-times_by a Unbounded = Unbounded
+abbrev pub times_by : Interval → Result Interval DivideError → Result Interval DivideError
+times_by a (Ok r) = Ok (mul_of a r)
+times_by a (Err e) = Err e
 
-unfoldable pub divide_of : Interval → Interval → Quotient
+unfoldable pub divide_of : Interval → Interval → Result Interval DivideError
 divide_of a b = times_by a (reciprocal_of b)

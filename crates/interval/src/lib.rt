@@ -23,15 +23,8 @@ pub struct Interval {
     hi: f64,
 }
 
-// An interval, or none where the low end is above the high end or one is a NaN.
-#[derive(Clone, Copy)]
-pub enum New {
-    Made(Interval),
-    Nothing,
-}
-
 // The sign of all that an interval holds. Zero is [0, 0] alone; what is on both sides of 0, or touches it, is Unknown.
-#[derive(Clone, Copy)]
+#[derive(Clone, Copy, Debug, PartialEq, Eq)]
 pub enum Sign {
     Positive,
     Negative,
@@ -48,13 +41,14 @@ impl Interval {
         Interval { lo: -i, hi: i }
     }
 
-    pub fn new(lo: f64, hi: f64) -> New
+    // None where the low end is above the high end, or one is a NaN.
+    pub fn new(lo: f64, hi: f64) -> Option<Interval>
         ensures { result ≡ new_of lo hi }
     {
         if lo <= hi {
-            New::Made(Interval { lo, hi })
+            Some(Interval { lo, hi })
         } else {
-            New::Nothing
+            None
         }
     }
 
@@ -94,11 +88,7 @@ impl Interval {
     pub fn contains(self, value: f64) -> bool
         ensures { result ≡ contains_of self value }
     {
-        if self.lo <= value {
-            value <= self.hi
-        } else {
-            false
-        }
+        self.lo <= value && value <= self.hi
     }
 
     // The smallest interval that holds both operands.
@@ -229,42 +219,34 @@ impl Interval {
     }
 }
 
-// A quotient of two intervals: the first times the outward interval of both reciprocals.
-#[derive(Clone, Copy)]
-pub enum Quotient {
-    Is(Interval),
+// Why two intervals have no quotient: the divisor holds 0, or its reciprocals have no interval.
+#[derive(Clone, Copy, Debug, PartialEq, Eq)]
+pub enum DivideError {
     HoldsZero,
     Unbounded,
 }
 
 // The outward interval of both reciprocals, where b does not hold 0.
-pub fn reciprocal(b: Interval) -> Quotient
+pub fn reciprocal(b: Interval) -> Result<Interval, DivideError>
     ensures { result ≡ reciprocal_of b }
 {
     if b.contains(0.0) {
-        return Quotient::HoldsZero;
+        return Err(DivideError::HoldsZero);
     }
     let y = 1.0 / b.hi;
     let x = number(1.0 / b.lo, y);
     if is_nan(x) {
-        return Quotient::Unbounded;
+        return Err(DivideError::Unbounded);
     }
-    let n = Interval::new(below(least(x, y)), above(most(x, y)));
-    match n {
-        New::Made(r) => Quotient::Is(r),
-        New::Nothing => Quotient::Unbounded,
-    }
+    Interval::new(below(least(x, y)), above(most(x, y))).ok_or(DivideError::Unbounded)
 }
 
-// a / b, where b does not hold 0.
-pub fn divide(a: Interval, b: Interval) -> Quotient
+// a / b, where b does not hold 0: a times the outward interval of both reciprocals.
+pub fn divide(a: Interval, b: Interval) -> Result<Interval, DivideError>
     ensures { result ≡ divide_of a b }
 {
-    match reciprocal(b) {
-        Quotient::Is(r) => Quotient::Is(a.mul(r)),
-        Quotient::HoldsZero => Quotient::HoldsZero,
-        Quotient::Unbounded => Quotient::Unbounded,
-    }
+    let r = reciprocal(b)?;
+    Ok(a.mul(r))
 }
 
 // One of four is a NaN.

@@ -1,8 +1,9 @@
 -- The Cartesian bounds hold the quotient moved by the reference, and its derivatives. Assumes nothing.
 use mathlib.Core.Path.{◌≡◌, refl, sym, subst}
 use mathlib.Core.Bool.{Bool, true, false, ◌||◌, cond}
-use Prim.Native.Nat.{ℕ, zero, suc}
 use lib.Dec.{T}
+use Rattle.std.specs.Prelude.{Some, None, Result, Ok, Err}
+use Rattle.knots.specs.declared.refusal.Refusal.{Refusal}
 use lib.Ieee.{Float, lt, le, is_nan}
 use lib.Ieee.Scale.{finite}
 use Rattle.doubles.specs.Neighbour.{fmin, fmax}
@@ -14,17 +15,13 @@ use Rattle.interval.proofs.Contain.{point-inside, add-inside, sub-inside, mul-in
 use Rattle.interval.specs.Inside.{Inside}
 use Rattle.interval.specs.Ops.{sub_of, mul_of, new_of, reciprocal_of}
 use Rattle.interval.specs.declared.Interval.{Interval}
-use Rattle.interval.specs.declared.New.TheVariants.{Made, Nothing}
-use Rattle.interval.specs.declared.Quotient.{Quotient}
-use Rattle.interval.specs.declared.Quotient.TheVariants as Q
+use Rattle.interval.specs.declared.DivideError.{DivideError}
+use Rattle.interval.specs.declared.DivideError.TheVariants.{HoldsZero, Unbounded}
 use Rattle.jets.specs.declared.jet.Jet.{Jet}
 use Rattle.jets.specs.declared.net.Control.{Control}
 use Rattle.runs.specs.declared.vector.Vector.{Vector}
 use Rattle.jets.specs.Three.{Three}
 use Rattle.jets.specs.declared.cartesian.Bounds.{Bounds}
-use Rattle.jets.specs.declared.cartesian.BoundAnswer.{BoundAnswer}
-use Rattle.jets.specs.declared.cartesian.BoundAnswer.TheVariants as B
-use Rattle.jets.specs.declared.net.NetAnswer.{NetAnswer}
 use Rattle.jets.specs.Net.{refuse_net}
 use Rattle.jets.specs.Cartesian.{net_by, coordinate_of, box_by, cut_by, cartesian_of}
 use Rattle.jets.proofs.NetIn.{Given}
@@ -56,9 +53,9 @@ pub record Encloses (b : Bounds) (X Y Z : Three) : Type 0 where
   pub z : JetIn b.z Z.value Z.du Z.dv
 
 -- or a refusal that is not 28 and not 29
-abbrev pub Boxes : BoundAnswer → Three → Three → Three → Type 0
-Boxes (B.Are b) X Y Z = Encloses b X Y Z
-Boxes (B.Refused n) X Y Z = Given n
+abbrev pub Boxes : Result Bounds Refusal → Three → Three → Three → Type 0
+Boxes (Ok b) X Y Z = Encloses b X Y Z
+Boxes (Err r) X Y Z = Given (Err r)
 
 -- the quotient of two homogeneous numbers with their derivatives, moved by o
 abbrev pub over : Three → Three → ℚ → Three
@@ -97,22 +94,23 @@ cartesian-in h o bound X Y Z W a b c d e f = go (le lo hi) (ends-ordered lo hi W
       high = high-either (lt bound.hi h.w.v.hi || is_nan h.w.v.hi) bound.hi h.w.v.hi W.value e.high d.value.high;
     }
 
-    box : (r : Quotient) → Formed r (inv W.value) → Boxes (box_by h o r) (over X W (val o.x)) (over Y W (val o.y)) (over Z W (val o.z))
-    box (Q.Is r) k = record { x = coordinate-in h.x h.w r o.x a d k f.x; y = coordinate-in h.y h.w r o.y b d k f.y; z = coordinate-in h.z h.w r o.z c d k f.z }
-    box Q.HoldsZero k = tt
-    box Q.Unbounded k = absurd k
+    box : (r : Result Interval DivideError) → Formed r (inv W.value) → Boxes (box_by h o r) (over X W (val o.x)) (over Y W (val o.y)) (over Z W (val o.z))
+    box (Ok r) k = record { x = coordinate-in h.x h.w r o.x a d k f.x; y = coordinate-in h.y h.w r o.y b d k f.y; z = coordinate-in h.z h.w r o.z c d k f.z }
+    box (Err HoldsZero) k = tt
+    box (Err Unbounded) k = absurd k
 
-    go : (t : Bool) → T t → Boxes (cut_by h o (cond t (Made w) Nothing)) (over X W (val o.x)) (over Y W (val o.y)) (over Z W (val o.z))
+    go : (t : Bool) → T t → Boxes (cut_by h o (cond t (Some w) None)) (over X W (val o.x)) (over Y W (val o.y)) (over Z W (val o.z))
     go true l = box (reciprocal_of w) (reciprocal-formed w W.value cut)
     go false l = absurd l
 
-pub boxes-eq : (a : BoundAnswer) (X Y Z X' Y' Z' : Three) → X ≡ X' → Y ≡ Y' → Z ≡ Z' → Boxes a X Y Z → Boxes a X' Y' Z'
+pub boxes-eq : (a : Result Bounds Refusal) (X Y Z X' Y' Z' : Three) → X ≡ X' → Y ≡ Y' → Z ≡ Z' → Boxes a X Y Z → Boxes a X' Y' Z'
 boxes-eq a X Y Z X' Y' Z' e f g h = subst (λ (x : Three). Boxes a x Y' Z') e (subst (λ (y : Three). Boxes a X y Z') f (subst (λ (z : Three). Boxes a X Y z) g h))
 
 pub three-eq : (X Y : Three) → X.value ≡ Y.value → X.du ≡ Y.du → X.dv ≡ Y.dv → X ≡ Y
 three-eq X Y e f g = λ i. record { value = e i; du = f i; dv = g i }
 
 -- a net that is refused by its places
-pub refuse-in : (o : Vector) (bound : Interval) (n : ℕ) (a : NetAnswer) (X Y Z : Three) → Given n → (n ≡ 0 → Boxes (net_by o bound a) X Y Z) → Boxes (net_by o bound (refuse_net n a)) X Y Z
-refuse-in o bound zero a X Y Z g h = h refl
-refuse-in o bound (suc n) a X Y Z g h = g
+pub refuse-in : (o : Vector) (bound : Interval) (n : Result (Unit {0}) Refusal) (a : Result Control Refusal) (X Y Z : Three) → Given n → (n ≡ Ok tt → Boxes (net_by o bound a) X Y Z)
+    → Boxes (net_by o bound (refuse_net n a)) X Y Z
+refuse-in o bound (Ok x) a X Y Z g h = h refl
+refuse-in o bound (Err r) a X Y Z g h = g

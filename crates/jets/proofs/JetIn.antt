@@ -10,7 +10,6 @@ use Rattle.interval.specs.declared.Interval.{Interval}
 use Rattle.jets.specs.declared.jet.Jet.{Jet}
 use Rattle.jets.specs.Jet.{constant_of, jet_sub, jet_add, jet_mul, jet_scale, parameter_of, second_of}
 use Rattle.jets.specs.Net.{mix_jet}
-use Prim.Native.Nat.{zero, ◌+◌, ◌-◌, ◌*◌, ◌≤◌}
 use lib.Dec.{T}
 use lib.Ieee.{Float, inf, nan, fin}
 use lib.Ieee.Scale.{finite}

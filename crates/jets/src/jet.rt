@@ -61,10 +61,3 @@ pub fn second(range: Interval) -> Jet
         dv: Interval::point(1.0),
     }
 }
-
-// A jet, or the number of a refusal.
-#[derive(Clone, Copy)]
-pub enum JetAnswer {
-    Is(Jet),
-    Refused(u32),
-}

@@ -4,9 +4,10 @@ ghost use Rattle.jets.specs.Jet.{jet_add, jet_mul};
 ghost use Rattle.interval.specs.Ops.{add_of, mul_of, is_symmetric};
 ghost use Rattle.jets.specs.Net.{slope_of, share_of, mix_of, neighbours, zero_control};
 
-use crate::jet::{Jet, JetAnswer};
+use crate::jet::Jet;
+use interval::Interval;
 use interval::spread::{product, sum_of_products};
-use interval::{Interval, Quotient};
+use knots::refusal::Refusal;
 
 // A point of the net: three weighted coordinates and the weight.
 #[derive(Clone, Copy)]
@@ -15,13 +16,6 @@ pub struct Control {
     pub y: Jet,
     pub z: Jet,
     pub w: Jet,
-}
-
-// A point of the net, or the number of a refusal.
-#[derive(Clone, Copy)]
-pub enum NetAnswer {
-    Is(Control),
-    Refused(u32),
 }
 
 pub fn zero_control() -> Control
@@ -37,16 +31,13 @@ pub fn zero_control() -> Control
 }
 
 // The share of the right neighbour, (t - left) / (right - left).
-fn share_at(t: Jet, left: f64, right: f64) -> JetAnswer
+fn share_at(t: Jet, left: f64, right: f64) -> Result<Jet, Refusal>
     ensures { result ≡ share_of t left right }
 {
     let l = Interval::point(left);
     let d = Interval::point(right).sub(l);
-    match interval::divide(Interval::point(1.0), d) {
-        Quotient::Is(q) => JetAnswer::Is(t.sub(Jet::constant(l)).scale(q)),
-        Quotient::HoldsZero => JetAnswer::Refused(26),
-        Quotient::Unbounded => JetAnswer::Refused(28),
-    }
+    let q = interval::divide(Interval::point(1.0), d)?;
+    Ok(t.sub(Jet::constant(l)).scale(q))
 }
 
 fn dot(a: Interval, b: Interval, c: Interval, d: Interval) -> Interval
@@ -58,19 +49,7 @@ fn dot(a: Interval, b: Interval, c: Interval, d: Interval) -> Interval
 fn all_symmetric(a: Interval, b: Interval, c: Interval, d: Interval) -> bool
     ensures { result ≡ (is_symmetric a && (is_symmetric b && (is_symmetric c && is_symmetric d))) }
 {
-    if a.is_symmetric() {
-        if b.is_symmetric() {
-            if c.is_symmetric() {
-                d.is_symmetric()
-            } else {
-                false
-            }
-        } else {
-            false
-        }
-    } else {
-        false
-    }
+    a.is_symmetric() && b.is_symmetric() && c.is_symmetric() && d.is_symmetric()
 }
 
 // a d, where d is the derivative of a control: [0, 0] at first.
@@ -130,11 +109,9 @@ fn mix(alpha: Jet, a: Control, b: Control) -> Control
 }
 
 // Two neighbours under the share between two knots.
-pub fn step(t: Jet, left: f64, right: f64, a: Control, b: Control) -> NetAnswer
+pub fn step(t: Jet, left: f64, right: f64, a: Control, b: Control) -> Result<Control, Refusal>
     ensures { result ≡ neighbours (share_of t left right) a b }
 {
-    match share_at(t, left, right) {
-        JetAnswer::Is(alpha) => NetAnswer::Is(mix(alpha, a, b)),
-        JetAnswer::Refused(n) => NetAnswer::Refused(n),
-    }
+    let alpha = share_at(t, left, right)?;
+    Ok(mix(alpha, a, b))
 }

@@ -9,17 +9,17 @@ use lib.Dec.{leb}
 use lib.ListN.{length, get_or-eq_default}
 use lib.Ieee.{Float, nan, inf, fin, lt}
 use lib.Ieee.Scale.{finite}
-use borrow.Author.Tests.{eq-eqb, le-leb, lt-leb, not-false}
+use borrow.Author.Tests.{eq-eqb, ne_eqb, le-leb, lt-leb, not-false}
 use Rattle.doubles.specs.Run.{at}
-use Rattle.knots.specs.Refusal.{refuse, accepted, length-bad, parameter-not-finite, parameter-outside}
+use Rattle.knots.specs.Refusal.{refuse, accepted, LengthBad, ParameterNotFinite, ParameterOutside}
 use Rattle.knots.specs.Knots.{ValidKnots, knot_refusal}
 use Rattle.knots.specs.Curve.{over_long}
 use Rattle.knots.specs.Span.{SpanAt, SpanFound, SpanMeets, outside, clamped, refusing, clamping, domain_refusal, nonempty, halved, last_nonempty, searched, span_refusal, span_answer}
-use Rattle.knots.specs.declared.span.SpanAnswer.{SpanAnswer}
-use Rattle.knots.specs.declared.span.SpanAnswer.TheVariants.{Span, Refused}
+use Rattle.knots.specs.declared.refusal.Refusal.{Refusal}
+use Rattle.std.specs.Prelude.{Result, Ok, Err}
 use Rattle.doubles.proofs.TestedOrder.{lt_irrefl, lt-asym}
 use Rattle.knots.proofs.Last.{last_none}
-use Rattle.knots.proofs.Refusals.{passed, or_else-none, stop}
+use Rattle.knots.proofs.Refusals.{passed, or_else-none}
 use Rattle.knots.proofs.Valid.{valid}
 use Rattle.knots.proofs.Curves.{or-false}
 use Rattle.knots.proofs.Spans.{finite-at, search-meets, span-is}
@@ -105,8 +105,8 @@ module _ (p n : ℕ) (ks : List Float) (u : Float) where
     pub domain-open : (domain_refusal c p n ks u).number ≡ 0 → (finite u ≡ true) × ((not c && outside p n ks u) ≡ false)
     unfolding domain_refusal
     domain-open h =
-        let a = passed (not (finite u)) (refuse parameter-not-finite) _ (λ e. omega arith) h in
-        let b = passed (not c && outside p n ks u) (refuse parameter-outside) accepted (λ e. omega arith) a.1 in
+        let a = passed (not (finite u)) (refuse ParameterNotFinite) _ (λ e. omega arith) h in
+        let b = passed (not c && outside p n ks u) (refuse ParameterOutside) accepted (λ e. omega arith) a.1 in
         (not-false (finite u) a.0, b.0)
 
     pub domain-none : (domain_refusal c p n ks u).number ≡ 0 → domain_refusal c p n ks u ≡ accepted
@@ -129,31 +129,31 @@ module _ (p n : ℕ) (ks : List Float) (u : Float) where
   unfolding domain_refusal
   modes-same h = simp h
 
-  pub outside-refused : (domain_refusal clamping p n ks u).number ≡ 0 → outside p n ks u ≡ true → domain_refusal refusing p n ks u ≡ refuse parameter-outside
+  pub outside-refused : (domain_refusal clamping p n ks u).number ≡ 0 → outside p n ks u ≡ true → domain_refusal refusing p n ks u ≡ refuse ParameterOutside
   unfolding domain_refusal
-  outside-refused h o = simp ((passed (not (finite u)) (refuse parameter-not-finite) accepted (λ e. omega arith) h).0, o)
+  outside-refused h o = simp ((passed (not (finite u)) (refuse ParameterNotFinite) accepted (λ e. omega arith) h).0, o)
 
   -- ---- find_span
   module _ (c : Bool) where
     pub unrefused : (span_refusal c p n ks u).number ≡ 0 → ValidKnots p n ks × (finite u ≡ true) × ((not c && outside p n ks u) ≡ false)
     unfolding span_refusal
     unrefused h =
-        let a = passed (over_long true ks) (refuse length-bad) _ (λ e. omega arith) h in
+        let a = passed (over_long true ks) (refuse LengthBad) _ (λ e. omega arith) h in
         let b = or_else-none (knot_refusal p n ks) (domain_refusal c p n ks u) a.1 in
         let d = domain-open c b.1 in
         (valid p n ks b.0, d.0, d.1)
 
     -- an answer that the contract permits is the computed one
-    pub answer-is : (a : SpanAnswer) → SpanMeets c p n ks u a → a ≡ span_answer c p n ks u
+    pub answer-is : (a : Result ℕ Refusal) → SpanMeets c p n ks u a → a ≡ span_answer c p n ks u
     unfolding span_answer
-    answer-is (Span s) x =
+    answer-is (Ok s) x =
         let q = unrefused x.0 in
         let w = clamped-in q.0 q.1 in
         let m = subst (λ (v : Float). SpanAt p n ks v s) (spoken c q.2) x.1 in
-        simp (eq-eqb (span_refusal c p n ks u).number 0 x.0) (ap Span (span-is p n ks q.0 (clamped p n ks u) s w.0 m))
-    answer-is (Refused r) x = simp (stop (sym x.0) x.1) (ap Refused (sym x.0))
+        simp (eq-eqb (span_refusal c p n ks u).number 0 x.0) (ap Ok (span-is p n ks q.0 (clamped p n ks u) s w.0 m))
+    answer-is (Err r) x = simp (ne_eqb (span_refusal c p n ks u).number 0 (λ z. x.1 (ap (λ (a : Refusal). a.number) (sym x.0) ∙ z))) (ap Err (sym x.0))
 
-    pub answer-unique : (a b : SpanAnswer) → SpanMeets c p n ks u a → SpanMeets c p n ks u b → a ≡ b
+    pub answer-unique : (a b : Result ℕ Refusal) → SpanMeets c p n ks u a → SpanMeets c p n ks u b → a ≡ b
     answer-unique a b x y = answer-is a x ∙ sym (answer-is b y)
 
   -- where the parameter is not outside, both modes answer alike
@@ -162,10 +162,10 @@ module _ (p n : ℕ) (ks : List Float) (u : Float) where
   span-inside-same h = simp (modes-same h)
 
   -- where it is, and the one answers, the other refuses by 43
-  pub span-outside : (span_refusal clamping p n ks u).number ≡ 0 → outside p n ks u ≡ true → span_answer refusing p n ks u ≡ Refused (refuse parameter-outside)
+  pub span-outside : (span_refusal clamping p n ks u).number ≡ 0 → outside p n ks u ≡ true → span_answer refusing p n ks u ≡ Err (refuse ParameterOutside)
   unfolding span_answer span_refusal
   span-outside h o =
-      let a = passed (over_long true ks) (refuse length-bad) _ (λ e. omega arith) h in
+      let a = passed (over_long true ks) (refuse LengthBad) _ (λ e. omega arith) h in
       let b = or_else-none (knot_refusal p n ks) (domain_refusal clamping p n ks u) a.1 in
       simp (a.0, eq-eqb (knot_refusal p n ks).number 0 b.0, outside-refused b.1 o)
 

@@ -12,7 +12,7 @@ use lib.Ieee.{Float}
 use lib.Ieee.Scale.{finite}
 use borrow.Author.Tests.{eqb-true, ltb-false, le-ltb, eq-eqb, ne_eqb, not-false}
 use Rattle.doubles.specs.Run.{at}
-use Rattle.knots.specs.Refusal.{refuse, accepted, placed, or_else, point-not-finite, weight-count, weight-bad, length-bad, points-uneven}
+use Rattle.knots.specs.Refusal.{refuse, accepted, placed, or_else, PointNotFinite, WeightCount, WeightBad, LengthBad, PointsUneven}
 use Rattle.knots.specs.Knots.{all_finite, knot_refusal, ValidKnots}
 use Rattle.knots.specs.Curve.{longest, over_long, any_long, is_weight, all_weights, control_refusal, count_of, formed_refusal, curve_refusal, Short, ValidControls, ValidCurve}
 use Rattle.knots.proofs.Below.{all-at, all_in}
@@ -65,9 +65,9 @@ module _ (n : ℕ) (ps : List Float) (g : Bool) (ws : List Float) where
   pub valid-controls : (control_refusal n ps g ws).number ≡ 0 → ValidControls n ps g ws
   unfolding control_refusal all_finite all_weights
   valid-controls h =
-      let a = passed (not (all_finite ps)) (placed _ (refuse point-not-finite)) _ (λ e. omega arith) h in
-      let b = passed (g && not (eqb (length ws) n)) (refuse weight-count) _ (λ e. omega arith) a.1 in
-      let c = passed (g && not (all_weights ws)) (placed _ (refuse weight-bad)) accepted (λ e. omega arith) b.1 in
+      let a = passed (not (all_finite ps)) (placed _ (refuse PointNotFinite)) _ (λ e. omega arith) h in
+      let b = passed (g && not (eqb (length ws) n)) (refuse WeightCount) _ (λ e. omega arith) a.1 in
+      let c = passed (g && not (all_weights ws)) (placed _ (refuse WeightBad)) accepted (λ e. omega arith) b.1 in
       record {
         coordinates = all-at (λ k. finite (at ps k)) (length ps) (not-false _ a.0);
         weights = λ e. eqb-true (length ws) n (given g (eqb (length ws) n) b.0 e);
@@ -98,8 +98,8 @@ module _ (p : ℕ) (ks ps : List Float) (g : Bool) (ws : List Float) where
   pub valid-curve : (curve_refusal p ks ps g ws).number ≡ 0 → ValidCurve p ks ps g ws
   unfolding curve_refusal
   valid-curve h =
-      let a = passed (any_long ks ps g ws) (refuse length-bad) _ (λ e. omega arith) h in
-      let b = passed (not (eqb (length ps % 3) 0)) (refuse points-uneven) _ (λ e. omega arith) a.1 in
+      let a = passed (any_long ks ps g ws) (refuse LengthBad) _ (λ e. omega arith) h in
+      let b = passed (not (eqb (length ps % 3) 0)) (refuse PointsUneven) _ (λ e. omega arith) a.1 in
       let c = valid-formed p (count_of ps) ks ps g ws b.1 in
       record {
         short = short ks ps g ws a.0;
@@ -118,15 +118,15 @@ module _ (p : ℕ) (ks ps : List Float) (g : Bool) (ws : List Float) where
       )
 
 -- ---- weights that are given, and are none: 9 behind all that refuses the curve without weights
-controls-empty : (n : ℕ) (ps : List Float) → 0 < n → control_refusal n ps true [] ≡ or_else (control_refusal n ps false []) (refuse weight-count)
+controls-empty : (n : ℕ) (ps : List Float) → 0 < n → control_refusal n ps true [] ≡ or_else (control_refusal n ps false []) (refuse WeightCount)
 unfolding control_refusal
-controls-empty n ps h = row_first (not (all_finite ps)) (placed _ (refuse point-not-finite)) _ _ (refuse weight-count) (λ e. omega arith) (rw (ne_eqb 0 n (λ e. omega arith)))
+controls-empty n ps h = row_first (not (all_finite ps)) (placed _ (refuse PointNotFinite)) _ _ (refuse WeightCount) (λ e. omega arith) (rw (ne_eqb 0 n (λ e. omega arith)))
 
-pub empty-weights : (p : ℕ) (ks ps : List Float) → curve_refusal p ks ps true [] ≡ or_else (curve_refusal p ks ps false []) (refuse weight-count)
+pub empty-weights : (p : ℕ) (ks ps : List Float) → curve_refusal p ks ps true [] ≡ or_else (curve_refusal p ks ps false []) (refuse WeightCount)
 unfolding curve_refusal formed_refusal any_long over_long
 empty-weights p ks ps =
     let n = count_of ps in
-    row_first (any_long ks ps false []) (refuse length-bad) _ _ (refuse weight-count) (λ e. omega arith)
-    (row_first (not (eqb (length ps % 3) 0)) (refuse points-uneven) _ _ (refuse weight-count) (λ e. omega arith)
-    (refusal-first (knot_refusal p n ks) _ _ (refuse weight-count)
+    row_first (any_long ks ps false []) (refuse LengthBad) _ _ (refuse WeightCount) (λ e. omega arith)
+    (row_first (not (eqb (length ps % 3) 0)) (refuse PointsUneven) _ _ (refuse WeightCount) (λ e. omega arith)
+    (refusal-first (knot_refusal p n ks) _ _ (refuse WeightCount)
     (λ e. let count = (valid p n ks e).count in controls-empty n ps (omega arith))))

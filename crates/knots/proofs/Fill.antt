@@ -1,4 +1,4 @@
--- Stores into a list, at any type: a loop that fills it from the front with one value, one store a turn, is `replicate n v ++ drop n d` after n turns; runs of stores one behind the other.
+-- Stores into a list, at any type: a loop that fills it from the front with one value, one store a turn, is `replicate n v ++ drop n d` after n turns; runs of stores one behind the other; a copy into a part of the list.
 -- Assumes nothing.
 use Prim.Native.Nat.{ℕ, zero, suc, ◌+◌, ◌-◌, ◌≤◌, ◌<◌}
 use mathlib.Core.Path.{◌≡◌, refl, sym, ◌∙◌, ap, subst}
@@ -7,7 +7,9 @@ use native.Mathlib.Nat.{not-suc-le-zero, le_of_suc-le-suc, add-zero, add-suc, su
 use native.Mathlib.Numerals.{add-one}
 use native.Mathlib.Omega.{arith}
 use lib.ListN.{length, set, drop, replicate, drop_of_length-le, length-set}
-use lib.Seq.{sets}
+use lib.Seq.{sets, sets-eq, take-length}
+use borrow.Rule.Slice.PartMut.{put_mid}
+use Rattle.std.proofs.lemmas.Slice.{put_mid-paste}
 
 module _ {A : Type 0} (v : A) where
   fill_suc : (n : ℕ) (d : List A) → n < length d → set (replicate n v ++ drop n d) n v ≡ replicate (suc n) v ++ drop (suc n) d
@@ -50,3 +52,7 @@ module _ {A : Type 0} where
   drop-replicate zero m a = rw sub-zero
   drop-replicate (suc n) zero a = rw zero-sub
   drop-replicate (suc n) (suc m) a = rw suc-sub-suc (drop-replicate n m a)
+
+  -- a copy into a part is a run of stores
+  pub copied : (l : List A) (at k : ℕ) (xs part : List A) → part ≡ xs → k ≡ length xs → at + length xs ≤ length l → put_mid at k l part ≡ sets l at xs
+  copied l at k xs part e h room = put_mid-paste at k l part xs (length xs) e (sym h) refl ∙ rw take-length (sym (sets-eq xs l at room))

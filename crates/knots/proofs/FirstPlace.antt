@@ -14,7 +14,7 @@ use borrow.Author.Tests.{eqb-false, not-true, not-false}
 use Rattle.doubles.specs.Run.{at}
 use Rattle.doubles.proofs.TestedOrder.{le-gives, le-fails, ge-le, ge_trans, lt-ge-trans}
 use Rattle.knots.specs.Below.{off_at}
-use Rattle.knots.specs.Refusal.{numbered, refuse, placed, along, knots-unordered, knot-repeated, point-not-finite, weight-bad}
+use Rattle.knots.specs.Refusal.{numbered, refuse, placed, along, KnotsUnordered, KnotRepeated, PointNotFinite, WeightBad}
 use Rattle.knots.specs.Knots.{finite_at, rises_at, apart_at, all_finite, in_order, ordered, apart, non_finite_at, unordered_at, repeated_at, order_refusal, knot_refusal}
 use Rattle.knots.specs.Curve.{over_long, any_long, count_of, is_weight, is_weight_at, all_weights, bad_weight_at, control_refusal, formed_refusal, curve_refusal}
 use Rattle.knots.specs.Span.{outside, domain_refusal, span_refusal}
@@ -156,10 +156,10 @@ module _ (p : ℕ) (ks ps ws : List Float) where
       (λ _. row-either (PlaceFirst p ks ps ws) (not (finite (sub binary64 (at ks n) (at ks p)))) _ _ (λ _. other 6 refl refl refl refl)
       (λ _. row-either (PlaceFirst p ks ps ws) (not (apart (p + 1) ks)) _ _ (seven o) (λ _. other 0 refl refl refl refl)))))))
     where
-      four : not (ordered ks) ≡ true → PlaceFirst p ks ps ws (placed (unordered_at ks) (refuse knots-unordered))
+      four : not (ordered ks) ≡ true → PlaceFirst p ks ps ws (placed (unordered_at ks) (refuse KnotsUnordered))
       four e = record { knot = λ _. unordered-first ks (not-true _ e); run = λ z. absurd (omega arith); point = λ z. absurd (omega arith); weight = λ z. absurd (omega arith) }
 
-      seven : not (ordered ks) ≡ false → not (apart (p + 1) ks) ≡ true → PlaceFirst p ks ps ws (placed (repeated_at (p + 1) ks) (refuse knot-repeated))
+      seven : not (ordered ks) ≡ false → not (apart (p + 1) ks) ≡ true → PlaceFirst p ks ps ws (placed (repeated_at (p + 1) ks) (refuse KnotRepeated))
       seven o e = record {
         knot = λ z. absurd (omega arith);
         run = λ _. repeated-first p ks (not-false _ o) (not-true _ e);
@@ -174,10 +174,10 @@ module _ (p : ℕ) (ks ps ws : List Float) where
       (λ _. row-either (PlaceFirst p ks ps ws) (g && not (eqb (length ws) n)) _ _ (λ _. other 9 refl refl refl refl)
       (λ _. row-either (PlaceFirst p ks ps ws) (g && not (all_weights ws)) _ _ ten (λ _. other 0 refl refl refl refl)))
     where
-      eight : not (all_finite ps) ≡ true → PlaceFirst p ks ps ws (placed (non_finite_at ps / 3) (refuse point-not-finite))
+      eight : not (all_finite ps) ≡ true → PlaceFirst p ks ps ws (placed (non_finite_at ps / 3) (refuse PointNotFinite))
       eight e = record { knot = λ z. absurd (omega arith); run = λ z. absurd (omega arith); point = λ _. point-first ps (not-true _ e); weight = λ z. absurd (omega arith) }
 
-      ten : (g && not (all_weights ws)) ≡ true → PlaceFirst p ks ps ws (placed (bad_weight_at ws) (refuse weight-bad))
+      ten : (g && not (all_weights ws)) ≡ true → PlaceFirst p ks ps ws (placed (bad_weight_at ws) (refuse WeightBad))
       ten e = record {
         knot = λ z. absurd (omega arith);
         run = λ z. absurd (omega arith);

@@ -5,7 +5,8 @@ use mathlib.Core.Bool.{Bool, true, false, cond}
 use mathlib.Core.Path.{◌≡◌, refl, sym, ◌∙◌, ap}
 use lib.Dec.{eqb}
 use borrow.Author.Tests.{eqb-true, eqb-false, eq-eqb, ne_eqb}
-use Rattle.knots.specs.Refusal.{or_else}
+use Rattle.std.specs.Prelude.{Result, Ok, Err}
+use Rattle.knots.specs.Refusal.{or_else, along, checked}
 use Rattle.knots.specs.declared.refusal.Refusal.{Refusal}
 
 -- a fact of a row where it applies, and of what is asked behind it where it does not
@@ -22,19 +23,49 @@ pub passed : (b : Bool) (r x : Refusal) → (r.number ≡ 0 → ⊥) → (cond b
 passed true r x n h = absurd (n h)
 passed false r x n h = (refl, h)
 
--- a call's answer k that is the number m: it is handed on, or the next is asked
-pub number-stop : {k m : ℕ} → k ≡ m → (k ≡ 0 → ⊥) → eqb m 0 ≡ false
-number-stop {m} e h = ne_eqb m 0 (λ z. h (e ∙ z))
+abbrev the_ok : Unit {0} → Result (Unit {0}) Refusal
+the_ok x = Ok x
 
-pub number-skip : {k m : ℕ} → k ≡ m → k ≡ 0 → eqb m 0 ≡ true
-number-skip {m} e h = eq-eqb m 0 (sym e ∙ h)
+abbrev the_err : Refusal → Result (Unit {0}) Refusal
+the_err r = Err r
 
--- and an answer r that is the refusal a
-pub stop : {r a : Refusal} → r ≡ a → (r.number ≡ 0 → ⊥) → eqb a.number 0 ≡ false
-stop e = number-stop (ap (λ (x : Refusal). x.number) e)
+-- ---- a check that is passed has refused nothing, and one that is not answers the refusal itself
+pub let_by : (a : Refusal) {x : Unit {0}} → Ok x ≡ checked a → a.number ≡ 0
+unfolding checked
+let_by a {x} h = go (eqb a.number 0) refl h
+  where
+    go : (t : Bool) → eqb a.number 0 ≡ t → the_ok x ≡ cond t (Ok tt) (Err a) → a.number ≡ 0
+    go true e h = eqb-true a.number 0 e
+    go false e h = cc
 
-pub skip : {r a : Refusal} → r ≡ a → r.number ≡ 0 → eqb a.number 0 ≡ true
-skip e = number-skip (ap (λ (x : Refusal). x.number) e)
+pub stopped_by : (a : Refusal) {r : Refusal} → Err r ≡ checked a → (r ≡ a) × (a.number ≡ 0 → ⊥)
+unfolding checked
+stopped_by a {r} h = go (eqb a.number 0) refl h
+  where
+    go : (t : Bool) → eqb a.number 0 ≡ t → the_err r ≡ cond t (Ok tt) (Err a) → (r ≡ a) × (a.number ≡ 0 → ⊥)
+    go true e h = cc
+    go false e h = (cc, eqb-false a.number 0 e)
+
+-- so it is asked on, or handed on
+pub skip : (a : Refusal) {x : Unit {0}} → Ok x ≡ checked a → eqb a.number 0 ≡ true
+skip a h = eq-eqb a.number 0 (let_by a h)
+
+pub stop : (a : Refusal) {r : Refusal} → Err r ≡ checked a → eqb a.number 0 ≡ false
+stop a h = ne_eqb a.number 0 (stopped_by a h).1
+
+-- the same of a direction
+pub along-let : (d : ℕ) (a : Refusal) {x : Unit {0}} → Ok x ≡ checked a → Ok x ≡ checked (along d a)
+unfolding checked
+along-let d a h = let e = skip a h in rw e
+
+pub along-stop : (d : ℕ) (a : Refusal) {r : Refusal} → Err r ≡ checked a → Err (along d r) ≡ checked (along d a)
+unfolding checked
+along-stop d a h = let e = stop a h in rw (e, (stopped_by a h).0)
+
+-- what is refused is answered as it is
+pub refused : (a : Refusal) → (a.number ≡ 0 → ⊥) → Err a ≡ checked a
+unfolding checked
+refused a n = rw (ne_eqb a.number 0 n)
 
 -- a row above stands before what is asked last
 pub row_first : (b : Bool) (r x y z : Refusal) → (r.number ≡ 0 → ⊥) → x ≡ or_else y z → cond b r x ≡ or_else (cond b r y) z
@@ -63,3 +94,7 @@ where-none {A} {X} n x y e f z = go (eqb n 0) refl
     go : (b : Bool) → eqb n 0 ≡ b → cond b (f x) z ≡ cond b (f y) z
     go true h = ap f (e (eqb-true n 0 h))
     go false h = refl
+
+-- a refusal that is asked first is handed on
+pub refused-first : (a b : Refusal) {r : Refusal} → Err r ≡ checked a → Err r ≡ checked (or_else a b)
+refused-first a b h = rw (stop a h) h

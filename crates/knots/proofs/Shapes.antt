@@ -8,7 +8,7 @@ use lib.ListN.{length}
 use lib.Dec.{leb, ltb, eqb}
 use lib.Ieee.{Float}
 use borrow.Author.Tests.{ltb-false, leb-false, lt-leb, le-ltb, eqb-true, eqb-false, eq-eqb, ne_eqb, not-false}
-use Rattle.knots.specs.Refusal.{refuse, accepted, degree-zero, few-points, knot-count, weight-count, length-bad, degree-high, points-uneven}
+use Rattle.knots.specs.Refusal.{refuse, accepted, DegreeZero, FewPoints, KnotCount, WeightCount, LengthBad, DegreeHigh, PointsUneven}
 use Rattle.knots.specs.Knots.{ValidKnots}
 use Rattle.knots.specs.Curve.{count_of, ValidCurve}
 use Rattle.knots.specs.Shape.{degree_refusal, room_refusal, weight_shape, knot_shape, curve_shape}
@@ -22,7 +22,7 @@ above (suc k) z = omega arith
 
 pub degree-open : (p : ℕ) → (degree_refusal p).number ≡ 0 → p ≤ 64
 unfolding degree_refusal
-degree-open p h = ltb-false 64 p (passed (ltb 64 p) (refuse degree-high) accepted (λ e. omega arith) h).0
+degree-open p h = ltb-false 64 p (passed (ltb 64 p) (refuse DegreeHigh) accepted (λ e. omega arith) h).0
 
 pub degree-none : (p : ℕ) → p ≤ 64 → degree_refusal p ≡ accepted
 unfolding degree_refusal
@@ -30,11 +30,11 @@ degree-none p h = simp (le-ltb 64 p h)
 
 pub room_open : (a n : ℕ) → (room_refusal a n).number ≡ 0 → n ≤ a
 unfolding room_refusal
-room_open a n h = ltb-false a n (passed (ltb a n) (refuse length-bad) accepted (λ e. omega arith) h).0
+room_open a n h = ltb-false a n (passed (ltb a n) (refuse LengthBad) accepted (λ e. omega arith) h).0
 
 pub weights-open : (n : ℕ) (g : Bool) (ws : List Float) → (weight_shape n g ws).number ≡ 0 → g ≡ true → length ws ≡ n
 unfolding weight_shape
-weights-open n g ws h q = eqb-true (length ws) n (given g (eqb (length ws) n) (passed (g && not (eqb (length ws) n)) (refuse weight-count) accepted (λ e. omega arith) h).0 q)
+weights-open n g ws h q = eqb-true (length ws) n (given g (eqb (length ws) n) (passed (g && not (eqb (length ws) n)) (refuse WeightCount) accepted (λ e. omega arith) h).0 q)
 
 pub weights-none : (n : ℕ) (g : Bool) (ws : List Float) → (g ≡ true → length ws ≡ n) → weight_shape n g ws ≡ accepted
 unfolding weight_shape
@@ -50,9 +50,9 @@ module _ (p n : ℕ) (ks : List Float) where
   pub knots-open : (knot_shape p n ks).number ≡ 0 → Fitting p n ks
   unfolding knot_shape
   knots-open h =
-      let a = passed (eqb p 0) (refuse degree-zero) _ (λ e. omega arith) h in
-      let b = passed (leb n p) (refuse few-points) _ (λ e. omega arith) a.1 in
-      let c = passed (not (eqb (length ks) (n + p + 1))) (refuse knot-count) accepted (λ e. omega arith) b.1 in
+      let a = passed (eqb p 0) (refuse DegreeZero) _ (λ e. omega arith) h in
+      let b = passed (leb n p) (refuse FewPoints) _ (λ e. omega arith) a.1 in
+      let c = passed (not (eqb (length ks) (n + p + 1))) (refuse KnotCount) accepted (λ e. omega arith) b.1 in
       record {
         degree = above p (eqb-false p 0 a.0);
         count = leb-false n p b.0;
@@ -75,7 +75,7 @@ module _ (p : ℕ) (ks ps : List Float) (g : Bool) (ws : List Float) where
   pub shaped : (curve_shape p ks ps g ws).number ≡ 0 → Shaped
   unfolding curve_shape
   shaped h =
-      let a = passed (not (eqb (length ps % 3) 0)) (refuse points-uneven) _ (λ e. omega arith) h in
+      let a = passed (not (eqb (length ps % 3) 0)) (refuse PointsUneven) _ (λ e. omega arith) h in
       let b = or_else-none (knot_shape p (count_of ps) ks) (weight_shape (count_of ps) g ws) a.1 in
       record {
         triples = thirds (length ps) (eqb-true (length ps % 3) 0 (not-false _ a.0));

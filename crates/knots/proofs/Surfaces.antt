@@ -10,7 +10,7 @@ use lib.ListN.{length}
 use lib.Dec.{eqb}
 use lib.Ieee.{Float}
 use borrow.Author.Tests.{eqb-true, eq-eqb, not-false}
-use Rattle.knots.specs.Refusal.{refuse, accepted, along, net-size, length-bad, points-uneven}
+use Rattle.knots.specs.Refusal.{refuse, accepted, along, NetSize, LengthBad, PointsUneven}
 use Rattle.knots.specs.Knots.{knot_refusal}
 use Rattle.knots.specs.Curve.{over_long, any_long, count_of, ValidControls}
 use Rattle.knots.specs.Surface.{net_refusal, surface_refusal, ValidSurface}
@@ -25,9 +25,9 @@ module _ (p q : ℕ) (us vs : List Float) (m n : ℕ) (ps : List Float) (g : Boo
       let x = or_else-none (net_refusal us vs m n ps g ws) _ h in
       let y = or_else-none (along 0 (knot_refusal p m us)) _ x.1 in
       let z = or_else-none (along 1 (knot_refusal q n vs)) _ y.1 in
-      let a = passed (over_long true us || any_long vs ps g ws) (refuse length-bad) _ (λ e. omega arith) x.0 in
-      let b = passed (not (eqb (length ps % 3) 0)) (refuse points-uneven) _ (λ e. omega arith) a.1 in
-      let c = passed (not (eqb (count_of ps) (m * n))) (refuse net-size) accepted (λ e. omega arith) b.1 in
+      let a = passed (over_long true us || any_long vs ps g ws) (refuse LengthBad) _ (λ e. omega arith) x.0 in
+      let b = passed (not (eqb (length ps % 3) 0)) (refuse PointsUneven) _ (λ e. omega arith) a.1 in
+      let c = passed (not (eqb (count_of ps) (m * n))) (refuse NetSize) accepted (λ e. omega arith) b.1 in
       let long = or-false (over_long true us) (any_long vs ps g ws) a.0 in
       let size : count_of ps ≡ m * n = eqb-true (count_of ps) (m * n) (not-false _ c.0) in
       record {

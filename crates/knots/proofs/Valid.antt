@@ -13,7 +13,7 @@ use lib.Ieee.{Float, binary64, sub, lt, le}
 use lib.Ieee.Scale.{finite}
 use borrow.Author.Tests.{eqb-true, eqb-false, leb-false, eq-eqb, ne_eqb, lt-leb, not-true, not-false}
 use Rattle.doubles.specs.Run.{at}
-use Rattle.knots.specs.Refusal.{refuse, accepted, placed, degree-zero, few-points, knot-count, knots-unordered, domain-empty, domain-wide, knot-repeated}
+use Rattle.knots.specs.Refusal.{refuse, accepted, placed, DegreeZero, FewPoints, KnotCount, KnotsUnordered, DomainEmpty, DomainWide, KnotRepeated}
 use Rattle.knots.specs.Knots.{all_finite, in_order, ordered, apart, order_refusal, knot_refusal, ValidKnots}
 use Rattle.knots.proofs.Below.{all-at, all_in, and-true, and_left, and_right}
 use Rattle.doubles.proofs.TestedOrder.{le_is, ge_trans, lt_irrefl}
@@ -37,13 +37,13 @@ module _ (p n : ℕ) (ks : List Float) where
   pub valid : (knot_refusal p n ks).number ≡ 0 → ValidKnots p n ks
   unfolding knot_refusal order_refusal ordered all_finite in_order apart
   valid h =
-      let a = passed (eqb p 0) (refuse degree-zero) _ (λ e. omega arith) h in
-      let b = passed (leb n p) (refuse few-points) _ (λ e. omega arith) a.1 in
-      let c = passed (not (eqb (length ks) (n + p + 1))) (refuse knot-count) _ (λ e. omega arith) b.1 in
-      let d = passed (not (ordered ks)) (placed _ (refuse knots-unordered)) _ (λ e. omega arith) c.1 in
-      let e = passed (le (at ks n) (at ks p)) (refuse domain-empty) _ (λ e. omega arith) d.1 in
-      let f = passed (not (finite (sub binary64 (at ks n) (at ks p)))) (refuse domain-wide) _ (λ e. omega arith) e.1 in
-      let g = passed (not (apart (p + 1) ks)) (placed _ (refuse knot-repeated)) accepted (λ e. omega arith) f.1 in
+      let a = passed (eqb p 0) (refuse DegreeZero) _ (λ e. omega arith) h in
+      let b = passed (leb n p) (refuse FewPoints) _ (λ e. omega arith) a.1 in
+      let c = passed (not (eqb (length ks) (n + p + 1))) (refuse KnotCount) _ (λ e. omega arith) b.1 in
+      let d = passed (not (ordered ks)) (placed _ (refuse KnotsUnordered)) _ (λ e. omega arith) c.1 in
+      let e = passed (le (at ks n) (at ks p)) (refuse DomainEmpty) _ (λ e. omega arith) d.1 in
+      let f = passed (not (finite (sub binary64 (at ks n) (at ks p)))) (refuse DomainWide) _ (λ e. omega arith) e.1 in
+      let g = passed (not (apart (p + 1) ks)) (placed _ (refuse KnotRepeated)) accepted (λ e. omega arith) f.1 in
       let both = not-false (ordered ks) d.0 in
       let fins = all-at (λ k. finite (at ks k)) (length ks) (and_left (all_finite ks) (in_order ks) both) in
       let ups = all-at (λ k. not (lt (at ks (k + 1)) (at ks k))) (length ks - 1) (and_right (all_finite ks) (in_order ks) both) in

@@ -7,7 +7,7 @@ use Rattle.std.specs.Float.Ieee.Scale.{finite}
 use Rattle.doubles.specs.Run.{at}
 use Rattle.doubles.specs.Value.{zero+}
 use Rattle.knots.specs.Below.{all_below, off_at}
-use Rattle.knots.specs.Refusal.{refuse, accepted, placed, or_else, point-not-finite, weight-count, weight-bad, length-bad, points-uneven}
+use Rattle.knots.specs.Refusal.{refuse, accepted, placed, or_else, PointNotFinite, WeightCount, WeightBad, LengthBad, PointsUneven}
 use Rattle.knots.specs.Knots.{all_finite, non_finite_at, knot_refusal, ValidKnots}
 use Rattle.knots.specs.declared.refusal.Refusal.{Refusal}
 
@@ -44,9 +44,9 @@ count_of ps = length ps / 3
 -- 8 to 10 of n points and their weights; 8 says the point of the first coordinate that is not finite
 unfoldable pub control_refusal : ℕ → List Float → Bool → List Float → Refusal
 control_refusal n ps g ws =
-    cond (not (all_finite ps)) (placed (non_finite_at ps / 3) (refuse point-not-finite))
-    (cond (g && not (eqb (length ws) n)) (refuse weight-count)
-    (cond (g && not (all_weights ws)) (placed (bad_weight_at ws) (refuse weight-bad)) accepted))
+    cond (not (all_finite ps)) (placed (non_finite_at ps / 3) (refuse PointNotFinite))
+    (cond (g && not (eqb (length ws) n)) (refuse WeightCount)
+    (cond (g && not (all_weights ws)) (placed (bad_weight_at ws) (refuse WeightBad)) accepted))
 
 -- 1 to 10 of a curve of n points
 unfoldable pub formed_refusal : ℕ → ℕ → List Float → List Float → Bool → List Float → Refusal
@@ -54,8 +54,8 @@ formed_refusal p n ks ps g ws = or_else (knot_refusal p n ks) (control_refusal n
 
 unfoldable pub curve_refusal : ℕ → List Float → List Float → Bool → List Float → Refusal
 curve_refusal p ks ps g ws =
-    cond (any_long ks ps g ws) (refuse length-bad)
-    (cond (not (eqb (length ps % 3) 0)) (refuse points-uneven)
+    cond (any_long ks ps g ws) (refuse LengthBad)
+    (cond (not (eqb (length ps % 3) 0)) (refuse PointsUneven)
     (formed_refusal p (count_of ps) ks ps g ws))
 
 -- n points and their weights, where they are given

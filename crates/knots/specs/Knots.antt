@@ -6,7 +6,7 @@ use Rattle.std.specs.Float.Ieee.{sub, lt, le}
 use Rattle.std.specs.Float.Ieee.Scale.{finite}
 use Rattle.doubles.specs.Run.{at}
 use Rattle.knots.specs.Below.{all_below, off_at}
-use Rattle.knots.specs.Refusal.{refuse, accepted, placed, degree-zero, few-points, knot-count, knots-unordered, domain-empty, domain-wide, knot-repeated}
+use Rattle.knots.specs.Refusal.{refuse, accepted, placed, DegreeZero, FewPoints, KnotCount, KnotsUnordered, DomainEmpty, DomainWide, KnotRepeated}
 use Rattle.knots.specs.declared.refusal.Refusal.{Refusal}
 
 -- ---- the tests of a run, at a place of it
@@ -55,17 +55,17 @@ repeated_at gap xs = off_at (apart_at gap xs) (length xs - gap)
 -- 4 to 7, of a run that is as long as it must be
 unfoldable pub order_refusal : ℕ → ℕ → List Float → Refusal
 order_refusal p n ks =
-    cond (not (ordered ks)) (placed (unordered_at ks) (refuse knots-unordered))
-    (cond (le (at ks n) (at ks p)) (refuse domain-empty)
-    (cond (not (finite (sub binary64 (at ks n) (at ks p)))) (refuse domain-wide)
-    (cond (not (apart (p + 1) ks)) (placed (repeated_at (p + 1) ks) (refuse knot-repeated)) accepted)))
+    cond (not (ordered ks)) (placed (unordered_at ks) (refuse KnotsUnordered))
+    (cond (le (at ks n) (at ks p)) (refuse DomainEmpty)
+    (cond (not (finite (sub binary64 (at ks n) (at ks p)))) (refuse DomainWide)
+    (cond (not (apart (p + 1) ks)) (placed (repeated_at (p + 1) ks) (refuse KnotRepeated)) accepted)))
 
 -- 1 to 7, each a row of the paper's table, in its order
 unfoldable pub knot_refusal : ℕ → ℕ → List Float → Refusal
 knot_refusal p n ks =
-    cond (eqb p 0) (refuse degree-zero)
-    (cond (leb n p) (refuse few-points)
-    (cond (not (eqb (length ks) (n + p + 1))) (refuse knot-count) (order_refusal p n ks)))
+    cond (eqb p 0) (refuse DegreeZero)
+    (cond (leb n p) (refuse FewPoints)
+    (cond (not (eqb (length ks) (n + p + 1))) (refuse KnotCount) (order_refusal p n ks)))
 
 -- What a run that is not refused is: the same facts, one by one, with no order among them.
 pub record ValidKnots (p n : ℕ) (ks : List Float) : Type 0 where

@@ -4,7 +4,6 @@ pub mod Clear
 pub mod Knots
 pub mod Curve
 pub mod Fine
-pub mod Placed
 pub mod Surface
 pub mod Shape
 pub mod Span

@@ -1,29 +1,24 @@
 -- An answer in the paper's numbers, case by case: its refusal, which is `accepted` where there is none, and its values. Definitions only.
-use Rattle.std.specs.Prelude.{ℕ, List, [], ◌∷◌}
+use Rattle.std.specs.Prelude.{ℕ, List, [], ◌∷◌, Result, Ok, Err}
 use Rattle.interval.specs.declared.Interval.{Interval}
-use Rattle.interval.specs.declared.Quotient.{Quotient}
-use Rattle.interval.specs.declared.Quotient.TheVariants.{Is, HoldsZero, Unbounded}
-use Rattle.knots.specs.Refusal.{refuse, accepted, denominator-zero, quotient-none}
+use Rattle.interval.specs.declared.DivideError.{DivideError}
+use Rattle.knots.specs.Refusal.{accepted, refused_quotient}
 use Rattle.knots.specs.declared.refusal.Refusal.{Refusal}
-use Rattle.knots.specs.declared.span.SpanAnswer.{SpanAnswer}
-use Rattle.knots.specs.declared.span.SpanAnswer.TheVariants.{Span, Refused}
 
 -- a divisor that holds 0 is 26; a quotient that cannot be formed 28
-abbrev pub quotient_refusal : Quotient → Refusal
-quotient_refusal (Is i) = accepted
-quotient_refusal HoldsZero = refuse denominator-zero
-quotient_refusal Unbounded = refuse quotient-none
+abbrev pub quotient_refusal : Result Interval DivideError → Refusal
+quotient_refusal (Ok i) = accepted
+quotient_refusal (Err e) = refused_quotient e
 
--- what is made of the interval, or of the refusal's number
-abbrev pub quotient_by : {A : Type 0} → (Interval → A) → (ℕ → A) → Quotient → A
-quotient_by is refused (Is i) = is i
-quotient_by is refused HoldsZero = refused (quotient_refusal HoldsZero).number
-quotient_by is refused Unbounded = refused (quotient_refusal Unbounded).number
+-- what is made of the interval, or the refusal
+abbrev pub quotient_by : {A : Type 0} → (Interval → Result A Refusal) → Result Interval DivideError → Result A Refusal
+quotient_by f (Ok i) = f i
+quotient_by f (Err e) = Err (refused_quotient e)
 
-abbrev pub span_answer_refusal : SpanAnswer → Refusal
-span_answer_refusal (Span s) = accepted
-span_answer_refusal (Refused r) = r
+abbrev pub span_answer_refusal : Result ℕ Refusal → Refusal
+span_answer_refusal (Ok s) = accepted
+span_answer_refusal (Err r) = r
 
-abbrev pub span_answer_values : SpanAnswer → List ℕ
-span_answer_values (Span s) = s ∷ []
-span_answer_values (Refused r) = []
+abbrev pub span_answer_values : Result ℕ Refusal → List ℕ
+span_answer_values (Ok s) = s ∷ []
+span_answer_values (Err r) = []

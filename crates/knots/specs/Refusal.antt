@@ -1,15 +1,11 @@
 -- The table of refusals of the paper: each has a name here, by which the contracts cite it. And what a call answers that refuses.
 -- Assumes nothing.
-use Rattle.std.specs.Prelude.{ℕ, cond, List, [], ◌∷◌, eqb}
+use Rattle.std.specs.Prelude.{ℕ, cond, List, [], ◌∷◌, eqb, Result, Ok, Err}
+use Rattle.interval.specs.declared.DivideError.{DivideError}
+use Rattle.interval.specs.declared.DivideError.TheVariants.{HoldsZero, Unbounded}
 use Rattle.knots.specs.declared.refusal.Refusal.{Refusal}
-
-pub data Reason : Type 0 where
-  degree-zero few-points knot-count knots-unordered domain-empty domain-wide knot-repeated : Reason
-  point-not-finite weight-count weight-bad net-size parameter-not-finite : Reason
-  knot-outside knot-full trim-bad degree-lowered ends-unclamped elevation-high control-bad edit-bad : Reason
-  second-not-finite iso-outside iso-weight-bad : Reason
-  range-bad range-in-no-span denominator-zero weight-ratio-low quotient-none weights-apart : Reason
-  length-bad degree-high points-uneven record-malformed parameter-outside : Reason
+pub use Rattle.knots.specs.declared.refusal.Reason.{Reason}
+pub use Rattle.knots.specs.declared.refusal.Reason.TheVariants.{DegreeZero, FewPoints, KnotCount, KnotsUnordered, DomainEmpty, DomainWide, KnotRepeated, PointNotFinite, WeightCount, WeightBad, NetSize, ParameterNotFinite, KnotOutside, KnotFull, TrimBad, DegreeLowered, EndsUnclamped, ElevationHigh, ControlBad, EditBad, SecondNotFinite, IsoOutside, IsoWeightBad, RangeBad, RangeInNoSpan, DenominatorZero, WeightRatioLow, QuotientNone, WeightsApart, LengthBad, DegreeHigh, PointsUneven, RecordMalformed, ParameterOutside}
 
 -- the classes: invalid, degenerate, unimplemented, capacity, internal; and none, of a number that is no refusal
 abbrev pub I : ℕ
@@ -32,49 +28,49 @@ no-class = 5
 
 -- the number of each, and its class
 abbrev pub row : Reason → ℕ × ℕ
-row degree-zero = (1, I)
-row few-points = (2, I)
-row knot-count = (3, I)
-row knots-unordered = (4, I)
-row domain-empty = (5, D)
-row domain-wide = (6, I)
-row knot-repeated = (7, I)
-row point-not-finite = (8, I)
-row weight-count = (9, I)
-row weight-bad = (10, I)
-row net-size = (11, I)
-row parameter-not-finite = (12, I)
-row knot-outside = (13, I)
-row knot-full = (14, I)
-row trim-bad = (15, I)
-row degree-lowered = (16, I)
-row ends-unclamped = (17, U)
-row elevation-high = (18, C)
-row control-bad = (19, D)
-row edit-bad = (20, D)
-row second-not-finite = (21, D)
-row iso-outside = (22, I)
-row iso-weight-bad = (23, D)
-row range-bad = (24, I)
-row range-in-no-span = (25, I)
-row denominator-zero = (26, U)
-row weight-ratio-low = (27, U)
-row quotient-none = (28, D)
-row weights-apart = (29, N)
-row length-bad = (30, C)
-row degree-high = (31, C)
-row points-uneven = (32, I)
-row record-malformed = (33, I)
-row parameter-outside = (43, I)
+row DegreeZero = (1, I)
+row FewPoints = (2, I)
+row KnotCount = (3, I)
+row KnotsUnordered = (4, I)
+row DomainEmpty = (5, D)
+row DomainWide = (6, I)
+row KnotRepeated = (7, I)
+row PointNotFinite = (8, I)
+row WeightCount = (9, I)
+row WeightBad = (10, I)
+row NetSize = (11, I)
+row ParameterNotFinite = (12, I)
+row KnotOutside = (13, I)
+row KnotFull = (14, I)
+row TrimBad = (15, I)
+row DegreeLowered = (16, I)
+row EndsUnclamped = (17, U)
+row ElevationHigh = (18, C)
+row ControlBad = (19, D)
+row EditBad = (20, D)
+row SecondNotFinite = (21, D)
+row IsoOutside = (22, I)
+row IsoWeightBad = (23, D)
+row RangeBad = (24, I)
+row RangeInNoSpan = (25, I)
+row DenominatorZero = (26, U)
+row WeightRatioLow = (27, U)
+row QuotientNone = (28, D)
+row WeightsApart = (29, N)
+row LengthBad = (30, C)
+row DegreeHigh = (31, C)
+row PointsUneven = (32, I)
+row RecordMalformed = (33, I)
+row ParameterOutside = (43, I)
 
 abbrev pub reasons : List Reason
 reasons =
-    degree-zero ∷ few-points ∷ knot-count ∷ knots-unordered ∷ domain-empty ∷ domain-wide ∷ knot-repeated
-    ∷ point-not-finite ∷ weight-count ∷ weight-bad ∷ net-size ∷ parameter-not-finite ∷ knot-outside ∷ knot-full
-    ∷ trim-bad ∷ degree-lowered ∷ ends-unclamped ∷ elevation-high ∷ control-bad ∷ edit-bad ∷ second-not-finite
-    ∷ iso-outside ∷ iso-weight-bad ∷ range-bad ∷ range-in-no-span ∷ denominator-zero ∷ weight-ratio-low
-    ∷ quotient-none ∷ weights-apart ∷ length-bad ∷ degree-high ∷ points-uneven ∷ record-malformed
-    ∷ parameter-outside ∷ []
+    DegreeZero ∷ FewPoints ∷ KnotCount ∷ KnotsUnordered ∷ DomainEmpty ∷ DomainWide ∷ KnotRepeated
+    ∷ PointNotFinite ∷ WeightCount ∷ WeightBad ∷ NetSize ∷ ParameterNotFinite ∷ KnotOutside ∷ KnotFull
+    ∷ TrimBad ∷ DegreeLowered ∷ EndsUnclamped ∷ ElevationHigh ∷ ControlBad ∷ EditBad ∷ SecondNotFinite
+    ∷ IsoOutside ∷ IsoWeightBad ∷ RangeBad ∷ RangeInNoSpan ∷ DenominatorZero ∷ WeightRatioLow
+    ∷ QuotientNone ∷ WeightsApart ∷ LengthBad ∷ DegreeHigh ∷ PointsUneven ∷ RecordMalformed
+    ∷ ParameterOutside ∷ []
 
 -- the class of a number: that of the row which has it
 abbrev pub class_in : List Reason → ℕ → ℕ
@@ -92,6 +88,11 @@ numbered n = record { number = n; direction = 2; place = 0 }
 abbrev pub refuse : Reason → Refusal
 refuse r = numbered (row r).0
 
+-- two intervals without a quotient: the divisor holds 0, or there is no interval of its reciprocals
+abbrev pub refused_quotient : DivideError → Refusal
+refused_quotient HoldsZero = refuse DenominatorZero
+refused_quotient Unbounded = refuse QuotientNone
+
 -- nothing is refused
 abbrev pub accepted : Refusal
 accepted = numbered 0
@@ -107,3 +108,7 @@ along d r = record { number = r.number; direction = d; place = r.place }
 -- the first of two refusals
 abbrev pub or_else : Refusal → Refusal → Refusal
 or_else a b = cond (eqb a.number 0) b a
+
+-- what a call that checks answers: nothing, or the refusal
+unfoldable pub checked : Refusal → Result Unit Refusal
+checked r = cond (eqb r.number 0) (Ok tt) (Err r)

@@ -1,15 +1,13 @@
 -- What lies outside the domain, the span of a parameter, what the search for it finds on any knots, and the answer of `find_span`, by its mode.
 -- Assumes nothing.
-use Rattle.std.specs.Prelude.{ℕ, zero, suc, ◌+◌, ◌-◌, ◌/◌, ◌≤◌, ◌<◌, Bool, true, false, not, cond, ◌&&◌, ◌||◌, ◌≡◌, List, length, leb, eqb, Float}
+use Rattle.std.specs.Prelude.{ℕ, zero, suc, ◌+◌, ◌-◌, ◌/◌, ◌≤◌, ◌<◌, Bool, true, false, not, cond, ◌&&◌, ◌||◌, ◌≡◌, List, length, leb, eqb, Float, Result, Ok, Err}
 use Rattle.std.specs.Float.Ieee.{lt, le}
 use Rattle.std.specs.Float.Ieee.Scale.{finite}
 use Rattle.doubles.specs.Run.{at}
-use Rattle.knots.specs.Refusal.{refuse, accepted, or_else, length-bad, parameter-not-finite, parameter-outside}
+use Rattle.knots.specs.Refusal.{refuse, accepted, or_else, LengthBad, ParameterNotFinite, ParameterOutside}
 use Rattle.knots.specs.Knots.{knot_refusal, ValidKnots}
 use Rattle.knots.specs.Curve.{over_long}
 use Rattle.knots.specs.declared.refusal.Refusal.{Refusal}
-use Rattle.knots.specs.declared.span.SpanAnswer.{SpanAnswer}
-use Rattle.knots.specs.declared.span.SpanAnswer.TheVariants.{Span, Refused}
 
 -- u lies outside the domain, as a number: an end with the other zero's sign does not
 unfoldable pub outside : ℕ → ℕ → List Float → Float → Bool
@@ -29,7 +27,7 @@ clamping = true
 -- of a parameter: 12, then 43 in the mode that refuses
 unfoldable pub domain_refusal : Bool → ℕ → ℕ → List Float → Float → Refusal
 domain_refusal c p n ks u =
-    cond (not (finite u)) (refuse parameter-not-finite) (cond (not c && outside p n ks u) (refuse parameter-outside) accepted)
+    cond (not (finite u)) (refuse ParameterNotFinite) (cond (not c && outside p n ks u) (refuse ParameterOutside) accepted)
 
 -- the knots of the place s differ
 abbrev pub nonempty : List Float → ℕ → Bool
@@ -76,16 +74,16 @@ pub record SpanFound (p n : ℕ) (ks : List Float) (u : Float) (s : ℕ) : Type 
 -- ---- find_span, by its mode
 -- its refusals: 30, 1 to 7, 12, 43, in this order
 unfoldable pub span_refusal : Bool → ℕ → ℕ → List Float → Float → Refusal
-span_refusal c p n ks u = cond (over_long true ks) (refuse length-bad) (or_else (knot_refusal p n ks) (domain_refusal c p n ks u))
+span_refusal c p n ks u = cond (over_long true ks) (refuse LengthBad) (or_else (knot_refusal p n ks) (domain_refusal c p n ks u))
 
 -- what an answer says: the span is that of u itself, or of the parameter that is looked up
-abbrev pub SpanMeets : Bool → ℕ → ℕ → List Float → Float → SpanAnswer → Type 0
-SpanMeets c p n ks u (Span s) = ((span_refusal c p n ks u).number ≡ 0) × SpanAt p n ks (cond c (clamped p n ks u) u) s
-SpanMeets c p n ks u (Refused r) = (span_refusal c p n ks u ≡ r) × (r.number ≡ 0 → ⊥)
+abbrev pub SpanMeets : Bool → ℕ → ℕ → List Float → Float → Result ℕ Refusal → Type 0
+SpanMeets c p n ks u (Ok s) = ((span_refusal c p n ks u).number ≡ 0) × SpanAt p n ks (cond c (clamped p n ks u) u) s
+SpanMeets c p n ks u (Err r) = (span_refusal c p n ks u ≡ r) × (r.number ≡ 0 → ⊥)
 
 -- the one answer that it permits, computed
-unfoldable pub span_answer : Bool → ℕ → ℕ → List Float → Float → SpanAnswer
+unfoldable pub span_answer : Bool → ℕ → ℕ → List Float → Float → Result ℕ Refusal
 span_answer c p n ks u =
     cond (eqb (span_refusal c p n ks u).number 0)
-    (Span (span_of p n ks (clamped p n ks u)))
-    (Refused (span_refusal c p n ks u))
+    (Ok (span_of p n ks (clamped p n ks u)))
+    (Err (span_refusal c p n ks u))

@@ -2,16 +2,16 @@
 -- Along u it has the degree p, knots us and m points; along v q, vs and n.
 -- Assumes nothing.
 use Rattle.std.specs.Prelude.{ℕ, ◌*◌, ◌%◌, ◌≤◌, Bool, true, not, ◌||◌, cond, ◌≡◌, List, length, eqb, Float}
-use Rattle.knots.specs.Refusal.{refuse, accepted, along, or_else, net-size, length-bad, points-uneven}
+use Rattle.knots.specs.Refusal.{refuse, accepted, along, or_else, NetSize, LengthBad, PointsUneven}
 use Rattle.knots.specs.Knots.{knot_refusal, ValidKnots}
 use Rattle.knots.specs.Curve.{longest, over_long, any_long, count_of, control_refusal, Short, ValidControls}
 use Rattle.knots.specs.declared.refusal.Refusal.{Refusal}
 
 unfoldable pub net_refusal : List Float → List Float → ℕ → ℕ → List Float → Bool → List Float → Refusal
 net_refusal us vs m n ps g ws =
-    cond (over_long true us || any_long vs ps g ws) (refuse length-bad)
-    (cond (not (eqb (length ps % 3) 0)) (refuse points-uneven)
-    (cond (not (eqb (count_of ps) (m * n))) (refuse net-size) accepted))
+    cond (over_long true us || any_long vs ps g ws) (refuse LengthBad)
+    (cond (not (eqb (length ps % 3) 0)) (refuse PointsUneven)
+    (cond (not (eqb (count_of ps) (m * n))) (refuse NetSize) accepted))
 
 unfoldable pub surface_refusal : ℕ → ℕ → List Float → List Float → ℕ → ℕ → List Float → Bool → List Float → Refusal
 surface_refusal p q us vs m n ps g ws =

@@ -1,13 +1,13 @@
 // Validation of a curve: refusals 30, 32, 1 to 10, in this order.
 ghost use Rattle.std.specs.Prelude.{◌≡◌};
 ghost use Rattle.knots.specs.Curve.{is_weight, all_weights, control_refusal, formed_refusal, any_long, curve_refusal};
-ghost use Rattle.knots.specs.Placed.{control_placed};
+ghost use Rattle.knots.specs.Refusal.{checked};
 
-use crate::knots::{all_finite, knot_number, knot_placed};
+use crate::knots::{all_finite, knot_refusal};
 use crate::limits::over_long;
 use crate::numbers::{all_fine, is_fine};
 use crate::places::{bad_weight_at, non_finite_at};
-use crate::refusal::{Refusal, refuse, refuse_at};
+use crate::refusal::{Reason, Refusal, refuse, refuse_at};
 
 // A weight is finite and above 0. NaN and both zeros are none.
 pub fn is_weight(x: f64) -> bool
@@ -23,47 +23,28 @@ pub fn all_weights(xs: &[f64]) -> bool
     all_fine(xs, true)
 }
 
-// The number 8, 9 or 10 of points and of the weights, where they are given, or 0.
-fn control_number(count: usize, points: &[f64], rational: bool, weights: &[f64]) -> u32
-    ensures { result ≡ (control_refusal count points.now rational weights.now).number }
+// Refusals 8, 9, 10 of points and of the weights, where they are given.
+pub fn control_refusal(
+    count: usize,
+    points: &[f64],
+    rational: bool,
+    weights: &[f64],
+) -> Result<(), Refusal>
+    ensures { result ≡ checked (control_refusal count points.now rational weights.now) }
 {
     if !all_finite(points) {
-        return 8;
+        return Err(refuse_at(Reason::PointNotFinite, non_finite_at(points) / 3));
     }
     if !rational {
-        return 0;
+        return Ok(());
     }
     if weights.len() != count {
-        return 9;
+        return Err(refuse(Reason::WeightCount));
     }
     if !all_weights(weights) {
-        return 10;
+        return Err(refuse_at(Reason::WeightBad, bad_weight_at(weights)));
     }
-    0
-}
-
-// The refusal of points and weights by its number, with the place of 8 and 10.
-fn control_placed(number: u32, points: &[f64], weights: &[f64]) -> Refusal
-    ensures { result ≡ control_placed number points.now weights.now }
-{
-    if number == 8 {
-        return refuse_at(number, non_finite_at(points) / 3);
-    }
-    if number == 10 {
-        return refuse_at(number, bad_weight_at(weights));
-    }
-    refuse(number)
-}
-
-// Refusals 8, 9, 10 of points and of the weights, where they are given. Where there is none, no place is asked for.
-pub fn control_refusal(count: usize, points: &[f64], rational: bool, weights: &[f64]) -> Refusal
-    ensures { result ≡ control_refusal count points.now rational weights.now }
-{
-    let number = control_number(count, points, rational, weights);
-    if number == 0 {
-        return refuse(0);
-    }
-    control_placed(number, points, weights)
+    Ok(())
 }
 
 // Refusals 1 to 10: what a curve that an edit forms is checked by again.
@@ -74,13 +55,10 @@ pub fn formed_refusal(
     points: &[f64],
     rational: bool,
     weights: &[f64],
-) -> Refusal
-    ensures { result ≡ formed_refusal degree count knots.now points.now rational weights.now }
+) -> Result<(), Refusal>
+    ensures { result ≡ checked (formed_refusal degree count knots.now points.now rational weights.now) }
 {
-    let number = knot_number(degree, count, knots);
-    if number != 0 {
-        return knot_placed(number, degree, knots);
-    }
+    knot_refusal(degree, count, knots)?;
     control_refusal(count, points, rational, weights)
 }
 
@@ -104,14 +82,14 @@ pub fn curve_refusal(
     points: &[f64],
     rational: bool,
     weights: &[f64],
-) -> Refusal
-    ensures { result ≡ curve_refusal degree knots.now points.now rational weights.now }
+) -> Result<(), Refusal>
+    ensures { result ≡ checked (curve_refusal degree knots.now points.now rational weights.now) }
 {
     if any_long(knots, points, rational, weights) {
-        return refuse(30);
+        return Err(refuse(Reason::LengthBad));
     }
     if points.len() % 3 != 0 {
-        return refuse(32);
+        return Err(refuse(Reason::PointsUneven));
     }
     let count = points.len() / 3;
     formed_refusal(degree, count, knots, points, rational, weights)

@@ -1,12 +1,12 @@
 // Validation of a knot run: refusals 1 to 7.
 ghost use Rattle.std.specs.Prelude.{◌≡◌, ◌+◌, ◌≤◌, length};
 ghost use Rattle.knots.specs.Knots.{all_finite, in_order, ordered, apart, order_refusal, knot_refusal};
-ghost use Rattle.knots.specs.Placed.{knot_placed};
+ghost use Rattle.knots.specs.Refusal.{checked};
 
 use crate::limits::is_sum;
 use crate::numbers::{all_fine, is_below};
 use crate::places::{repeated_at, unordered_at};
-use crate::refusal::{Refusal, refuse, refuse_at};
+use crate::refusal::{Reason, Refusal, refuse, refuse_at};
 use interval::float::is_finite;
 
 // No number of the run is a NaN or an infinity.
@@ -21,12 +21,9 @@ fn in_order(xs: &[f64]) -> bool
     requires { 1 ≤ length xs.now }
     ensures { result ≡ in_order xs.now }
 {
-    let end = xs.len() - 1;
     let mut fine = true;
-    let mut i = 0usize;
-    while i < end {
+    for i in 0..xs.len() - 1 {
         fine = fine & !(xs[i] > xs[i + 1]);
-        i += 1;
     }
     fine
 }
@@ -46,71 +43,48 @@ fn apart_by(xs: &[f64], gap: usize) -> bool
     requires { gap ≤ length xs.now }
     ensures { result ≡ apart gap xs.now }
 {
-    let end = xs.len() - gap;
     let mut fine = true;
-    let mut i = 0usize;
-    while i < end {
+    for i in 0..xs.len() - gap {
         fine = fine & is_below(xs[i], xs[i + gap]);
-        i += 1;
     }
     fine
 }
 
-// The number 4 to 7, of a run that is as long as it must be, or 0.
-fn order_number(degree: usize, count: usize, knots: &[f64]) -> u32
+// Refusals 4 to 7, of a run that is as long as it must be. A place is looked for only where there is one.
+fn order_refusal(degree: usize, count: usize, knots: &[f64]) -> Result<(), Refusal>
     requires { length knots.now ≡ count + degree + 1 }
-    ensures { result ≡ (order_refusal degree count knots.now).number }
+    ensures { result ≡ checked (order_refusal degree count knots.now) }
 {
     let ordered = is_ordered(knots);
     let lo = knots[degree];
     let hi = knots[count];
     if !ordered {
-        return 4;
+        return Err(refuse_at(Reason::KnotsUnordered, unordered_at(knots)));
     }
     if lo >= hi {
-        return 5;
+        return Err(refuse(Reason::DomainEmpty));
     }
     if !is_finite(hi - lo) {
-        return 6;
+        return Err(refuse(Reason::DomainWide));
     }
     if !apart_by(knots, degree + 1) {
-        return 7;
+        return Err(refuse_at(Reason::KnotRepeated, repeated_at(knots, degree)));
     }
-    0
-}
-
-// The number of a knot run's refusal, for any degree and count, or 0. It is found without its place, so that a valid run pays nothing for that.
-pub fn knot_number(degree: usize, count: usize, knots: &[f64]) -> u32
-    ensures { result ≡ (knot_refusal degree count knots.now).number }
-{
-    if degree == 0 {
-        return 1;
-    }
-    if count <= degree {
-        return 2;
-    }
-    if !is_sum(knots.len(), count, degree) {
-        return 3;
-    }
-    order_number(degree, count, knots)
-}
-
-// The refusal of a knot run by its number, with the place of 4 and 7.
-pub fn knot_placed(number: u32, degree: usize, knots: &[f64]) -> Refusal
-    ensures { result ≡ knot_placed number degree knots.now }
-{
-    if number == 4 {
-        return refuse_at(number, unordered_at(knots));
-    }
-    if number == 7 {
-        return refuse_at(number, repeated_at(knots, degree));
-    }
-    refuse(number)
+    Ok(())
 }
 
 // The refusal of a knot run, for any degree and count.
-pub fn knot_refusal(degree: usize, count: usize, knots: &[f64]) -> Refusal
-    ensures { result ≡ knot_refusal degree count knots.now }
+pub fn knot_refusal(degree: usize, count: usize, knots: &[f64]) -> Result<(), Refusal>
+    ensures { result ≡ checked (knot_refusal degree count knots.now) }
 {
-    knot_placed(knot_number(degree, count, knots), degree, knots)
+    if degree == 0 {
+        return Err(refuse(Reason::DegreeZero));
+    }
+    if count <= degree {
+        return Err(refuse(Reason::FewPoints));
+    }
+    if !is_sum(knots.len(), count, degree) {
+        return Err(refuse(Reason::KnotCount));
+    }
+    order_refusal(degree, count, knots)
 }

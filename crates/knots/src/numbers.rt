@@ -39,12 +39,9 @@ pub fn all_fine(xs: &[f64], weight: bool) -> bool
 {
     let mut finite = true;
     let mut above = true;
-    let mut i = 0usize;
-    while i < xs.len() {
-        let x = xs[i];
-        finite = finite & is_finite(x);
-        above = above & is_above(x, weight);
-        i += 1;
+    for x in xs {
+        finite = finite & is_finite(*x);
+        above = above & is_above(*x, weight);
     }
     finite & above
 }

@@ -12,14 +12,12 @@ use crate::numbers::{is_below, is_fine};
 fn first_off(xs: &[f64], weight: bool) -> usize
     ensures { result ≡ off_at (λ k. fine_of weight (at xs.now k)) (length xs.now) }
 {
-    let mut i = 0usize;
-    while i < xs.len() {
-        if !is_fine(xs[i], weight) {
+    for (i, x) in xs.iter().enumerate() {
+        if !is_fine(*x, weight) {
             return i;
         }
-        i += 1;
     }
-    i
+    xs.len()
 }
 
 // a does not exceed b; where `strict`, it is not at least b either. True where one is a NaN.
@@ -40,14 +38,12 @@ fn first_pair(xs: &[f64], gap: usize, strict: bool) -> usize
         return 0;
     }
     let end = xs.len() - gap;
-    let mut k = 0usize;
-    while k < end {
+    for k in 0..end {
         if !is_before(xs[k], xs[k + gap], strict) {
             return k;
         }
-        k += 1;
     }
-    k
+    end
 }
 
 // The first number that is not finite: a knot of 4, a coordinate of 8.

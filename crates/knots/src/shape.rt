@@ -1,57 +1,58 @@
 // Refusals that the lengths of the runs and the degree show: no number of a run is read.
 ghost use Rattle.std.specs.Prelude.{◌≡◌};
+ghost use Rattle.knots.specs.Refusal.{checked};
 ghost use Rattle.knots.specs.Shape.{degree_refusal, room_refusal, weight_shape, knot_shape, curve_shape, surface_shape};
 
 use crate::limits::{is_product, is_sum};
-use crate::refusal::{Refusal, refuse, refuse_along};
+use crate::refusal::{Reason, Refusal, along, refuse};
 
 // 31
-pub fn degree_refusal(degree: usize) -> Refusal
-    ensures { result ≡ degree_refusal degree }
+pub fn degree_refusal(degree: usize) -> Result<(), Refusal>
+    ensures { result ≡ checked (degree_refusal degree) }
 {
     if degree > 64 {
-        return refuse(31);
+        return Err(refuse(Reason::DegreeHigh));
     }
-    refuse(0)
+    Ok(())
 }
 
 // 30: a lent run of so many numbers is smaller than what it must hold.
-pub fn room_refusal(have: usize, need: usize) -> Refusal
-    ensures { result ≡ room_refusal have need }
+pub fn room_refusal(have: usize, need: usize) -> Result<(), Refusal>
+    ensures { result ≡ checked (room_refusal have need) }
 {
     if have < need {
-        return refuse(30);
+        return Err(refuse(Reason::LengthBad));
     }
-    refuse(0)
+    Ok(())
 }
 
 // 9
-pub fn weight_shape(count: usize, rational: bool, weights: &[f64]) -> Refusal
-    ensures { result ≡ weight_shape count rational weights.now }
+pub fn weight_shape(count: usize, rational: bool, weights: &[f64]) -> Result<(), Refusal>
+    ensures { result ≡ checked (weight_shape count rational weights.now) }
 {
     if !rational {
-        return refuse(0);
+        return Ok(());
     }
     if weights.len() != count {
-        return refuse(9);
+        return Err(refuse(Reason::WeightCount));
     }
-    refuse(0)
+    Ok(())
 }
 
 // 1, 2, 3
-pub fn knot_shape(degree: usize, count: usize, knots: &[f64]) -> Refusal
-    ensures { result ≡ knot_shape degree count knots.now }
+pub fn knot_shape(degree: usize, count: usize, knots: &[f64]) -> Result<(), Refusal>
+    ensures { result ≡ checked (knot_shape degree count knots.now) }
 {
     if degree == 0 {
-        return refuse(1);
+        return Err(refuse(Reason::DegreeZero));
     }
     if count <= degree {
-        return refuse(2);
+        return Err(refuse(Reason::FewPoints));
     }
     if !is_sum(knots.len(), count, degree) {
-        return refuse(3);
+        return Err(refuse(Reason::KnotCount));
     }
-    refuse(0)
+    Ok(())
 }
 
 // 32, then 1, 2, 3, then 9
@@ -61,17 +62,14 @@ pub fn curve_shape(
     points: &[f64],
     rational: bool,
     weights: &[f64],
-) -> Refusal
-    ensures { result ≡ curve_shape degree knots.now points.now rational weights.now }
+) -> Result<(), Refusal>
+    ensures { result ≡ checked (curve_shape degree knots.now points.now rational weights.now) }
 {
     if points.len() % 3 != 0 {
-        return refuse(32);
+        return Err(refuse(Reason::PointsUneven));
     }
     let count = points.len() / 3;
-    let refusal = knot_shape(degree, count, knots);
-    if refusal.number != 0 {
-        return refusal;
-    }
+    knot_shape(degree, count, knots)?;
     weight_shape(count, rational, weights)
 }
 
@@ -86,23 +84,19 @@ pub fn surface_shape(
     points: &[f64],
     rational: bool,
     weights: &[f64],
-) -> Refusal
-    ensures { result ≡ surface_shape u_degree v_degree u_knots.now v_knots.now u_count v_count points.now rational weights.now }
+) -> Result<(), Refusal>
+    ensures { result ≡ checked (surface_shape u_degree v_degree u_knots.now v_knots.now u_count v_count points.now rational weights.now) }
 {
     if points.len() % 3 != 0 {
-        return refuse(32);
+        return Err(refuse(Reason::PointsUneven));
     }
     let count = points.len() / 3;
     if !is_product(count, u_count, v_count) {
-        return refuse(11);
+        return Err(refuse(Reason::NetSize));
     }
     let u = knot_shape(u_degree, u_count, u_knots);
-    if u.number != 0 {
-        return refuse_along(0, u);
-    }
+    along(0, u)?;
     let v = knot_shape(v_degree, v_count, v_knots);
-    if v.number != 0 {
-        return refuse_along(1, v);
-    }
+    along(1, v)?;
     weight_shape(count, rational, weights)
 }

@@ -1,18 +1,12 @@
 // The span of a parameter.
 ghost use Rattle.std.specs.Prelude.{◌≡◌, ◌-◌, ◌<◌, length};
+ghost use Rattle.knots.specs.Refusal.{checked};
 ghost use Rattle.knots.specs.Span.{outside, clamped, refusing, clamping, domain_refusal, halved, last_nonempty, span_refusal, SpanFound, SpanMeets};
 
-use crate::knots::{knot_number, knot_placed};
+use crate::knots::knot_refusal;
 use crate::limits::over_long;
-use crate::refusal::{Refusal, refuse};
+use crate::refusal::{Reason, Refusal, refuse};
 use interval::float::is_finite;
-
-// The span of a parameter, or the refusal of the run or of the parameter.
-#[derive(Clone, Copy)]
-pub enum SpanAnswer {
-    Span(usize),
-    Refused(Refusal),
-}
 
 // u lies outside the domain, as a number: an end with the other zero's sign does not. An end that the run does not have sets no limit.
 pub fn is_outside(degree: usize, count: usize, knots: &[f64], u: f64) -> bool
@@ -30,19 +24,25 @@ pub fn is_outside(degree: usize, count: usize, knots: &[f64], u: f64) -> bool
 }
 
 // The refusal of a parameter: 12, then 43 where the mode is not to clamp.
-pub fn domain_refusal(clamps: bool, degree: usize, count: usize, knots: &[f64], u: f64) -> Refusal
-    ensures { result ≡ domain_refusal clamps degree count knots.now u }
+pub fn domain_refusal(
+    clamps: bool,
+    degree: usize,
+    count: usize,
+    knots: &[f64],
+    u: f64,
+) -> Result<(), Refusal>
+    ensures { result ≡ checked (domain_refusal clamps degree count knots.now u) }
 {
     if !is_finite(u) {
-        return refuse(12);
+        return Err(refuse(Reason::ParameterNotFinite));
     }
     if clamps {
-        return refuse(0);
+        return Ok(());
     }
     if is_outside(degree, count, knots, u) {
-        return refuse(43);
+        return Err(refuse(Reason::ParameterOutside));
     }
-    refuse(0)
+    Ok(())
 }
 
 // The clamped parameter: u, or the nearer end of the domain where u lies outside it. A NaN stays a NaN, a zero keeps its sign.
@@ -70,14 +70,12 @@ fn last_span(degree: usize, count: usize, knots: &[f64]) -> usize
     requires count_in_bounds { count < length knots.now }
     ensures { result ≡ last_nonempty degree count knots.now }
 {
-    let mut span = count - 1;
-    while span > degree {
+    for span in (degree + 1..count).rev() {
         if knots[span] < knots[span + 1] {
             return span;
         }
-        span -= 1;
     }
-    span
+    degree
 }
 
 // Before the end: a binary search. Its window halves at each step whatever the knots are.
@@ -116,40 +114,51 @@ pub fn span_of(degree: usize, count: usize, u: f64, knots: &[f64]) -> usize
     last_span(degree, count, knots)
 }
 
-// The number by which find_span refuses: 30, 1 to 7, 12, 43, in this order, or 0.
-fn span_number(clamps: bool, degree: usize, count: usize, knots: &[f64], u: f64) -> u32
-    ensures { result ≡ (span_refusal clamps degree count knots.now u).number }
+// The refusals of find_span: 30, 1 to 7, 12, 43, in this order.
+fn span_refusal(
+    clamps: bool,
+    degree: usize,
+    count: usize,
+    knots: &[f64],
+    u: f64,
+) -> Result<(), Refusal>
+    ensures { result ≡ checked (span_refusal clamps degree count knots.now u) }
 {
     if over_long(true, knots) {
-        return 30;
+        return Err(refuse(Reason::LengthBad));
     }
-    let number = knot_number(degree, count, knots);
-    if number != 0 {
-        return number;
-    }
-    domain_refusal(clamps, degree, count, knots, u).number
+    knot_refusal(degree, count, knots)?;
+    domain_refusal(clamps, degree, count, knots, u)
 }
 
 // The span of a parameter by either mode, for any input.
-fn find_by(clamps: bool, degree: usize, count: usize, knots: &[f64], u: f64) -> SpanAnswer
+fn find_by(
+    clamps: bool,
+    degree: usize,
+    count: usize,
+    knots: &[f64],
+    u: f64,
+) -> Result<usize, Refusal>
     ensures { SpanMeets clamps degree count knots.now u result }
 {
-    let number = span_number(clamps, degree, count, knots, u);
-    if number != 0 {
-        return SpanAnswer::Refused(knot_placed(number, degree, knots));
-    }
-    SpanAnswer::Span(span_of(degree, count, u, knots))
+    span_refusal(clamps, degree, count, knots, u)?;
+    Ok(span_of(degree, count, u, knots))
 }
 
 // The span of a parameter, for any input. One outside the domain is refused.
-pub fn find_span(degree: usize, count: usize, knots: &[f64], u: f64) -> SpanAnswer
+pub fn find_span(degree: usize, count: usize, knots: &[f64], u: f64) -> Result<usize, Refusal>
     ensures { SpanMeets refusing degree count knots.now u result }
 {
     find_by(false, degree, count, knots, u)
 }
 
 // The same, where a finite parameter outside the domain becomes the nearer end.
-pub fn find_span_clamped(degree: usize, count: usize, knots: &[f64], u: f64) -> SpanAnswer
+pub fn find_span_clamped(
+    degree: usize,
+    count: usize,
+    knots: &[f64],
+    u: f64,
+) -> Result<usize, Refusal>
     ensures { SpanMeets clamping degree count knots.now u result }
 {
     find_by(true, degree, count, knots, u)

@@ -1,5 +1,6 @@
 -- A text at the front of cleared bytes, and the knots that a line shows.
 -- Assumes nothing.
+use Rattle.std.specs.Prelude.{Some}
 use Prim.Native.Nat.{ℕ, ◌+◌, ◌≤◌, ◌<◌}
 use mathlib.Core.Bool.{Bool, true, false}
 use mathlib.Core.Path.{◌≡◌, refl, sym, ◌∙◌, ap}
@@ -14,7 +15,6 @@ use borrow.Author.Tests.{ltb-true, ltb-false}
 use Rattle.doubles.specs.Run.{at}
 use Rattle.knots.specs.Span.{nonempty}
 use Rattle.knots.specs.Walk.{next_span}
-use Rattle.knots.specs.declared.walk.NextSpan.TheVariants.{At}
 use Rattle.knots.proofs.Answers.{not-under}
 use Rattle.knots.proofs.Walks.{next-at}
 use Rattle.record.proofs.Stores.{sets-front}
@@ -61,8 +61,8 @@ nonempty-in ks s h = go (ltb (s + 1) (length ks)) refl
         let z : ◌≡◌ {A = ℕ} 0 1 = cc in
         absurd (omega arith)
 
-pub span-in : (p n : ℕ) (ks : List Float) (i s : ℕ) → next_span p n ks i ≡ At s → s + 1 < length ks
-span-in p n ks i s e = nonempty-in ks s (next-at p n ks i s e).here
+pub span_in : (p n : ℕ) (ks : List Float) (i s : ℕ) → Some s ≡ next_span p n ks i → s + 1 < length ks
+span_in p n ks i s e = nonempty-in ks s (next-at p n ks i s (sym e)).here
 
 -- ---- what a caller prints
 

@@ -1,5 +1,6 @@
 -- The walk by `next_line`: what a caller knows of an answer, and that the lines one after the other are the listing.
 -- Assumes nothing.
+use Rattle.std.specs.Prelude.{Option, Some, None}
 use Prim.Native.Nat.{ℕ, zero, suc, ◌+◌, ◌-◌, ◌≤◌, ◌<◌}
 use mathlib.Core.Bool.{Bool, true, false, cond}
 use mathlib.Core.Path.{◌≡◌, refl}
@@ -11,32 +12,30 @@ use lib.Ieee.{Float}
 use borrow.Author.Tests.{ltb-false, le-ltb}
 use Rattle.knots.specs.Span.{nonempty}
 use Rattle.knots.specs.Walk.{first_of, first_from, next_span}
-use Rattle.knots.specs.declared.walk.NextSpan.{NextSpan}
-use Rattle.knots.specs.declared.walk.NextSpan.TheVariants.{At, Nothing}
 use Rattle.knots.proofs.Walks.{next-at}
+use Rattle.listing.specs.declared.Line.{Line}
 use Rattle.listing.specs.Text.{Shown}
 use Rattle.listing.specs.Listing.{shown_of, answer_of, lines_of, listing}
-use Rattle.listing.specs.declared.NextLine.TheVariants.{Line}
 use Rattle.listing.proofs.Lines.{shown-counts}
 
 -- ---- what a caller knows of a line
 
 pub record Told (p n : ℕ) (ks : List Float) (i s m : ℕ) (after : List ℕ) : Type 0 where
-  pub span : next_span p n ks i ≡ At s
+  pub span : next_span p n ks i ≡ Some s
   pub from : i ≤ s
   pub below : s < n
   pub within : m ≤ length after
   pub whole : m ≡ length (take m after)
 
-line-said : (line : ℕ → List ℕ) (r : NextSpan) (s m : ℕ) → Line s m ≡ answer_of line r → (r ≡ At s) × (m ≡ length (shown_of line r))
-line-said line (At t) s m e = (cc, cc)
-line-said line Nothing s m e = let z : ◌≡◌ {A = ℕ} 0 1 = cc in absurd (omega arith)
+line-said : (line : ℕ → List ℕ) (r : Option ℕ) (x : Line) → Some x ≡ answer_of line r → (r ≡ Some x.span) × (x.length ≡ length (shown_of line r))
+line-said line (Some t) x e = let same : x ≡ record { span = t; length = length (line t) } = cc in rw same (refl, refl)
+line-said line None x e = let z : ◌≡◌ {A = ℕ} 0 1 = cc in absurd (omega arith)
 
-pub told : (line : ℕ → List ℕ) (room p n : ℕ) (ks : List Float) (i s m : ℕ) (after : List ℕ) → Line s m ≡ answer_of line (next_span p n ks i) →
-    Shown room (shown_of line (next_span p n ks i)) after (length (shown_of line (next_span p n ks i))) → Told p n ks i s m after
-told line room p n ks i s m after e shown =
-    let said = line-said line (next_span p n ks i) s m e in
-    let next = next-at p n ks i s said.0 in
+pub told : (line : ℕ → List ℕ) (room p n : ℕ) (ks : List Float) (i : ℕ) (x : Line) (after : List ℕ) → Some x ≡ answer_of line (next_span p n ks i) →
+    Shown room (shown_of line (next_span p n ks i)) after (length (shown_of line (next_span p n ks i))) → Told p n ks i x.span x.length after
+told line room p n ks i x after e shown =
+    let said = line-said line (next_span p n ks i) x e in
+    let next = next-at p n ks i x.span said.0 in
     let counts = shown-counts shown in
     record {
       span = said.0;
@@ -50,9 +49,9 @@ told line room p n ks i s m after e shown =
 
 module _ (line : ℕ → List ℕ) where
   -- the lines behind the next one, up to the place n
-  abbrev pub behind : ℕ → List Float → NextSpan → List ℕ
-  behind n ks (At s) = lines_of line (n - (s + 1)) ks (s + 1)
-  behind n ks Nothing = []
+  abbrev pub behind : ℕ → List Float → Option ℕ → List ℕ
+  behind n ks (Some s) = lines_of line (n - (s + 1)) ks (s + 1)
+  behind n ks None = []
 
   lines_step : (k : ℕ) (ks : List Float) (i n : ℕ) → i + k ≡ n → lines_of line k ks i ≡ shown_of line (first_of k ks i) ++ behind n ks (first_of k ks i)
   unfolding lines_of first_of
@@ -60,7 +59,7 @@ module _ (line : ℕ → List ℕ) where
   lines_step (suc k) ks i n e = go (nonempty ks i) (lines_step k ks (i + 1) n (omega arith))
     where
       go : (t : Bool) → lines_of line k ks (i + 1) ≡ shown_of line (first_of k ks (i + 1)) ++ behind n ks (first_of k ks (i + 1)) →
-          cond t (line i) [] ++ lines_of line k ks (i + 1) ≡ shown_of line (cond t (At i) (first_of k ks (i + 1))) ++ behind n ks (cond t (At i) (first_of k ks (i + 1)))
+          cond t (line i) [] ++ lines_of line k ks (i + 1) ≡ shown_of line (cond t (Some i) (first_of k ks (i + 1))) ++ behind n ks (cond t (Some i) (first_of k ks (i + 1)))
       go true rest =
           let left : n - (i + 1) ≡ k = omega arith in
           rw left

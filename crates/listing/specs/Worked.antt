@@ -3,7 +3,8 @@
 use Rattle.std.specs.Prelude.{ℕ, ◌≡◌, refl, List, [], ◌∷◌, ◌++◌, Float}
 use Rattle.std.specs.Float.{binary64}
 use Rattle.std.specs.Float.Ieee.{of_bits, to_bits, lt}
-use Rattle.knots.specs.Refusal.{refuse, placed, knots-unordered, record-malformed}
+use Rattle.knots.specs.Refusal.{refuse, placed}
+use Rattle.knots.specs.declared.refusal.Reason.TheVariants.{KnotsUnordered, RecordMalformed}
 use Rattle.decimals.specs.Text.{digit, digits, width, decimal, spaced_bits}
 use Rattle.listing.specs.Text.{span_line, says_place, place_text, refusal_line}
 use Rattle.listing.specs.Listing.{line_of, lines_of, listing}
@@ -38,8 +39,8 @@ bits2 = 52 ∷ 48 ∷ 48 ∷ zeros
 
 pub record Worked : Type 0 where
   pub table-a : listing (line_of knots_a) 2 4 knots_a ≡ (50 ∷ 32 ∷ bits0) ++ (32 ∷ bits1) ++ (10 ∷ 51 ∷ 32 ∷ bits1) ++ (32 ∷ bits2) ++ (10 ∷ [])
-  pub unordered : refusal_line (placed 3 (refuse knots-unordered)) ≡ 114 ∷ 101 ∷ 102 ∷ 117 ∷ 115 ∷ 101 ∷ 100 ∷ 32 ∷ 52 ∷ 32 ∷ 51 ∷ 10 ∷ []
-  pub malformed : refusal_line (refuse record-malformed) ≡ 114 ∷ 101 ∷ 102 ∷ 117 ∷ 115 ∷ 101 ∷ 100 ∷ 32 ∷ 51 ∷ 51 ∷ 10 ∷ []
+  pub unordered : refusal_line (placed 3 (refuse KnotsUnordered)) ≡ 114 ∷ 101 ∷ 102 ∷ 117 ∷ 115 ∷ 101 ∷ 100 ∷ 32 ∷ 52 ∷ 32 ∷ 51 ∷ 10 ∷ []
+  pub malformed : refusal_line (refuse RecordMalformed) ≡ 114 ∷ 101 ∷ 102 ∷ 117 ∷ 115 ∷ 101 ∷ 100 ∷ 32 ∷ 51 ∷ 51 ∷ 10 ∷ []
 
 pub worked : Worked
 unfolding digit digits width decimal spaced_bits span_line says_place place_text refusal_line line_of lines_of listing of_bits to_bits lt

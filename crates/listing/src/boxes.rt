@@ -12,11 +12,12 @@ ghost use Rattle.listing.specs.Boxes.{each, outcome, box_line, box_of};
 ghost use Rattle.listing.specs.Ends.{ends_text, ends_room};
 
 use crate::starts::put_start;
-use crate::{NextLine, NextRange, next_range};
-use bounds::answer::{Bounded, NurbsBounds, Triple};
+use crate::{Line, Range, next_range};
+use bounds::answer::{NurbsBounds, Triple};
 use bounds::curve::bound_span;
 use decimals::pieces::{put_bits, put_label, put_number};
 use interval::Interval;
+use knots::refusal::Refusal;
 use record::clear::clear_bytes;
 
 // Both ends, by their bits or as decimals. These are rounded outward, so that they hold what the interval holds.
@@ -45,7 +46,7 @@ fn put_all_ends(out: &mut [u8], at: usize, rounded: bool, t: Triple) -> usize
 
 // The point, or its derivative along u.
 fn shown_of(speeds: bool, b: NurbsBounds) -> Triple
-    ensures { result ≡ triple_by (at (bounded_values (Bounded.Are b))) (cond speeds 6 0) }
+    ensures { result ≡ triple_by (at (bounded_values (Ok b))) (cond speeds 6 0) }
 {
     if speeds {
         return b.du;
@@ -53,18 +54,23 @@ fn shown_of(speeds: bool, b: NurbsBounds) -> Triple
     b.point
 }
 
-fn put_outcome(out: &mut [u8], at: usize, speeds: bool, answer: Bounded) -> usize
+fn put_outcome(
+    out: &mut [u8],
+    at: usize,
+    speeds: bool,
+    answer: Result<NurbsBounds, Refusal>,
+) -> usize
     requires { at + 2088 ≤ length out.old }
     ensures stored { Stored out.old at (outcome speeds answer) out.new result }
     ensures upper_bound { result ≤ at + 2088 }
 {
     match answer {
-        Bounded::Are(b) => {
+        Ok(b) => {
             let t = shown_of(speeds, b);
             let next = put_all_ends(out, at, false, t);
             put_all_ends(out, next, true, t)
         }
-        Bounded::Refused(refusal) => put_label(out, at, b" refused ", refusal.number as u64),
+        Err(refusal) => put_label(out, at, b" refused ", refusal.number as u64),
     }
 }
 
@@ -74,7 +80,7 @@ pub fn box_line(
     span: usize,
     lower: f64,
     upper: f64,
-    answer: Bounded,
+    answer: Result<NurbsBounds, Refusal>,
     out: &mut [u8; 2304],
 ) -> usize
     ensures { Shown 2304 (box_line speeds span lower upper answer) out.new result }
@@ -96,19 +102,19 @@ pub fn next_box(
     weights: &[f64],
     from: usize,
     out: &mut [u8; 2304],
-) -> NextLine
+) -> Option<Line>
     ensures value { result ≡ answer_of (box_of speeds degree knots.now points.now rational weights.now) (next_span degree (count_of points.now) knots.now from) }
     ensures shown { Shown 2304 (shown_of (box_of speeds degree knots.now points.now rational weights.now) (next_span degree (count_of points.now) knots.now from)) out.new (length (shown_of (box_of speeds degree knots.now points.now rational weights.now) (next_span degree (count_of points.now) knots.now from))) }
 {
     match next_range(degree, points.len() / 3, knots, from) {
-        NextRange::Range { span, lower, upper } => {
+        Some(Range { span, lower, upper }) => {
             let answer = bound_span(degree, span, knots, points, rational, weights, lower, upper);
             let length = box_line(speeds, span, lower, upper, answer, out);
-            NextLine::Line { span, length }
+            Some(Line { span, length })
         }
-        NextRange::Nothing => {
+        None => {
             clear_bytes(out);
-            NextLine::End
+            None
         }
     }
 }

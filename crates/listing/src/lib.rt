@@ -13,37 +13,37 @@ ghost use Rattle.listing.specs.Listing.{line_of, shown_of, answer_of};
 
 use decimals::pieces::put_label;
 use knots::refusal::Refusal;
-use knots::walk::{NextSpan, next_span};
+use knots::walk::next_span;
 use places::put_place;
 use record::clear::clear_bytes;
 use starts::put_start;
 
-// The line of the next nonempty span, with the bytes that it has, or that there is none.
-#[derive(Clone, Copy)]
-pub enum NextLine {
-    Line { span: usize, length: usize },
-    End,
+// The line of a nonempty span, with the bytes that it has.
+#[derive(Clone, Copy, Debug, PartialEq, Eq)]
+pub struct Line {
+    pub span: usize,
+    pub length: usize,
 }
 
-// The next nonempty span with its knots, or that there is none.
-#[derive(Clone, Copy)]
-pub enum NextRange {
-    Range { span: usize, lower: f64, upper: f64 },
-    Nothing,
+// A nonempty span with its knots.
+#[derive(Clone, Copy, Debug, PartialEq)]
+pub struct Range {
+    pub span: usize,
+    pub lower: f64,
+    pub upper: f64,
 }
 
 // The first nonempty span from a place on and both its knots, for any input.
-pub fn next_range(degree: usize, count: usize, knots: &[f64], from: usize) -> NextRange
+#[tactic(auto, using(crate::proofs::Lines::span_in))]
+pub fn next_range(degree: usize, count: usize, knots: &[f64], from: usize) -> Option<Range>
     ensures { result ≡ range_of knots.now (next_span degree count knots.now from) }
 {
-    match next_span(degree, count, knots, from) {
-        NextSpan::At(span) => NextRange::Range {
-            span,
-            lower: knots[span],
-            upper: knots[span + 1],
-        },
-        NextSpan::Nothing => NextRange::Nothing,
-    }
+    let span = next_span(degree, count, knots, from)?;
+    Some(Range {
+        span,
+        lower: knots[span],
+        upper: knots[span + 1],
+    })
 }
 
 // The line of a span between two knots into a lent run, with 0 behind it, and its length. Every NaN is shown as the quiet one with no sign and no payload.
@@ -74,18 +74,18 @@ pub fn next_line(
     knots: &[f64],
     from: usize,
     out: &mut [u8; 2304],
-) -> NextLine
+) -> Option<Line>
     ensures value { result ≡ answer_of (line_of knots.now) (next_span degree count knots.now from) }
     ensures shown { Shown 2304 (shown_of (line_of knots.now) (next_span degree count knots.now from)) out.new (length (shown_of (line_of knots.now) (next_span degree count knots.now from))) }
 {
     match next_range(degree, count, knots, from) {
-        NextRange::Range { span, lower, upper } => {
+        Some(Range { span, lower, upper }) => {
             let length = span_line(span, lower, upper, out);
-            NextLine::Line { span, length }
+            Some(Line { span, length })
         }
-        NextRange::Nothing => {
+        None => {
             clear_bytes(out);
-            NextLine::End
+            None
         }
     }
 }

@@ -8,18 +8,22 @@ use native.Mathlib.Omega.{arith}
 use lib.ListN.{length, take, drop}
 use lib.Ieee.{Float, lt, binary64, mul}
 use lib.Ieee.Scale.{finite}
-use borrow.Author.Tests.{not-false}
+use borrow.Author.Tests.{eq-eqb, not-false}
 use Rattle.exact.specs.Scheme.{ders_of}
 use Rattle.doubles.specs.Run.{at}
 use Rattle.knots.specs.Below.{all_below}
 use Rattle.knots.specs.Clear.{zeros}
-use Rattle.knots.specs.Refusal.{refuse, iso-outside, iso-weight-bad}
+use Rattle.std.specs.Prelude.{Result, Err}
+use Rattle.std.specs.Result.{is_err}
+use Rattle.knots.specs.Refusal.{refuse, checked}
+use Rattle.knots.specs.declared.refusal.Reason.TheVariants.{IsoOutside, IsoWeightBad}
 use Rattle.knots.specs.Knots.{ValidKnots}
 use Rattle.knots.specs.Curve.{is_weight, formed_refusal}
 use Rattle.knots.specs.Surface.{surface_refusal, ValidSurface}
 use Rattle.knots.specs.Span.{outside, span_of}
 use Rattle.knots.specs.declared.refusal.Refusal.{Refusal}
-use Rattle.knots.proofs.Refusals.{passed, or_else-none, stop, skip}
+use Rattle.made.proofs.Told.{told-ok, told-err}
+use Rattle.knots.proofs.Refusals.{passed, or_else-none, let_by, stopped_by, refused-first}
 use Rattle.knots.proofs.Curves.{or-false}
 use Rattle.knots.proofs.Surfaces.{valid-surface}
 use Rattle.knots.proofs.Searches.{Within}
@@ -31,7 +35,7 @@ use Rattle.basis.proofs.Whole.{Reach, basis-at}
 use Rattle.runs.proofs.Tabulated.{length-tabulate}
 use Rattle.knots.specs.Shape.{room_refusal}
 use Rattle.evaluate.specs.Surface.{degrees_refusal}
-use Rattle.runs.specs.Lent.{padded, left_in}
+use Rattle.runs.specs.Lent.{padded}
 use Rattle.evaluate.specs.Controls.{no_sums}
 use Rattle.runs.specs.Weight.{weight_at}
 use Rattle.runs.specs.Point.{point_of}
@@ -106,19 +110,12 @@ module _ (f h : ℕ → Sums) (s : Side) (p₀ w₀ p₁ w₁ : List Float) (goo
   D : IsoDone h s.other-count p₀ w₀ p₁ w₁ good
   D = done-cong f h s.other-count p₀ w₀ p₁ w₁ good same F
 
-  pub along-stopped : good ≡ false → (r : Refusal) → r ≡ refuse iso-weight-bad → AlongDone h s (length p₀) (length w₀) p₁ w₁ r
-  unfolding along_refusal
-  along-stopped e r R = record {
-    refusal = simp (sym D.answer ∙ e) R;
-    points = λ z. absurd (never z);
-    weights = λ z. absurd (never z);
-  }
-    where
-      never : r.number ≡ 0 → ⊥
-      never z = let y : ◌≡◌ {A = ℕ} 23 0 = sym (ap (λ (x : Refusal). x.number) R) ∙ z in omega arith
+  pub along-stopped : good ≡ false → (r : Refusal) → r ≡ refuse IsoWeightBad → AlongDone h s (length p₀) (length w₀) p₁ w₁ (Err r)
+  unfolding along_refusal checked
+  along-stopped e r R = record { refusal = simp (sym D.answer ∙ e) (ap Err R); points = λ z. cc; weights = λ z. cc }
 
-  pub along-formed : good ≡ true → p₀ ≡ zeros (length p₀) → w₀ ≡ zeros (length w₀) → (n : ℕ) → n ≡ length s.other-knots → (r : Refusal)
-      → r ≡ formed_refusal s.other-degree s.other-count (take n s.other-knots) (take (s.other-count * 3) p₁) true (take s.other-count w₁)
+  pub along-formed : good ≡ true → p₀ ≡ zeros (length p₀) → w₀ ≡ zeros (length w₀) → (n : ℕ) → n ≡ length s.other-knots → (r : Result (Unit {0}) Refusal)
+      → r ≡ checked (formed_refusal s.other-degree s.other-count (take n s.other-knots) (take (s.other-count * 3) p₁) true (take s.other-count w₁))
       → AlongDone h s (length p₀) (length w₀) p₁ w₁ r
   unfolding along_refusal iso_points iso_weights
   along-formed e P W n N r R =
@@ -127,15 +124,15 @@ module _ (f h : ℕ → Sums) (s : Side) (p₀ w₀ p₁ w₁ : List Float) (goo
       let w = stored c (length w₀) (iso_weight h) w₀ w₁ W (D.weights e) in
       record {
         refusal = simp (sym D.answer ∙ e) (R
-            ∙ (ap (λ (x : List Float). formed_refusal s.other-degree c x (take (c * 3) p₁) true (take c w₁)) (take_all s.other-knots n N)
-            ∙ ap₂ (λ (x y : List Float). formed_refusal s.other-degree c s.other-knots x true y)
+            ∙ (ap (λ (x : List Float). checked (formed_refusal s.other-degree c x (take (c * 3) p₁) true (take c w₁))) (take_all s.other-knots n N)
+            ∙ ap₂ (λ (x y : List Float). checked (formed_refusal s.other-degree c s.other-knots x true y))
             (take-padded (c * 3) (length p₀) (iso_points h c) p₁ (length-tabulate (c * 3) (iso_coordinate h)) p)
             (take-padded c (length w₀) (iso_weights h c) w₁ (length-tabulate c (iso_weight h)) w)));
         points = λ z. p;
         weights = λ z. w;
       }
 
-pub along-resized : (h : ℕ → Sums) (s : Side) (a b a' b' : ℕ) (p₁ w₁ : List Float) (r : Refusal) → a' ≡ a → b' ≡ b → AlongDone h s a' b' p₁ w₁ r → AlongDone h s a b p₁ w₁ r
+pub along-resized : (h : ℕ → Sums) (s : Side) (a b a' b' : ℕ) (p₁ w₁ : List Float) (r : Result (Unit {0}) Refusal) → a' ≡ a → b' ≡ b → AlongDone h s a' b' p₁ w₁ r → AlongDone h s a b p₁ w₁ r
 along-resized h s a b a' b' p₁ w₁ r A B F = record {
   refusal = F.refusal;
   points = λ z. F.points z ∙ ap (λ (i : ℕ). padded i (iso_points h s.other-count)) A;
@@ -173,7 +170,7 @@ module _ (p q : ℕ) (us vs : List Float) (m n : ℕ) (ps : List Float) (g : Boo
     along-open : (x y : ℕ) (ks : List Float) (c : ℕ) → (along_start x y ks t c a b).number ≡ 0 → (iso_outside x y ks t ≡ false) × (c * 3 ≤ a) × (c ≤ b)
     unfolding along_start
     along-open x y ks c h =
-        let d = passed (iso_outside x y ks t) (refuse iso-outside) _ (λ e. omega arith) h in
+        let d = passed (iso_outside x y ks t) (refuse IsoOutside) _ (λ e. omega arith) h in
         let e = or_else-none (room_refusal a (c * 3)) (room_refusal b c) d.1 in
         (d.0, room_open a (c * 3) e.0, room_open b c e.1)
 
@@ -213,32 +210,39 @@ module _ (p q : ℕ) (us vs : List Float) (m n : ℕ) (ps : List Float) (g : Boo
         }
 
     -- what was done along a direction is what is asked for where that direction is
-    pub chosen : (u x : Bool) → u ≡ x → (p₁ w₁ : List Float) (r : Refusal) → AlongDone (iso_hull p q us vs m n ps g ws x t) (iso_side p q us vs m n ps g ws x t) a b p₁ w₁ r
+    pub chosen : (u x : Bool) → u ≡ x → (p₁ w₁ : List Float) (r : Result (Unit {0}) Refusal) → AlongDone (iso_hull p q us vs m n ps g ws x t) (iso_side p q us vs m n ps g ws x t) a b p₁ w₁ r
         → AlongDone (iso_hull p q us vs m n ps g ws u t) (iso_side p q us vs m n ps g ws u t) a b p₁ w₁ r
     chosen u x e p₁ w₁ r = subst (λ (y : Bool). AlongDone (iso_hull p q us vs m n ps g ws y t) (iso_side p q us vs m n ps g ws y t) a b p₁ w₁ r) (sym e)
 
     -- ---- the answers
-    module _ (u : Bool) (r : Refusal) where
-      pub iso-refused : r ≡ iso_start p q us vs m n ps g ws u t a b → (r.number ≡ 0 → ⊥) → (p₁ w₁ : List Float) → p₁ ≡ zeros a → w₁ ≡ zeros b → IsoMeets p q us vs m n ps g ws u t a b p₁ w₁ r
+    module _ (u : Bool) where
+      iso-stopped : (r : Refusal) → Err r ≡ checked (iso_refusal p q us vs m n ps g ws u t a b) → (p₁ w₁ : List Float) → p₁ ≡ zeros a → w₁ ≡ zeros b
+          → IsoMeets p q us vs m n ps g ws u t a b p₁ w₁ (Err r)
+      iso-stopped r e p₁ w₁ P W = let h = (stopped_by _ e).1 in record { refusal = e; points = left-refused _ a _ p₁ h P; weights = left-refused _ b _ w₁ h W }
+
+      pub iso-refused : {r : Refusal} → Err r ≡ checked (iso_start p q us vs m n ps g ws u t a b) → (p₁ w₁ : List Float) → p₁ ≡ zeros a → w₁ ≡ zeros b
+          → IsoMeets p q us vs m n ps g ws u t a b p₁ w₁ (Err r)
       unfolding iso_refusal
-      iso-refused e h p₁ w₁ P W = record { refusal = simp (stop e h) e; points = left-refused r a _ p₁ h P; weights = left-refused r b _ w₁ h W }
+      iso-refused e = iso-stopped _ (refused-first _ _ e)
 
-      module _ (s : Refusal) (e : s ≡ iso_start p q us vs m n ps g ws u t a b) (z : s.number ≡ 0) (p₁ w₁ : List Float)
+      module _ (z : (iso_start p q us vs m n ps g ws u t a b).number ≡ 0) (r : Result (Unit {0}) Refusal) (p₁ w₁ : List Float)
           (F : AlongDone (iso_hull p q us vs m n ps g ws u t) (iso_side p q us vs m n ps g ws u t) a b p₁ w₁ r) where
-        refusal_is : r ≡ iso_refusal p q us vs m n ps g ws u t a b
+        refusal_is : r ≡ checked (iso_refusal p q us vs m n ps g ws u t a b)
         unfolding iso_refusal
-        refusal_is = simp (skip e z) F.refusal
+        refusal_is = simp (eq-eqb _ 0 z) F.refusal
 
-        pub iso-answered : r.number ≡ 0 → IsoMeets p q us vs m n ps g ws u t a b p₁ w₁ r
-        iso-answered h = record { refusal = refusal_is; points = left-answered r a _ p₁ h (F.points h); weights = left-answered r b _ w₁ h (F.weights h) }
+        pub iso-answered : is_err r ≡ false → IsoMeets p q us vs m n ps g ws u t a b p₁ w₁ r
+        iso-answered h =
+            let e = told-ok r h in
+            let n = let_by _ (sym e ∙ refusal_is) in
+            record { refusal = refusal_is; points = left-answered _ a _ p₁ n (F.points e); weights = left-answered _ b _ w₁ n (F.weights e) }
 
-        pub iso-unformed : (r.number ≡ 0 → ⊥) → (p₂ w₂ : List Float) → p₂ ≡ zeros a → w₂ ≡ zeros b → IsoMeets p q us vs m n ps g ws u t a b p₂ w₂ r
-        iso-unformed h p₂ w₂ P W = record { refusal = refusal_is; points = left-refused r a _ p₂ h P; weights = left-refused r b _ w₂ h W }
+        pub iso-unformed : is_err r ≡ true → (p₂ w₂ : List Float) → p₂ ≡ zeros a → w₂ ≡ zeros b → IsoMeets p q us vs m n ps g ws u t a b p₂ w₂ r
+        iso-unformed h p₂ w₂ P W =
+            let x = told-err r h in
+            subst (IsoMeets p q us vs m n ps g ws u t a b p₂ w₂) (sym x.1) (iso-stopped x.0 (sym x.1 ∙ refusal_is) p₂ w₂ P W)
 
     -- any two outcomes that the contract permits coincide
-    pub iso-unique : (u : Bool) (p₁ w₁ p₂ w₂ : List Float) (r s : Refusal) → IsoMeets p q us vs m n ps g ws u t a b p₁ w₁ r → IsoMeets p q us vs m n ps g ws u t a b p₂ w₂ s
+    pub iso-unique : (u : Bool) (p₁ w₁ p₂ w₂ : List Float) (r s : Result (Unit {0}) Refusal) → IsoMeets p q us vs m n ps g ws u t a b p₁ w₁ r → IsoMeets p q us vs m n ps g ws u t a b p₂ w₂ s
         → (r ≡ s) × (p₁ ≡ p₂) × (w₁ ≡ w₂)
-    iso-unique u p₁ w₁ p₂ w₂ r s M N =
-        let e : r ≡ s = M.refusal ∙ sym N.refusal in
-        let same : (i : ℕ) (l x y : List Float) → x ≡ left_in r i l → y ≡ left_in s i l → x ≡ y = λ i l x y X Y. X ∙ (ap (λ (z : Refusal). left_in z i l) e ∙ sym Y) in
-        (e, same a _ p₁ p₂ M.points N.points, same b _ w₁ w₂ M.weights N.weights)
+    iso-unique u p₁ w₁ p₂ w₂ r s M N = (M.refusal ∙ sym N.refusal, M.points ∙ sym N.points, M.weights ∙ sym N.weights)

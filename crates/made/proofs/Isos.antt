@@ -2,10 +2,10 @@
 -- Assumes nothing.
 use Prim.Native.Nat.{ℕ, ◌+◌, ◌*◌, ◌/◌, ◌%◌, ◌≤◌, ◌<◌}
 use mathlib.Core.Bool.{Bool, true, false}
-use mathlib.Core.Path.{◌≡◌, refl, sym, ◌∙◌, ap, ap₂, subst}
+use mathlib.Core.Path.{◌≡◌, sym, ◌∙◌, ap, ap₂, subst}
 use mathlib.Core.List.{List, ◌++◌}
 use native.Mathlib.Omega.{arith}
-use lib.ListN.{length, set, drop, length-set}
+use lib.ListN.{length, set, drop}
 use lib.Ieee.{Float, binary64, mul, div}
 use Rattle.knots.specs.Below.{all_below}
 use Rattle.knots.specs.Curve.{is_weight}
@@ -29,26 +29,20 @@ unfolding iso_coordinate
 coordinate-is h k r i K R = ap₂ (λ (x y : ℕ). div binary64 (part y (h x)) (h x).w) (sym K) (sym R)
 
 -- k points and weights are there
-pub record InIso (h : ℕ → Sums) (m : ℕ) (p₀ w₀ p₁ w₁ : List Float) (k : ℕ) : Type 0 where
-  pub upto : k ≤ m
+pub record InIso (h : ℕ → Sums) (p₀ w₀ p₁ w₁ : List Float) (k : ℕ) : Type 0 where
   pub good : all_below (λ i. is_weight (h i).w) k ≡ true
-  pub long-points : length p₁ ≡ length p₀
-  pub long-weights : length w₁ ≡ length w₀
   pub points : p₁ ≡ tabulate (k * 3) (iso_coordinate h) ++ drop (k * 3) p₀
   pub weights : w₁ ≡ tabulate k (iso_weight h) ++ drop k w₀
 
 module _ (h : ℕ → Sums) (m : ℕ) (p₀ w₀ : List Float) where
-  pub iso-start : InIso h m p₀ w₀ p₀ w₀ 0
+  pub iso-start : InIso h p₀ w₀ p₀ w₀ 0
   iso-start = record {
-    upto = omega arith;
     good = all_none (λ i. is_weight (h i).w);
-    long-points = refl;
-    long-weights = refl;
     points = store-none (iso_coordinate h) p₀;
     weights = store-none (iso_weight h) w₀;
   }
 
-  module _ (p₁ w₁ : List Float) (k : ℕ) (I : InIso h m p₀ w₀ p₁ w₁ k) (b : k < m) (P : m * 3 ≤ length p₀) (W : m ≤ length w₀) (s : Sums) (S : s ≡ h k) where
+  module _ (p₁ w₁ : List Float) (k : ℕ) (I : InIso h p₀ w₀ p₁ w₁ k) (b : k < m) (P : m * 3 ≤ length p₀) (W : m ≤ length w₀) (s : Sums) (S : s ≡ h k) where
     pub iso-stop : is_weight s.w ≡ false → IsoDone h m p₀ w₀ p₁ w₁ false
     iso-stop e = record {
       answer = sym (all-fails (λ i. is_weight (h i).w) m k b (ap (λ (x : Sums). is_weight x.w) (sym S) ∙ e));
@@ -58,7 +52,7 @@ module _ (h : ℕ → Sums) (m : ℕ) (p₀ w₀ : List Float) where
 
     pub iso-more : is_weight s.w ≡ true → (p₂ : List Float)
         → p₂ ≡ set (set (set p₁ (k * 3) (div binary64 s.x s.w)) (k * 3 + 1) (div binary64 s.y s.w)) (k * 3 + 2) (div binary64 s.z s.w)
-        → InIso h m p₀ w₀ p₂ (set w₁ k s.w) (k + 1)
+        → InIso h p₀ w₀ p₂ (set w₁ k s.w) (k + 1)
     iso-more e p₂ E =
         let f = iso_coordinate h in
         let one = store-more (k * 3) f p₀ p₁ _ (omega arith) I.points (ap (λ (x : Sums). div binary64 x.x x.w) S ∙ coordinate-is h k 0 (k * 3) (omega arith) (omega arith)) in
@@ -69,10 +63,7 @@ module _ (h : ℕ → Sums) (m : ℕ) (p₀ w₀ : List Float) where
         let n : k * 3 + 1 + 1 + 1 ≡ (k + 1) * 3 = omega arith in
         let n2 : k * 3 + 2 ≡ k * 3 + 1 + 1 = omega arith in
         record {
-          upto = omega arith;
           good = all_more (λ i. is_weight (h i).w) k I.good (ap (λ (x : Sums). is_weight x.w) (sym S) ∙ e);
-          long-points = ap length E ∙ simp length-set I.long-points;
-          long-weights = length-set w₁ k s.w ∙ I.long-weights;
           points = E ∙ (ap (λ (i : ℕ). set (set (set p₁ (k * 3) (div binary64 s.x s.w)) (k * 3 + 1) (div binary64 s.y s.w)) i (div binary64 s.z s.w)) n2
               ∙ subst
               (λ (i : ℕ). set (set (set p₁ (k * 3) (div binary64 s.x s.w)) (k * 3 + 1) (div binary64 s.y s.w)) (k * 3 + 1 + 1) (div binary64 s.z s.w) ≡ tabulate i f ++ drop i p₀) n
@@ -80,8 +71,8 @@ module _ (h : ℕ → Sums) (m : ℕ) (p₀ w₀ : List Float) where
           weights = store-more k (iso_weight h) w₀ w₁ s.w (omega arith) I.weights (ap (λ (x : Sums). x.w) S);
         }
 
-  pub iso-end : (p₁ w₁ : List Float) (k : ℕ) → InIso h m p₀ w₀ p₁ w₁ k → m ≤ k → IsoDone h m p₀ w₀ p₁ w₁ true
-  iso-end p₁ w₁ k I b = let U = I.upto in let e : k ≡ m = omega arith in record {
+  pub iso-end : (p₁ w₁ : List Float) (k : ℕ) → InIso h p₀ w₀ p₁ w₁ k → k ≡ m → IsoDone h m p₀ w₀ p₁ w₁ true
+  iso-end p₁ w₁ k I e = record {
     answer = sym (subst (λ (i : ℕ). all_below (λ i. is_weight (h i).w) i ≡ true) e I.good);
     points = λ q. subst (λ (i : ℕ). p₁ ≡ tabulate (i * 3) (iso_coordinate h) ++ drop (i * 3) p₀) e I.points;
     weights = λ q. subst (λ (i : ℕ). w₁ ≡ tabulate i (iso_weight h) ++ drop i w₀) e I.weights;

@@ -1,3 +1,4 @@
+pub mod Told
 pub mod Reverses
 pub mod Isos
 pub mod IsoCurves

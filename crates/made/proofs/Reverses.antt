@@ -2,21 +2,26 @@
 -- Assumes nothing.
 use Prim.Native.Nat.{ℕ, ◌≤◌}
 use mathlib.Core.Bool.{Bool, true, false}
-use mathlib.Core.Path.{◌≡◌, sym, ◌∙◌, ap, ap₂}
+use mathlib.Core.Path.{◌≡◌, sym, ◌∙◌, ap, ap₂, subst}
 use mathlib.Core.List.{List, ◌++◌}
 use native.Mathlib.Omega.{arith}
 use lib.ListN.{length, take, drop}
 use lib.Ieee.{Float}
+use borrow.Author.Tests.{eq-eqb}
 use Rattle.doubles.specs.Run.{at}
 use Rattle.knots.specs.Clear.{zeros}
 use Rattle.knots.specs.Curve.{count_of, curve_refusal, formed_refusal, ValidCurve}
+use Rattle.std.specs.Prelude.{Result, Err}
+use Rattle.std.specs.Result.{is_err}
+use Rattle.knots.specs.Refusal.{checked}
 use Rattle.knots.specs.declared.refusal.Refusal.{Refusal}
-use Rattle.knots.proofs.Refusals.{or_else-none, stop, skip}
+use Rattle.made.proofs.Told.{told-ok, told-err}
+use Rattle.knots.proofs.Refusals.{or_else-none, let_by, stopped_by, refused-first}
 use Rattle.knots.proofs.Curves.{valid-curve}
 use Rattle.runs.specs.Tabulate.{tabulate}
 use Rattle.runs.proofs.Tabulated.{length-tabulate}
 use Rattle.knots.specs.Shape.{room_refusal}
-use Rattle.runs.specs.Lent.{padded, left_in}
+use Rattle.runs.specs.Lent.{padded}
 use Rattle.made.specs.Reverse.{given_length, back_knot, back_point, back_weight, back_knots, back_points, back_weights, reverse_formed, reverse_start, reverse_refusal, ReverseFormed, ReverseMeets}
 use Rattle.knots.proofs.Shapes.{room_open}
 use Rattle.runs.proofs.Overlays.{stored, take-padded, left-refused, left-answered}
@@ -52,7 +57,7 @@ module _ (p : ℕ) (ks ps : List Float) (g : Bool) (ws : List Float) where
   pub formed-is : (k₀ p₀ w₀ k₁ p₁ w₁ : List Float) → k₀ ≡ zeros (length k₀) → p₀ ≡ zeros (length p₀) → w₀ ≡ zeros (length w₀)
       → k₁ ≡ tabulate (length ks) (back_knot (at ks p) (at ks (count_of ps)) ks) ++ drop (length ks) k₀ → p₁ ≡ tabulate (length ps) (back_point ps) ++ drop (length ps) p₀
       → (n : ℕ) → n ≡ given_length g ws → w₁ ≡ tabulate n (back_weight n ws) ++ drop n w₀
-      → (r : Refusal) → r ≡ formed_refusal p (count_of ps) (take (length ks) k₁) (take (length ps) p₁) g (take n w₁)
+      → (r : Result (Unit {0}) Refusal) → r ≡ checked (formed_refusal p (count_of ps) (take (length ks) k₁) (take (length ps) p₁) g (take n w₁))
       → ReverseFormed p ks ps g ws (length k₀) (length p₀) (length w₀) k₁ p₁ w₁ r
   unfolding back_knots back_points back_weights reverse_formed
   formed-is k₀ p₀ w₀ k₁ p₁ w₁ K₀ P₀ W₀ K P n N W r R =
@@ -63,16 +68,16 @@ module _ (p : ℕ) (ks ps : List Float) (g : Bool) (ws : List Float) where
       let long : length (back_weights g ws) ≡ n = length-tabulate (given_length g ws) (back_weight (given_length g ws) ws) ∙ sym N in
       record {
         refusal = R
-            ∙ (ap₂ (λ (x y : List Float). formed_refusal p (count_of ps) x y g (take n w₁))
+            ∙ (ap₂ (λ (x y : List Float). checked (formed_refusal p (count_of ps) x y g (take n w₁)))
             (take-padded (length ks) (length k₀) (back_knots p (count_of ps) ks) k₁ (length-tabulate (length ks) _) k)
             (take-padded (length ps) (length p₀) (back_points ps) p₁ (length-tabulate (length ps) _) q)
-            ∙ ap (formed_refusal p (count_of ps) (back_knots p (count_of ps) ks) (back_points ps) g) (take-padded n (length w₀) (back_weights g ws) w₁ long w));
+            ∙ ap (λ (x : List Float). checked (formed_refusal p (count_of ps) (back_knots p (count_of ps) ks) (back_points ps) g x)) (take-padded n (length w₀) (back_weights g ws) w₁ long w));
         knots = k;
         points = q;
         weights = w;
       }
 
-  pub resized : (a b c a' b' c' : ℕ) (k₁ p₁ w₁ : List Float) (r : Refusal) → a' ≡ a → b' ≡ b → c' ≡ c → ReverseFormed p ks ps g ws a' b' c' k₁ p₁ w₁ r → ReverseFormed p ks ps g ws a b c k₁ p₁ w₁ r
+  pub resized : (a b c a' b' c' : ℕ) (k₁ p₁ w₁ : List Float) (r : Result (Unit {0}) Refusal) → a' ≡ a → b' ≡ b → c' ≡ c → ReverseFormed p ks ps g ws a' b' c' k₁ p₁ w₁ r → ReverseFormed p ks ps g ws a b c k₁ p₁ w₁ r
   resized a b c a' b' c' k₁ p₁ w₁ r A B C F = record {
     refusal = F.refusal;
     knots = F.knots ∙ ap (λ (i : ℕ). padded i (back_knots p (count_of ps) ks)) A;
@@ -80,42 +85,35 @@ module _ (p : ℕ) (ks ps : List Float) (g : Bool) (ws : List Float) where
     weights = F.weights ∙ ap (λ (i : ℕ). padded i (back_weights g ws)) C;
   }
 
-  module _ (a b c : ℕ) (r : Refusal) where
-    pub reverse-refused : r ≡ reverse_start p ks ps g ws a b c → (r.number ≡ 0 → ⊥) → (k₁ p₁ w₁ : List Float) → k₁ ≡ zeros a → p₁ ≡ zeros b → w₁ ≡ zeros c
-        → ReverseMeets p ks ps g ws a b c k₁ p₁ w₁ r
+  module _ (a b c : ℕ) where
+    reverse-stopped : (r : Refusal) → Err r ≡ checked (reverse_refusal p ks ps g ws a b c) → (k₁ p₁ w₁ : List Float) → k₁ ≡ zeros a → p₁ ≡ zeros b → w₁ ≡ zeros c
+        → ReverseMeets p ks ps g ws a b c k₁ p₁ w₁ (Err r)
+    reverse-stopped r e k₁ p₁ w₁ K P W =
+        let h = (stopped_by _ e).1 in
+        record { refusal = e; knots = left-refused _ a _ k₁ h K; points = left-refused _ b _ p₁ h P; weights = left-refused _ c _ w₁ h W }
+
+    pub reverse-refused : {r : Refusal} → Err r ≡ checked (reverse_start p ks ps g ws a b c) → (k₁ p₁ w₁ : List Float) → k₁ ≡ zeros a → p₁ ≡ zeros b → w₁ ≡ zeros c
+        → ReverseMeets p ks ps g ws a b c k₁ p₁ w₁ (Err r)
     unfolding reverse_refusal
-    reverse-refused e h k₁ p₁ w₁ K P W = record {
-      refusal = simp (stop e h) e;
-      knots = left-refused r a _ k₁ h K;
-      points = left-refused r b _ p₁ h P;
-      weights = left-refused r c _ w₁ h W;
-    }
+    reverse-refused e = reverse-stopped _ (refused-first _ _ e)
 
-    module _ (s : Refusal) (e : s ≡ reverse_start p ks ps g ws a b c) (z : s.number ≡ 0) (k₁ p₁ w₁ : List Float) (F : ReverseFormed p ks ps g ws a b c k₁ p₁ w₁ r) where
-      refusal_is : r ≡ reverse_refusal p ks ps g ws a b c
+    module _ (z : (reverse_start p ks ps g ws a b c).number ≡ 0) (r : Result (Unit {0}) Refusal) (k₁ p₁ w₁ : List Float) (F : ReverseFormed p ks ps g ws a b c k₁ p₁ w₁ r) where
+      refusal_is : r ≡ checked (reverse_refusal p ks ps g ws a b c)
       unfolding reverse_refusal
-      refusal_is = simp (skip e z) F.refusal
+      refusal_is = simp (eq-eqb _ 0 z) F.refusal
 
-      pub reverse-answered : r.number ≡ 0 → ReverseMeets p ks ps g ws a b c k₁ p₁ w₁ r
-      reverse-answered h = record {
-        refusal = refusal_is;
-        knots = left-answered r a _ k₁ h F.knots;
-        points = left-answered r b _ p₁ h F.points;
-        weights = left-answered r c _ w₁ h F.weights;
-      }
+      pub reverse-answered : is_err r ≡ false → ReverseMeets p ks ps g ws a b c k₁ p₁ w₁ r
+      reverse-answered h =
+          let e = told-ok r h in
+          let n = let_by _ (sym e ∙ refusal_is) in
+          record { refusal = refusal_is; knots = left-answered _ a _ k₁ n F.knots; points = left-answered _ b _ p₁ n F.points; weights = left-answered _ c _ w₁ n F.weights }
 
-      pub reverse-unformed : (r.number ≡ 0 → ⊥) → (k₂ p₂ w₂ : List Float) → k₂ ≡ zeros a → p₂ ≡ zeros b → w₂ ≡ zeros c → ReverseMeets p ks ps g ws a b c k₂ p₂ w₂ r
-      reverse-unformed h k₂ p₂ w₂ K P W = record {
-        refusal = refusal_is;
-        knots = left-refused r a _ k₂ h K;
-        points = left-refused r b _ p₂ h P;
-        weights = left-refused r c _ w₂ h W;
-      }
+      pub reverse-unformed : is_err r ≡ true → (k₂ p₂ w₂ : List Float) → k₂ ≡ zeros a → p₂ ≡ zeros b → w₂ ≡ zeros c → ReverseMeets p ks ps g ws a b c k₂ p₂ w₂ r
+      reverse-unformed h k₂ p₂ w₂ K P W =
+          let x = told-err r h in
+          subst (ReverseMeets p ks ps g ws a b c k₂ p₂ w₂) (sym x.1) (reverse-stopped x.0 (sym x.1 ∙ refusal_is) k₂ p₂ w₂ K P W)
 
   -- any two outcomes that the contract permits coincide
-  pub reverse-unique : (a b c : ℕ) (k₁ p₁ w₁ k₂ p₂ w₂ : List Float) (r s : Refusal) → ReverseMeets p ks ps g ws a b c k₁ p₁ w₁ r → ReverseMeets p ks ps g ws a b c k₂ p₂ w₂ s
+  pub reverse-unique : (a b c : ℕ) (k₁ p₁ w₁ k₂ p₂ w₂ : List Float) (r s : Result (Unit {0}) Refusal) → ReverseMeets p ks ps g ws a b c k₁ p₁ w₁ r → ReverseMeets p ks ps g ws a b c k₂ p₂ w₂ s
       → (r ≡ s) × (k₁ ≡ k₂) × (p₁ ≡ p₂) × (w₁ ≡ w₂)
-  reverse-unique a b c k₁ p₁ w₁ k₂ p₂ w₂ r s M N =
-      let e : r ≡ s = M.refusal ∙ sym N.refusal in
-      let same : (n : ℕ) (l x y : List Float) → x ≡ left_in r n l → y ≡ left_in s n l → x ≡ y = λ n l x y X Y. X ∙ (ap (λ (z : Refusal). left_in z n l) e ∙ sym Y) in
-      (e, same a _ k₁ k₂ M.knots N.knots, same b _ p₁ p₂ M.points N.points, same c _ w₁ w₂ M.weights N.weights)
+  reverse-unique a b c k₁ p₁ w₁ k₂ p₂ w₂ r s M N = (M.refusal ∙ sym N.refusal, M.knots ∙ sym N.knots, M.points ∙ sym N.points, M.weights ∙ sym N.weights)

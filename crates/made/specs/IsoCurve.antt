@@ -1,10 +1,11 @@
 -- What `iso_curve` answers and leaves in the lent runs.
 -- Assumes nothing.
-use Rattle.std.specs.Prelude.{ℕ, ◌+◌, ◌-◌, ◌*◌, Bool, true, false, not, ◌||◌, cond, ◌≡◌, List, Float}
+use Rattle.std.specs.Prelude.{ℕ, ◌+◌, ◌-◌, ◌*◌, Bool, true, false, not, ◌||◌, cond, ◌≡◌, List, Float, Result, Ok}
 use Rattle.std.specs.Float.Ieee.Scale.{finite}
 use Rattle.exact.specs.Scheme.{ders_of}
 use Rattle.knots.specs.Below.{all_below}
-use Rattle.knots.specs.Refusal.{refuse, or_else, iso-outside, iso-weight-bad}
+use Rattle.knots.specs.Refusal.{refuse, or_else, checked}
+use Rattle.knots.specs.declared.refusal.Reason.TheVariants.{IsoOutside, IsoWeightBad}
 use Rattle.knots.specs.Span.{outside, span_of}
 use Rattle.knots.specs.Curve.{is_weight, formed_refusal}
 use Rattle.knots.specs.Surface.{surface_refusal}
@@ -56,19 +57,19 @@ iso_outside p n ks t = not (finite t) || outside p n ks t
 
 -- 22, then 30 for outputs of a and b numbers of a curve of c points
 unfoldable pub along_start : ℕ → ℕ → List Float → Float → ℕ → ℕ → ℕ → Refusal
-along_start p n ks t c a b = cond (iso_outside p n ks t) (refuse iso-outside) (or_else (room_refusal a (c * 3)) (room_refusal b c))
+along_start p n ks t c a b = cond (iso_outside p n ks t) (refuse IsoOutside) (or_else (room_refusal a (c * 3)) (room_refusal b c))
 
 -- 23, then 1 to 10 of the curve that is formed
 unfoldable pub along_refusal : (ℕ → Sums) → Side → Refusal
 along_refusal h s =
-    cond (not (all_below (λ k. is_weight (h k).w) s.other-count)) (refuse iso-weight-bad)
+    cond (not (all_below (λ k. is_weight (h k).w) s.other-count)) (refuse IsoWeightBad)
     (formed_refusal s.other-degree s.other-count s.other-knots (iso_points h s.other-count) true (iso_weights h s.other-count))
 
--- r is that refusal. Where it is none, runs of a and b numbers hold the points and the weights
-pub record AlongDone (h : ℕ → Sums) (s : Side) (a b : ℕ) (p₁ w₁ : List Float) (r : Refusal) : Type 0 where
-  pub refusal : r ≡ along_refusal h s
-  pub points : r.number ≡ 0 → p₁ ≡ padded a (iso_points h s.other-count)
-  pub weights : r.number ≡ 0 → w₁ ≡ padded b (iso_weights h s.other-count)
+-- r answers that refusal. Where there is none, runs of a and b numbers hold the points and the weights
+pub record AlongDone (h : ℕ → Sums) (s : Side) (a b : ℕ) (p₁ w₁ : List Float) (r : Result Unit Refusal) : Type 0 where
+  pub refusal : r ≡ checked (along_refusal h s)
+  pub points : r ≡ Ok tt → p₁ ≡ padded a (iso_points h s.other-count)
+  pub weights : r ≡ Ok tt → w₁ ≡ padded b (iso_weights h s.other-count)
 
 module _ (p q : ℕ) (us vs : List Float) (m n : ℕ) (ps : List Float) (g : Bool) (ws : List Float) (u : Bool) (t : Float) where
   abbrev pub iso_side : Side
@@ -89,7 +90,7 @@ module _ (p q : ℕ) (us vs : List Float) (m n : ℕ) (ps : List Float) (g : Boo
     iso_refusal = or_else iso_start (along_refusal iso_hull iso_side)
 
   -- the answer r, and what is left in runs of a and b numbers
-  pub record IsoMeets (a b : ℕ) (p₁ w₁ : List Float) (r : Refusal) : Type 0 where
-    pub refusal : r ≡ iso_refusal a b
-    pub points : p₁ ≡ left_in r a (iso_points iso_hull iso_side.other-count)
-    pub weights : w₁ ≡ left_in r b (iso_weights iso_hull iso_side.other-count)
+  pub record IsoMeets (a b : ℕ) (p₁ w₁ : List Float) (r : Result Unit Refusal) : Type 0 where
+    pub refusal : r ≡ checked (iso_refusal a b)
+    pub points : p₁ ≡ left_in (iso_refusal a b) a (iso_points iso_hull iso_side.other-count)
+    pub weights : w₁ ≡ left_in (iso_refusal a b) b (iso_weights iso_hull iso_side.other-count)

@@ -1,10 +1,10 @@
 -- A curve run backwards, and what `reversed` answers and leaves in the lent runs.
 -- Assumes nothing.
-use Rattle.std.specs.Prelude.{ℕ, ◌-◌, ◌/◌, ◌%◌, Bool, cond, ◌≡◌, List, length, Float}
+use Rattle.std.specs.Prelude.{ℕ, ◌-◌, ◌/◌, ◌%◌, Bool, cond, ◌≡◌, List, length, Float, Result}
 use Rattle.std.specs.Float.{binary64}
 use Rattle.std.specs.Float.Ieee.{add, sub}
 use Rattle.doubles.specs.Run.{at}
-use Rattle.knots.specs.Refusal.{or_else}
+use Rattle.knots.specs.Refusal.{or_else, checked}
 use Rattle.knots.specs.Curve.{count_of, curve_refusal, formed_refusal}
 use Rattle.knots.specs.declared.refusal.Refusal.{Refusal}
 use Rattle.runs.specs.Tabulate.{tabulate}
@@ -60,16 +60,16 @@ module _ (p : ℕ) (ks ps : List Float) (g : Bool) (ws : List Float) where
     unfoldable pub reverse_refusal : Refusal
     reverse_refusal = or_else reverse_start reverse_formed
 
--- the curve stands in runs of a, b, c numbers, and r is its refusal
-pub record ReverseFormed (p : ℕ) (ks ps : List Float) (g : Bool) (ws : List Float) (a b c : ℕ) (k₁ p₁ w₁ : List Float) (r : Refusal) : Type 0 where
-  pub refusal : r ≡ reverse_formed p ks ps g ws
+-- the curve stands in runs of a, b, c numbers, and r answers its refusal
+pub record ReverseFormed (p : ℕ) (ks ps : List Float) (g : Bool) (ws : List Float) (a b c : ℕ) (k₁ p₁ w₁ : List Float) (r : Result Unit Refusal) : Type 0 where
+  pub refusal : r ≡ checked (reverse_formed p ks ps g ws)
   pub knots : k₁ ≡ padded a (back_knots p (count_of ps) ks)
   pub points : p₁ ≡ padded b (back_points ps)
   pub weights : w₁ ≡ padded c (back_weights g ws)
 
 -- the answer r, and what is left in runs of a, b, c numbers
-pub record ReverseMeets (p : ℕ) (ks ps : List Float) (g : Bool) (ws : List Float) (a b c : ℕ) (k₁ p₁ w₁ : List Float) (r : Refusal) : Type 0 where
-  pub refusal : r ≡ reverse_refusal p ks ps g ws a b c
-  pub knots : k₁ ≡ left_in r a (back_knots p (count_of ps) ks)
-  pub points : p₁ ≡ left_in r b (back_points ps)
-  pub weights : w₁ ≡ left_in r c (back_weights g ws)
+pub record ReverseMeets (p : ℕ) (ks ps : List Float) (g : Bool) (ws : List Float) (a b c : ℕ) (k₁ p₁ w₁ : List Float) (r : Result Unit Refusal) : Type 0 where
+  pub refusal : r ≡ checked (reverse_refusal p ks ps g ws a b c)
+  pub knots : k₁ ≡ left_in (reverse_refusal p ks ps g ws a b c) a (back_knots p (count_of ps) ks)
+  pub points : p₁ ≡ left_in (reverse_refusal p ks ps g ws a b c) b (back_points ps)
+  pub weights : w₁ ≡ left_in (reverse_refusal p ks ps g ws a b c) c (back_weights g ws)

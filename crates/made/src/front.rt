@@ -2,6 +2,7 @@
 ghost use Rattle.std.specs.Prelude.{◌≡◌, ◌≤◌, length, take};
 ghost use Rattle.knots.specs.Clear.{zeros};
 ghost use Rattle.knots.specs.Curve.{formed_refusal};
+ghost use Rattle.knots.specs.Refusal.{checked};
 
 use knots::clear::clear;
 use knots::curve::formed_refusal;
@@ -18,11 +19,11 @@ pub fn made_refusal(
     rational: bool,
     weights: &[f64],
     c: usize,
-) -> Refusal
+) -> Result<(), Refusal>
     requires a_in_bounds { a ≤ length knots.now }
     requires b_in_bounds { b ≤ length points.now }
     requires c_in_bounds { c ≤ length weights.now }
-    ensures { result ≡ formed_refusal degree count (take a knots.now) (take b points.now) rational (take c weights.now) }
+    ensures { result ≡ checked (formed_refusal degree count (take a knots.now) (take b points.now) rational (take c weights.now)) }
 {
     let k = &knots[..a];
     let p = &points[..b];

@@ -10,7 +10,7 @@ use runs::vector::Vector;
 use runs::weights::weight_at;
 
 // The p + 1 places of the fixed direction from the first on, in a net of so many columns.
-#[derive(Clone, Copy)]
+#[derive(Clone, Copy, Debug, PartialEq, Eq)]
 pub struct Strip {
     pub constant_u: bool,
     pub columns: usize,
@@ -62,15 +62,13 @@ fn iso_sums(
         z: 0.0,
         w: 0.0,
     };
-    let mut j = 0usize;
-    while j <= strip.p {
+    for j in 0..=strip.p {
         let i = strip.first + j;
         let at = place(strip.constant_u, strip.columns, i, k);
         let n = ders[j];
         let w = weight_at(rational, weights, at) * n;
         let q = point_at(points, at);
         s = plus_of(s, iso_term_of(q, w));
-        j += 1;
     }
     s
 }
@@ -106,15 +104,13 @@ pub fn iso_fill(
     requires count_bound { count ≤ 1048576 }
     ensures { IsoDone (iso_sums points.now rational weights.now strip.constant_u strip.columns strip.first (cell ders.now 0) (strip.p + 1)) count out_points.old out_weights.old out_points.new out_weights.new result }
 {
-    let mut k = 0usize;
-    while k < count {
+    for k in 0..count {
         let h = iso_sums(k, strip, points, rational, weights, ders);
         if !is_weight(h.w) {
             return false;
         }
         put_point(out_points, k, lowered(h));
         out_weights[k] = h.w;
-        k += 1;
     }
     true
 }

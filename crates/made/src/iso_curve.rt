@@ -2,6 +2,7 @@
 ghost use Rattle.std.specs.Prelude.{◌≡◌, true, false, cond, ℕ, ◌*◌, ◌/◌, ◌<◌, ◌≤◌, length};
 ghost use Rattle.knots.specs.Clear.{zeros};
 ghost use Rattle.knots.specs.Knots.{ValidKnots};
+ghost use Rattle.knots.specs.Refusal.{checked};
 ghost use Rattle.made.specs.Iso.{place_of};
 ghost use Rattle.made.specs.IsoCurve.{side_from, side_of, hull_of, iso_outside, along_start, iso_start, AlongDone, IsoMeets};
 
@@ -10,7 +11,7 @@ use crate::iso::{Strip, iso_fill};
 use basis::ders::basis_derivatives;
 use evaluate::refusals::degrees_refusal;
 use interval::float::is_finite;
-use knots::refusal::{Refusal, refuse};
+use knots::refusal::{Reason, Refusal, refuse};
 use knots::shape::room_refusal;
 use knots::span::{is_outside, span_of};
 use knots::surface::surface_refusal;
@@ -23,7 +24,7 @@ pub fn iso_knots<'a>(constant_u: bool, u_knots: &'a [f64], v_knots: &'a [f64]) -
 }
 
 // The numbers of a surface beside its runs.
-#[derive(Clone, Copy)]
+#[derive(Clone, Copy, Debug, PartialEq, Eq)]
 struct Form {
     u_degree: usize,
     v_degree: usize,
@@ -33,7 +34,7 @@ struct Form {
 }
 
 // The direction that t fixes, and the other, which is the isocurve's.
-#[derive(Clone, Copy)]
+#[derive(Clone, Copy, Debug, PartialEq)]
 struct Held {
     constant_u: bool,
     t: f64,
@@ -48,10 +49,7 @@ struct Held {
 fn iso_outside(degree: usize, count: usize, knots: &[f64], t: f64) -> bool
     ensures { result ≡ iso_outside degree count knots.now t }
 {
-    if !is_finite(t) {
-        return true;
-    }
-    is_outside(degree, count, knots, t)
+    !is_finite(t) || is_outside(degree, count, knots, t)
 }
 
 // Refusals 22 and 30 along one direction, for an isocurve of c points and outputs of a and b numbers.
@@ -63,17 +61,14 @@ fn along_start(
     c: usize,
     a: usize,
     b: usize,
-) -> Refusal
+) -> Result<(), Refusal>
     requires { c ≤ 1048576 }
-    ensures { result ≡ along_start degree count knots.now t c a b }
+    ensures { result ≡ checked (along_start degree count knots.now t c a b) }
 {
     if iso_outside(degree, count, knots, t) {
-        return refuse(22);
+        return Err(refuse(Reason::IsoOutside));
     }
-    let refusal = room_refusal(a, c * 3);
-    if refusal.number != 0 {
-        return refusal;
-    }
+    room_refusal(a, c * 3)?;
     room_refusal(b, c)
 }
 
@@ -88,22 +83,16 @@ fn iso_start(
     t: f64,
     a: usize,
     b: usize,
-) -> Refusal
-    ensures { result ≡ iso_start form.u_degree form.v_degree u_knots.now v_knots.now form.u_count form.v_count points.now form.rational weights.now constant_u t a b }
+) -> Result<(), Refusal>
+    ensures { result ≡ checked (iso_start form.u_degree form.v_degree u_knots.now v_knots.now form.u_count form.v_count points.now form.rational weights.now constant_u t a b) }
 {
     let p = form.u_degree;
     let q = form.v_degree;
     let m = form.u_count;
     let n = form.v_count;
     let rational = form.rational;
-    let surface = surface_refusal(p, q, u_knots, v_knots, m, n, points, rational, weights);
-    if surface.number != 0 {
-        return surface;
-    }
-    let degrees = degrees_refusal(p, q);
-    if degrees.number != 0 {
-        return degrees;
-    }
+    surface_refusal(p, q, u_knots, v_knots, m, n, points, rational, weights)?;
+    degrees_refusal(p, q)?;
     if constant_u {
         return along_start(p, m, u_knots, t, n, a, b);
     }
@@ -120,7 +109,7 @@ fn iso_along(
     other: &[f64],
     out_points: &mut [f64],
     out_weights: &mut [f64],
-) -> Refusal
+) -> Result<(), Refusal>
     requires degree_bound { held.degree ≤ 64 }
     requires valid_knots { ValidKnots held.degree held.count fixed.now }
     requires t_value { iso_outside held.degree held.count fixed.now held.t ≡ false }
@@ -155,7 +144,7 @@ fn iso_along(
         out_weights,
     );
     if !good {
-        return refuse(23);
+        return Err(refuse(Reason::IsoWeightBad));
     }
     let q = held.other_degree;
     let a = other.len();
@@ -183,7 +172,7 @@ fn iso_into(
     t: f64,
     out_points: &mut [f64],
     out_weights: &mut [f64],
-) -> Refusal
+) -> Result<(), Refusal>
     requires out_weights_value { (iso_start form.u_degree form.v_degree us.now vs.now form.u_count form.v_count points.now form.rational weights.now constant_u t (length out_points.old) (length out_weights.old)).number ≡ 0 }
     requires out_points_value { out_points.old ≡ zeros (length out_points.old) }
     requires out_weights_value_2 { out_weights.old ≡ zeros (length out_weights.old) }
@@ -229,7 +218,7 @@ pub fn iso_curve(
     t: f64,
     out_points: &mut [f64],
     out_weights: &mut [f64],
-) -> Refusal
+) -> Result<(), Refusal>
     ensures { IsoMeets u_degree v_degree u_knots.now v_knots.now u_count v_count points.now rational weights.now constant_u t (length out_points.old) (length out_weights.old) out_points.new out_weights.new result }
 {
     let a = out_points.len();
@@ -242,10 +231,7 @@ pub fn iso_curve(
         rational,
     };
     clear_two(out_points, out_weights);
-    let r = iso_start(f, u_knots, v_knots, points, weights, constant_u, t, a, b);
-    if r.number != 0 {
-        return r;
-    }
+    iso_start(f, u_knots, v_knots, points, weights, constant_u, t, a, b)?;
     let formed = iso_into(
         f,
         u_knots,
@@ -257,9 +243,8 @@ pub fn iso_curve(
         out_points,
         out_weights,
     );
-    if formed.number != 0 {
+    if formed.is_err() {
         clear_two(out_points, out_weights);
-        return formed;
     }
     formed
 }

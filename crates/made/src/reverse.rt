@@ -2,6 +2,7 @@
 ghost use Rattle.std.specs.Prelude.{◌≡◌, ◌++◌, true, ◌*◌, ◌/◌, ◌<◌, ◌≤◌, length, drop};
 ghost use Rattle.knots.specs.Clear.{zeros};
 ghost use Rattle.knots.specs.Curve.{ValidCurve};
+ghost use Rattle.knots.specs.Refusal.{checked};
 ghost use Rattle.runs.specs.Tabulate.{tabulate};
 ghost use Rattle.made.specs.Reverse.{given_length, back_place, back_number, back_at, reverse_start, ReverseFormed, ReverseMeets};
 
@@ -40,11 +41,9 @@ fn run_back(knot: bool, points: bool, lo: f64, hi: f64, n: usize, xs: &[f64], ba
     requires n_value { points ≡ true → n ≡ 3 * (n / 3) }
     ensures { back.new ≡ tabulate n (back_at knot points lo hi n xs.now) ++ drop n back.old }
 {
-    let mut i = 0usize;
-    while i < n {
+    for i in 0..n {
         let from = back_place(points, n, i);
         back[i] = back_number(knot, lo, hi, xs[from]);
-        i += 1;
     }
 }
 
@@ -65,21 +64,12 @@ fn reverse_start(
     a: usize,
     b: usize,
     c: usize,
-) -> Refusal
-    ensures { result ≡ reverse_start degree knots.now points.now rational weights.now a b c }
+) -> Result<(), Refusal>
+    ensures { result ≡ checked (reverse_start degree knots.now points.now rational weights.now a b c) }
 {
-    let curve = curve_refusal(degree, knots, points, rational, weights);
-    if curve.number != 0 {
-        return curve;
-    }
-    let first = room_refusal(a, knots.len());
-    if first.number != 0 {
-        return first;
-    }
-    let second = room_refusal(b, points.len());
-    if second.number != 0 {
-        return second;
-    }
+    curve_refusal(degree, knots, points, rational, weights)?;
+    room_refusal(a, knots.len())?;
+    room_refusal(b, points.len())?;
     room_refusal(c, given_len(rational, weights))
 }
 
@@ -93,7 +83,7 @@ fn reverse_into(
     out_knots: &mut [f64],
     out_points: &mut [f64],
     out_weights: &mut [f64],
-) -> Refusal
+) -> Result<(), Refusal>
     requires valid_curve { ValidCurve degree knots.now points.now rational weights.now }
     requires knots_in_bounds { length knots.now ≤ length out_knots.old }
     requires points_in_bounds { length points.now ≤ length out_points.old }
@@ -135,17 +125,14 @@ pub fn reversed(
     out_knots: &mut [f64],
     out_points: &mut [f64],
     out_weights: &mut [f64],
-) -> Refusal
+) -> Result<(), Refusal>
     ensures { ReverseMeets degree knots.now points.now rational weights.now (length out_knots.old) (length out_points.old) (length out_weights.old) out_knots.new out_points.new out_weights.new result }
 {
     let a = out_knots.len();
     let b = out_points.len();
     let c = out_weights.len();
     clear_three(out_knots, out_points, out_weights);
-    let refusal = reverse_start(degree, knots, points, rational, weights, a, b, c);
-    if refusal.number != 0 {
-        return refusal;
-    }
+    reverse_start(degree, knots, points, rational, weights, a, b, c)?;
     let formed = reverse_into(
         degree,
         knots,
@@ -156,9 +143,8 @@ pub fn reversed(
         out_points,
         out_weights,
     );
-    if formed.number != 0 {
+    if formed.is_err() {
         clear_three(out_knots, out_points, out_weights);
-        return formed;
     }
     formed
 }

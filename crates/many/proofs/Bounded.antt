@@ -24,7 +24,10 @@ use Rattle.knots.specs.Span.{nonempty}
 use Rattle.knots.specs.Clear.{zeros}
 use Rattle.knots.specs.Curve.{count_of, ValidCurve}
 use Rattle.knots.specs.declared.refusal.Refusal.{Refusal}
-use Rattle.knots.proofs.Refusals.{stop, skip}
+use Rattle.std.specs.Prelude.{Err}
+use Rattle.knots.specs.Refusal.{checked}
+use borrow.Author.Tests.{eq-eqb}
+use Rattle.knots.proofs.Refusals.{refused-first}
 use Rattle.knots.proofs.Below.{and_right}
 use Rattle.knots.proofs.Curves.{curve-not-refused}
 use Rattle.knots.proofs.Fractions.{knots-of}
@@ -132,9 +135,6 @@ module _ (ks : List Float) where
   unfolding spans_from
   count_none p = let e : 0 ≡ p - p = omega arith in ap (λ (k : ℕ). length (spans_from k ks p)) e
 
-  pub count-all : (p s m n : ℕ) → n ≡ length (spans_from (s - p) ks p) → s ≤ m → m ≤ s → n ≡ length (spans_from (m - p) ks p)
-  count-all p s m n e a b = let h : s ≡ m = omega arith in e ∙ ap (λ (k : ℕ). length (spans_from (k - p) ks p)) h
-
 -- ---- the span of a span's own range
 first-at : (f : ℕ → Bool) (k i s : ℕ) → i ≤ s → s < i + k → f s ≡ true → ((j : ℕ) → i ≤ j → j < s → f j ≡ false) → first_from f k i ≡ s
 unfolding first_from
@@ -237,7 +237,7 @@ module _ (d : Bool) (p : ℕ) (ks ps : List Float) (g : Bool) (ws : List Float) 
           let e = spans-grow ks (s + 1 - p) (count_of ps - p) p (omega arith) in
           omega (arith, a, c, e)
 
-      pub spans_fit : nonempty ks s ≡ true → length (spans_of p ks ps) * 2 ≤ length m₀ → (i * 2 + 1 < length m₁) × (i < 1048576) × (s < 1048576)
+      pub spans_fit : nonempty ks s ≡ true → length (spans_of p ks ps) * 2 ≤ length m₀ → (i * 2 + 1 < length m₁) × (i < 1048576)
       spans_fit h lm =
           let r = spans-room h in
           let a = I.marks.long in
@@ -245,7 +245,7 @@ module _ (d : Bool) (p : ℕ) (ks ps : List Float) (g : Bool) (ws : List Float) 
           let b = v.triples in
           let e = I.count in
           let f = spans-few ks (s - p) p in
-          (omega (arith, r, a, lm), omega (arith, c, b, e, f, l), omega (arith, c, b, l))
+          (omega (arith, r, a, lm), omega (arith, c, b, e, f, l))
 
       pub spans-more : nonempty ks s ≡ true → length (spans_of p ks ps) * 2 ≤ length m₀ → length (spans_of p ks ps) * w ≤ length b₀
           → (x : BoxRow) → x ≡ row_by d (bound_at p s ks ps g ws (at ks s) (at ks (s + 1)))
@@ -276,17 +276,6 @@ module _ (d : Bool) (p : ℕ) (ks ps : List Float) (g : Bool) (ws : List Float) 
                 (ap (box_of_by d) row ∙ says.numbers) room next z);
           }
 
-    -- all are done
-    pub spans-end : (m₁ : List ℕ) (b₁ : List Float) (i s : ℕ) → InSpans d p ks ps g ws m₀ b₀ m₁ b₁ i s → count_of ps ≤ s
-        → InRows (mark_at p ks ps g ws) 2 m₀ (spans_of p ks ps) (length (spans_of p ks ps) * 2) m₁ × InRows (box_at_by p ks ps g ws d) w b₀ (spans_of p ks ps) (length (spans_of p ks ps) * w) b₁
-    spans-end m₁ b₁ i s I l =
-        let u = I.upto in
-        let e : s ≡ count_of ps = omega arith in
-        let c : i ≡ length (spans_of p ks ps) = I.count ∙ ap (λ (k : ℕ). length (spans_from (k - p) ks p)) e in (
-          subst (λ (k : ℕ). InRows (mark_at p ks ps g ws) 2 m₀ (spans_of p ks ps) (k * 2) m₁) c (subst (λ (k : ℕ). InRows (mark_at p ks ps g ws) 2 m₀ (spans_from (k - p) ks p) (i * 2) m₁) e I.marks),
-          subst (λ (k : ℕ). InRows (box_at_by p ks ps g ws d) w b₀ (spans_of p ks ps) (k * w) b₁) c (subst (λ (k : ℕ). InRows (box_at_by p ks ps g ws d) w b₀ (spans_from (k - p) ks p) (i * w) b₁) e I.boxes),
-        )
-
 -- ---- the bounds of each row hold the point and its derivative
 pub row-holds : (p : ℕ) (ks ps : List Float) (g : Bool) (ws : List Float) → ValidCurve p ks ps g ws → (s : ℕ) → p ≤ s → s < count_of ps → nonempty ks s ≡ true
     → HoldsOn p s ks (count_of ps) g ws (at ks s) (at ks (s + 1)) (coordinate_value ps) (bound_in p ks ps g ws s)
@@ -304,9 +293,9 @@ module _ (p : ℕ) (ks ps : List Float) (g : Bool) (ws : List Float) where
       let c = v.triples in
       omega (arith, a, b, c)
 
-  pub table-stops : (w a b : ℕ) (r : Refusal) → r ≡ table_refusal p ks ps g ws → (r.number ≡ 0 → ⊥) → r ≡ spans_start_by p ks ps g ws w a b
+  pub table-stops : (w a b : ℕ) (r : Refusal) → Err r ≡ checked (table_refusal p ks ps g ws) → Err r ≡ checked (spans_start_by p ks ps g ws w a b)
   unfolding spans_start_by
-  table-stops w a b r e h = e ∙ sym (simp (stop e h))
+  table-stops w a b r e = refused-first _ _ e
 
   -- the lent run after the loop
   abbrev pub after : Bool → List Float → List Float
@@ -318,14 +307,14 @@ module _ (p : ℕ) (ks ps : List Float) (g : Bool) (ws : List Float) where
   start-same a b = refl
 
   -- lent runs by their own lengths
-  pub rooms-stop : (w a b : ℕ) (m₀ : List ℕ) (b₀ : List Float) → m₀ ≡ replicate a 0 → b₀ ≡ zeros b → (t : Refusal) → t ≡ table_refusal p ks ps g ws → t.number ≡ 0
-      → (n : ℕ) → n ≡ length (spans_of p ks ps) → (r : Refusal) → r ≡ rooms_refusal (length m₀) (n * 2) (length b₀) (n * w) → r ≡ spans_start_by p ks ps g ws w a b
+  pub rooms-last : (w a b : ℕ) (m₀ : List ℕ) (b₀ : List Float) → m₀ ≡ replicate a 0 → b₀ ≡ zeros b → (table_refusal p ks ps g ws).number ≡ 0
+      → (n : ℕ) → n ≡ length (spans_of p ks ps) → rooms_refusal (length m₀) (n * 2) (length b₀) (n * w) ≡ spans_start_by p ks ps g ws w a b
   unfolding spans_start_by
-  rooms-stop w a b m₀ b₀ cm cb t et ht n en r er =
-      er ∙ (ap₂ (λ (x y : ℕ). rooms_refusal x (n * 2) y (n * w)) (ap length cm ∙ length-replicate a 0) (ap length cb ∙ length-replicate b zero+)
-      ∙ (ap (λ (k : ℕ). rooms_refusal a (k * 2) b (k * w)) en ∙ sym (simp (skip et ht))))
+  rooms-last w a b m₀ b₀ cm cb ht n en =
+      (ap₂ (λ (x y : ℕ). rooms_refusal x (n * 2) y (n * w)) (ap length cm ∙ length-replicate a 0) (ap length cb ∙ length-replicate b zero+)
+      ∙ (ap (λ (k : ℕ). rooms_refusal a (k * 2) b (k * w)) en ∙ sym (simp (eq-eqb (table_refusal p ks ps g ws).number 0 ht))))
 
-  pub spans-fits : (w a b n : ℕ) → n ≡ length (spans_of p ks ps) → (r : Refusal) → r ≡ rooms_refusal a (n * 2) b (n * w) → r.number ≡ 0
+  pub spans-fits : (w a b n : ℕ) → n ≡ length (spans_of p ks ps) → (rooms_refusal a (n * 2) b (n * w)).number ≡ 0
       → (length (spans_of p ks ps) * 2 ≤ a) × (length (spans_of p ks ps) * w ≤ b)
-  spans-fits w a b n en r er h =
-      subst (λ (k : ℕ). (k * 2 ≤ a) × (k * w ≤ b)) en (rooms-open a (n * 2) b (n * w) (ap (λ (x : Refusal). x.number) (sym er) ∙ h))
+  spans-fits w a b n en h =
+      subst (λ (k : ℕ). (k * 2 ≤ a) × (k * w ≤ b)) en (rooms-open a (n * 2) b (n * w) h)

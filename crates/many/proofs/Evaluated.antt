@@ -1,5 +1,6 @@
 -- The rows of `eval_many` and `eval2_many`: on a valid curve the step answers what the evaluation answers, and each turn of the loop stores one more.
 -- Assumes nothing.
+use Rattle.std.specs.Prelude.{Ok, Err}
 use Prim.Native.Nat.{ℕ, ◌+◌, ◌*◌, ◌≤◌, ◌<◌}
 use mathlib.Core.Bool.{Bool, true, false, cond}
 use mathlib.Core.Path.{◌≡◌, refl, sym, ◌∙◌, ap, ap₂, subst}
@@ -9,14 +10,15 @@ use native.Mathlib.Nat.{le_trans, suc-mul, mul-le-mul_right}
 use native.Mathlib.Numerals.{add-one}
 use lib.Dec.{eqb}
 use lib.ListN.{length, take, replicate, length-replicate}
-use lib.Seq.{sets, take-suc, take-length}
+use lib.Seq.{sets, take-suc}
 use lib.Ieee.{Float, nan}
 use Rattle.doubles.specs.Run.{at}
 use Rattle.doubles.specs.Value.{zero+}
 use Rattle.knots.specs.Span.{outside, refusing, clamping, span_of}
 use Rattle.knots.specs.Span.{searched}
 use Rattle.knots.specs.Clear.{zeros}
-use Rattle.knots.specs.Refusal.{refuse, length-bad}
+use Rattle.knots.specs.Refusal.{refuse}
+use Rattle.knots.specs.declared.refusal.Reason.TheVariants.{LengthBad}
 use Rattle.knots.specs.Curve.{over_long, count_of, ValidCurve}
 use Rattle.knots.specs.declared.refusal.Refusal.{Refusal}
 use Rattle.knots.proofs.Refusals.{passed, or_else-none, where-none}
@@ -26,12 +28,10 @@ use Rattle.evaluate.specs.Curve2.{curve2_of, told2, found2_of, eval2_at_of, eval
 use Rattle.runs.specs.Point.{three_of, stored_three}
 use Rattle.runs.specs.declared.vector.Vector.{Vector}
 use Rattle.runs.proofs.Stores.{sets_more, sets-three}
-use Rattle.evaluate.specs.declared.curve.CurveAnswer.TheVariants.{At, Refused}
 use Rattle.knots.proofs.Shapes.{shape-none}
 use Rattle.evaluate.proofs.Steps.{parameter-open}
 use Rattle.evaluate.proofs.Curves.{eval-inside-same, eval2-inside-same, eval-outside, eval2-outside}
 use Rattle.knots.proofs.Searches.{searched-is}
-use Rattle.evaluate.specs.declared.curve2.CurveAnswer2.TheVariants as two
 use Rattle.many.specs.Start.{table_refusal}
 use Rattle.many.specs.Points.{width, number_at, numbers_at, numbers_of, points_start}
 use Rattle.many.specs.declared.row.PointRow.{PointRow}
@@ -84,11 +84,11 @@ module _ (c : Bool) (p : ℕ) (ks ps : List Float) (g : Bool) (ws : List Float) 
 
     pub valid-answered : eval_at_of c p ks ps g ws t ≡ eval_of c p ks ps g ws t
     unfolding eval_at_of found_of eval_of
-    valid-answered = simp (step_is, eval-is) (asked (λ s. At (curve_of p ks ps g ws s (looked p ks ps t))) (Refused (parameter_refusal c p (count_of ps) ks t)))
+    valid-answered = simp (step_is, eval-is) (asked (λ s. Ok (curve_of p ks ps g ws s (looked p ks ps t))) (Err (parameter_refusal c p (count_of ps) ks t)))
 
     pub valid-answered2 : eval2_at_of c p ks ps g ws t ≡ eval2_of c p ks ps g ws t
     unfolding eval2_at_of found2_of eval2_of
-    valid-answered2 = simp (step_is, eval-is) (asked (λ s. told2 (curve2_of p ks ps g ws s (looked p ks ps t))) (two.Refused (parameter_refusal c p (count_of ps) ks t)))
+    valid-answered2 = simp (step_is, eval-is) (asked (λ s. told2 (curve2_of p ks ps g ws s (looked p ks ps t))) (Err (parameter_refusal c p (count_of ps) ks t)))
 
 -- ---- where a parameter is not outside the domain, its row is the same in both modes
 pub row-inside-same : (p : ℕ) (ks ps : List Float) (g : Bool) (ws : List Float) (b : Bool) (t : Float) → outside p (count_of ps) ks t ≡ false
@@ -122,13 +122,6 @@ module _ (f : Float → List ℕ) (fits : (t : Float) → length (f t) ≡ 1) (h
     behind : i * w + w ≤ length ts * w
     behind = subst (λ (k : ℕ). k ≤ length ts * w) (suc-mul i w) (mul-le-mul_right w l)
 
-    pub each_fits : (i < length n₁) × (i * w + w ≤ length r₁)
-    each_fits =
-        let a = I.numbers.long in
-        let b = I.rows.long in
-        let c = behind in
-        (omega (arith, a, ln), omega (arith, b, lr, c))
-
     pub each_more : (n₂ : List ℕ) (r₂ : List Float) (x : List ℕ) (y : List Float) → x ≡ f (at ts i) → y ≡ h (at ts i) → n₂ ≡ sets n₁ i x → r₂ ≡ sets r₁ (i * w) y → InEach f h w ts n₀ r₀ n₂ r₂ (i + 1)
     each_more n₂ r₂ x y ex ey en er =
         record {
@@ -146,15 +139,6 @@ module _ (f : Float → List ℕ) (fits : (t : Float) → length (f t) ≡ 1) (h
         grown : take (i + 1) ts ≡ take i ts ++ at ts i ∷ []
         grown = ap (λ (k : ℕ). take k ts) (add-one i) ∙ take-suc ts i nan l
 
-  -- all are done
-  pub each-end : (n₁ : List ℕ) (r₁ : List Float) (i : ℕ) → InEach f h w ts n₀ r₀ n₁ r₁ i → length ts ≤ i → InRows f 1 n₀ ts (length ts) n₁ × InRows h w r₀ ts (length ts * w) r₁
-  each-end n₁ r₁ i I l =
-      let u = I.upto in
-      let e : i ≡ length ts = omega arith in (
-        subst (λ (xs : List Float). InRows f 1 n₀ xs (length ts) n₁) (take-length ts) (subst (λ (k : ℕ). InRows f 1 n₀ (take k ts) k n₁) e I.numbers),
-        subst (λ (xs : List Float). InRows h w r₀ xs (length ts * w) r₁) (take-length ts) (subst (λ (k : ℕ). InRows h w r₀ (take k ts) (k * w) r₁) e I.rows),
-      )
-
 -- ---- before the loop
 module _ (p : ℕ) (ks ps : List Float) (g : Bool) (ws ts : List Float) (w : ℕ) where
   pub record PointsOpen (a b : ℕ) : Type 0 where
@@ -166,7 +150,7 @@ module _ (p : ℕ) (ks ps : List Float) (g : Bool) (ws ts : List Float) (w : ℕ
   pub points-open : (a b : ℕ) → (points_start p ks ps g ws ts w a b).number ≡ 0 → PointsOpen a b
   unfolding points_start
   points-open a b h =
-      let x = passed (over_long true ts) (refuse length-bad) _ (λ e. omega arith) h in
+      let x = passed (over_long true ts) (refuse LengthBad) _ (λ e. omega arith) h in
       let y = or_else-none (table_refusal p ks ps g ws) _ x.1 in
       let z = rooms-open a (length ts) b (length ts * w) y.1 in
       record {
@@ -177,6 +161,5 @@ module _ (p : ℕ) (ks ps : List Float) (g : Bool) (ws ts : List Float) (w : ℕ
       }
 
   -- lent runs by their own lengths
-  pub start_is : (a b : ℕ) (n₀ : List ℕ) (r₀ : List Float) → n₀ ≡ replicate a 0 → r₀ ≡ zeros b → (r : Refusal) → r ≡ points_start p ks ps g ws ts w (length n₀) (length r₀)
-      → r ≡ points_start p ks ps g ws ts w a b
-  start_is a b n₀ r₀ cn cr r e = e ∙ ap₂ (points_start p ks ps g ws ts w) (ap length cn ∙ length-replicate a 0) (ap length cr ∙ length-replicate b zero+)
+  pub start_is : (a b : ℕ) (n₀ : List ℕ) (r₀ : List Float) → n₀ ≡ replicate a 0 → r₀ ≡ zeros b → points_start p ks ps g ws ts w (length n₀) (length r₀) ≡ points_start p ks ps g ws ts w a b
+  start_is a b n₀ r₀ cn cr = ap₂ (points_start p ks ps g ws ts w) (ap length cn ∙ length-replicate a 0) (ap length cr ∙ length-replicate b zero+)

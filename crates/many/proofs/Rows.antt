@@ -1,5 +1,6 @@
 -- Rows stored one after the other at the front of a run, at any type: each turn of a loop stores one more.
 -- Assumes nothing.
+use Rattle.std.specs.Prelude.{Ok, Err}
 use Prim.Native.Nat.{ℕ, ◌+◌, ◌-◌, ◌*◌, ◌≤◌}
 use mathlib.Core.Bool.{Bool}
 use mathlib.Core.Path.{◌≡◌, refl, sym, ◌∙◌, ap, ap₂}
@@ -10,7 +11,9 @@ use lib.ListN.{length, take, drop, replicate, length-append}
 use lib.Seq.{sets, sets-eq, length-sets, take_at, drop-append-add, drop-drop}
 use Rattle.knots.specs.declared.refusal.Refusal.{Refusal}
 use Rattle.knots.proofs.Fill.{drop-replicate}
-use Rattle.knots.proofs.Refusals.{stop, skip, or_else-none}
+use borrow.Author.Tests.{eq-eqb}
+use Rattle.knots.specs.Refusal.{checked}
+use Rattle.knots.proofs.Refusals.{stop, stopped_by, or_else-none}
 use lib.Ieee.{Float}
 use Rattle.doubles.specs.Value.{zero+}
 use Rattle.knots.specs.Clear.{zeros}
@@ -20,7 +23,6 @@ use Rattle.knots.specs.Shape.{degree_refusal, room_refusal}
 use Rattle.knots.proofs.Shapes.{room_open}
 use Rattle.many.specs.Rows.{rows_by, left, RowsMeet}
 use Rattle.many.specs.Start.{table_refusal, rooms_refusal}
-use Rattle.many.specs.declared.answer.ManyAnswer.TheVariants.{Rows, Refused}
 
 module _ {X Y : Type 0} (f : X → List Y) where
   rows_snoc : (xs : List X) (x : X) → rows_by f (xs ++ x ∷ []) ≡ rows_by f xs ++ f x
@@ -87,28 +89,25 @@ module _ {X Y : Type 0} (f : X → List Y) (w : ℕ) (fits : (x : X) → length 
   unfolding left
   in_end xs k now z n r p e c h =
       let m : length (rows_by f xs) ≡ k = length-rows f w fits xs ∙ sym p in
-      simp (skip {r = r} {a = r} refl h) (e ∙ ap (λ (l : List Y). rows_by f xs ++ l) (ap (drop k) c ∙ (drop-replicate k n z ∙ ap (λ (a : ℕ). replicate (n - a) z) (sym m))))
+      simp (eq-eqb r.number 0 h) (e ∙ ap (λ (l : List Y). rows_by f xs ++ l) (ap (drop k) c ∙ (drop-replicate k n z ∙ ap (λ (a : ℕ). replicate (n - a) z) (sym m))))
 
 -- ---- the whole call: both runs were cleared before, so their lengths are a and b
 module _ {X : Type 0} (f : X → List ℕ) (u : ℕ) (fits : (x : X) → length (f x) ≡ u) (h : X → List Float) (w : ℕ) (fits' : (x : X) → length (h x) ≡ w) (xs : List X)
-    (a b : ℕ) (n₀ : List ℕ) (r₀ : List Float) (cn : n₀ ≡ replicate a 0) (cr : r₀ ≡ zeros b) (s r : Refusal) (e : r ≡ s) where
-  same : s.number ≡ r.number
-  same = ap (λ (x : Refusal). x.number) (sym e)
-
-  pub meets-refused : (r.number ≡ 0 → ⊥) → RowsMeet s xs f h a b n₀ r₀ (Refused r)
+    (a b : ℕ) (n₀ : List ℕ) (r₀ : List Float) (cn : n₀ ≡ replicate a 0) (cr : r₀ ≡ zeros b) (s : Refusal) where
+  pub meets-refused : (r : Refusal) → Err r ≡ checked s → RowsMeet s xs f h a b n₀ r₀ (Err r)
   unfolding left
-  meets-refused q = record {
-    answered = simp (stop e q) (ap Refused e);
-    numbers = simp (stop e q) cn;
-    rows = simp (stop e q) cr;
+  meets-refused r e = let n = stop s e in record {
+    answered = simp n (ap Err (stopped_by s e).0);
+    numbers = simp n cn;
+    rows = simp n cr;
   }
 
-  pub meets-answered : r.number ≡ 0 → (m k j : ℕ) (n₁ : List ℕ) (r₁ : List Float) → m ≡ length xs → k ≡ length xs * u → j ≡ length xs * w
-      → n₁ ≡ rows_by f xs ++ drop k n₀ → r₁ ≡ rows_by h xs ++ drop j r₀ → RowsMeet s xs f h a b n₁ r₁ (Rows m)
+  pub meets-answered : s.number ≡ 0 → (m k j : ℕ) (n₁ : List ℕ) (r₁ : List Float) → m ≡ length xs → k ≡ length xs * u → j ≡ length xs * w
+      → n₁ ≡ rows_by f xs ++ drop k n₀ → r₁ ≡ rows_by h xs ++ drop j r₀ → RowsMeet s xs f h a b n₁ r₁ (Ok m)
   meets-answered q m k j n₁ r₁ em ek ej en er = record {
-    answered = simp (skip e q) (ap Rows em);
-    numbers = in_end f u fits n₀ xs k n₁ 0 a s ek en cn (same ∙ q);
-    rows = in_end h w fits' r₀ xs j r₁ zero+ b s ej er cr (same ∙ q);
+    answered = simp (eq-eqb s.number 0 q) (ap Ok em);
+    numbers = in_end f u fits n₀ xs k n₁ 0 a s ek en cn q;
+    rows = in_end h w fits' r₀ xs j r₁ zero+ b s ej er cr q;
   }
 
 -- ---- refusals that are none

@@ -1,4 +1,5 @@
 -- The rows that `bound_spans` and `bound_points` leave, read back: each is the answer on its span, so that its bounds hold the exact point, with its derivative or alone. Assumes nothing.
+use Rattle.std.specs.Prelude.{Result, Ok, Err}
 use Prim.Native.Nat.{ℕ, zero, suc, ◌+◌, ◌-◌, ◌*◌, ◌≤◌, ◌<◌}
 use mathlib.Core.Bool.{Bool, true, false, cond}
 use mathlib.Core.Path.{◌≡◌, refl, sym, ◌∙◌, ap, subst}
@@ -13,7 +14,8 @@ use borrow.Author.Tests.{eqb-true}
 use Rattle.exact.specs.Rational.{ℚ, ◌≤q◌}
 use Rattle.doubles.specs.Run.{at}
 use Rattle.doubles.specs.Value.{zero+, val}
-use Rattle.knots.specs.Refusal.{refuse, accepted, numbered, length-bad, degree-high}
+use Rattle.knots.specs.Refusal.{refuse, accepted, numbered}
+use Rattle.knots.specs.declared.refusal.Reason.TheVariants.{LengthBad, DegreeHigh}
 use Rattle.knots.specs.Curve.{count_of, curve_refusal}
 use Rattle.knots.specs.Shape.{degree_refusal, room_refusal}
 use Rattle.knots.specs.Span.{nonempty}
@@ -27,8 +29,6 @@ use Rattle.bounds.specs.Numbers.{six_of, bounded_refusal, bounded_values, point_
 use Rattle.bounds.specs.Eighteen.{triple_by, bounds_by}
 use Rattle.bounds.specs.declared.answer.Triple.{Triple}
 use Rattle.bounds.specs.declared.answer.NurbsBounds.{NurbsBounds}
-use Rattle.bounds.specs.declared.answer.Bounded.{Bounded}
-use Rattle.bounds.specs.declared.answer.Bounded.TheVariants as B
 use Rattle.bounds.proofs.Idle.{Other, idle, or_else-other, curve-other, bound-idle}
 use Rattle.bounds.proofs.Numbered.{Numbered, bound-numbered}
 use Rattle.many.specs.Numbers.{many_answer_refusal}
@@ -36,8 +36,6 @@ use Rattle.many.specs.Rows.{rows_by, row_of, left, RowsMeet}
 use Rattle.many.specs.Start.{table_refusal, rooms_refusal}
 use Rattle.many.specs.Spans.{spans_from, spans_of, box_width, bound_in, mark_at, box_at, box_at_by, spans_start_by, BoxesMeet, SpansMeet, PointSpansMeet}
 use Rattle.many.specs.RowsHold.{answer_at, answer_at_by, EachHolds, PointBoxHolds, RowsHold, PointRowsHold}
-use Rattle.many.specs.declared.answer.ManyAnswer.{ManyAnswer}
-use Rattle.many.specs.declared.answer.ManyAnswer.TheVariants.{Rows, Refused}
 use Rattle.many.proofs.Said.{box-says}
 use Rattle.many.proofs.Rows.{table-open}
 use Rattle.many.proofs.Bounded.{row-holds, start-same}
@@ -93,31 +91,31 @@ bounds-same f g h =
     rw (p, u, v)
 
 -- what is asked of a row's answer, by the flag: that it holds vectors, and its number
-abbrev RowBoxed : Bool → Bounded → (ℕ → Three) → Type 0
+abbrev RowBoxed : Bool → Result NurbsBounds Refusal → (ℕ → Three) → Type 0
 RowBoxed true A e = PointBoxed (point_only A) (λ k. (e k).value)
 RowBoxed false A e = Boxed A e
 
-abbrev row_refusal : Bool → Bounded → Refusal
+abbrev row_refusal : Bool → Result NurbsBounds Refusal → Refusal
 row_refusal d A = cond d (point_refusal (point_only A)) (bounded_refusal A)
 
 -- it holds what its answer holds, and has its number
-pub record Back (d : Bool) (A B : Bounded) : Type 0 where
+pub record Back (d : Bool) (A B : Result NurbsBounds Refusal) : Type 0 where
   pub boxed : (e : ℕ → Three) → Boxed B e → RowBoxed d A e
   pub number : (bounded_refusal B).number ≡ (row_refusal d A).number
 
-read_back : (d : Bool) (n : ℕ) (f : ℕ → Float) (A : Bounded) → n ≡ (bounded_refusal A).number → Numbered A
+read_back : (d : Bool) (n : ℕ) (f : ℕ → Float) (A : Result NurbsBounds Refusal) → n ≡ (bounded_refusal A).number → Numbered A
     → ((j : ℕ) → j < box_width d → f j ≡ at (row_of (box_width d) (cond d (point_values (point_only A)) (bounded_values A))) j)
-    → Back d (cond (eqb n 0) (B.Are (bounds_by f)) (B.Refused (numbered n))) A
-read_back false n f (B.Are b) e h same =
-    subst (λ (k : ℕ). Back false (cond (eqb k 0) (B.Are (bounds_by f)) (B.Refused (numbered k))) (B.Are b)) (sym e)
-    (subst (λ (a : NurbsBounds). Back false (B.Are a) (B.Are b)) (sym (bounds-same f (at (bounded_values (B.Are b))) same)) (record { boxed = λ e h. h; number = refl }))
-read_back true n f (B.Are b) e h same =
+    → Back d (cond (eqb n 0) (Ok (bounds_by f)) (Err (numbered n))) A
+read_back false n f (Ok b) e h same =
+    subst (λ (k : ℕ). Back false (cond (eqb k 0) (Ok (bounds_by f)) (Err (numbered k))) (Ok b)) (sym e)
+    (subst (λ (a : NurbsBounds). Back false (Ok a) (Ok b)) (sym (bounds-same f (at (bounded_values (Ok b))) same)) (record { boxed = λ e h. h; number = refl }))
+read_back true n f (Ok b) e h same =
     let p = triple-same f (at (six_of b.point)) 0 (same 0 (omega arith)) (same 1 (omega arith)) (same 2 (omega arith)) (same 3 (omega arith)) (same 4 (omega arith)) (same 5 (omega arith)) in
-    subst (λ (k : ℕ). Back true (cond (eqb k 0) (B.Are (bounds_by f)) (B.Refused (numbered k))) (B.Are b)) (sym e)
+    subst (λ (k : ℕ). Back true (cond (eqb k 0) (Ok (bounds_by f)) (Err (numbered k))) (Ok b)) (sym e)
     (record { boxed = λ e h. subst (λ (t : Triple). Holding t (λ k. (e k).value)) (sym p) h.point; number = refl })
-read_back d n f (B.Refused r) e h same = go d (eqb n 0) (eqb-true n 0)
+read_back d n f (Err r) e h same = go d (eqb n 0) (eqb-true n 0)
   where
-    go : (d b : Bool) → (b ≡ true → n ≡ 0) → Back d (cond b (B.Are (bounds_by f)) (B.Refused (numbered n))) (B.Refused r)
+    go : (d b : Bool) → (b ≡ true → n ≡ 0) → Back d (cond b (Ok (bounds_by f)) (Err (numbered n))) (Err r)
     go d true z = absurd (h (sym e ∙ z refl))
     go true false z = record { boxed = λ e h. tt; number = sym e }
     go false false z = record { boxed = λ e h. tt; number = sym e }
@@ -125,19 +123,19 @@ read_back d n f (B.Refused r) e h same = go d (eqb n 0) (eqb-true n 0)
 -- ---- all rows
 rooms-other : (a m b n : ℕ) → Other (rooms_refusal a m b n)
 unfolding rooms_refusal room_refusal
-rooms-other a m b n = or_else-other (room_refusal a m) (room_refusal b n) (row-both Other (ltb a m) (refuse length-bad) accepted tt tt) (row-both Other (ltb b n) (refuse length-bad) accepted tt tt)
+rooms-other a m b n = or_else-other (room_refusal a m) (room_refusal b n) (row-both Other (ltb a m) (refuse LengthBad) accepted tt tt) (row-both Other (ltb b n) (refuse LengthBad) accepted tt tt)
 
 table-other : (p : ℕ) (ks ps : List Float) (g : Bool) (ws : List Float) → Other (table_refusal p ks ps g ws)
 unfolding table_refusal degree_refusal
-table-other p ks ps g ws = or_else-other (curve_refusal p ks ps g ws) (degree_refusal p) (curve-other p ks ps g ws) (row-both Other (ltb 64 p) (refuse degree-high) accepted tt tt)
+table-other p ks ps g ws = or_else-other (curve_refusal p ks ps g ws) (degree_refusal p) (curve-other p ks ps g ws) (row-both Other (ltb 64 p) (refuse DegreeHigh) accepted tt tt)
 
-abbrev Answered : ManyAnswer → Type 0
-Answered (Rows n) = Unit
-Answered (Refused r) = ⊥
+abbrev Answered : Result ℕ Refusal → Type 0
+Answered (Ok n) = Unit
+Answered (Err r) = ⊥
 
-abbrev count_in : ManyAnswer → ℕ
-count_in (Rows n) = n
-count_in (Refused r) = 0
+abbrev count_in : Result ℕ Refusal → ℕ
+count_in (Ok n) = n
+count_in (Err r) = 0
 
 -- what is said of row i, of span s
 abbrev BoxHolds : ℕ → List Float → List Float → Bool → List Float → List ℕ → List Float → ℕ → ℕ → Type 0
@@ -166,7 +164,7 @@ module _ (d : Bool) (p : ℕ) (ks ps : List Float) (g : Bool) (ws : List Float) 
   abbrev Row : List ℕ → List Float → ℕ → ℕ → Type 0
   Row marks boxes s i = RowHolds d p ks ps g ws marks boxes s i
 
-  module _ (a b : ℕ) (marks : List ℕ) (boxes : List Float) (A : ManyAnswer) (M : BoxesMeet p ks ps g ws d a b marks boxes A) where
+  module _ (a b : ℕ) (marks : List ℕ) (boxes : List Float) (A : Result ℕ Refusal) (M : BoxesMeet p ks ps g ws d a b marks boxes A) where
     abbrev r : Refusal
     r = spans_start_by p ks ps g ws w a b
 
@@ -174,9 +172,9 @@ module _ (d : Bool) (p : ℕ) (ks ps : List Float) (g : Bool) (ws : List Float) 
     spans = spans_of p ks ps
 
     start-idle : NotIdle (many_answer_refusal A).number
-    start-idle = subst (λ (x : ManyAnswer). NotIdle (many_answer_refusal x).number) (sym M.answered) (go (eqb r.number 0))
+    start-idle = subst (λ (x : Result ℕ Refusal). NotIdle (many_answer_refusal x).number) (sym M.answered) (go (eqb r.number 0))
       where
-        go : (x : Bool) → NotIdle (many_answer_refusal (cond x (Rows (length spans)) (Refused r))).number
+        go : (x : Bool) → NotIdle (many_answer_refusal (cond x (Ok (length spans)) (Err r))).number
         go true = idle 0 tt
         go false = idle r.number (start-other a b)
 
@@ -214,7 +212,7 @@ module _ (d : Bool) (p : ℕ) (ks ps : List Float) (g : Bool) (ws : List Float) 
     pub rows-hold-by : EachHolds (Row marks boxes) marks A
     rows-hold-by = record { idle = start-idle; each = λ n e. go n (eqb r.number 0) (eqb-true r.number 0) (sym M.answered ∙ e) }
       where
-        go : (n : ℕ) (x : Bool) → (x ≡ true → r.number ≡ 0) → cond x (Rows (length spans)) (Refused r) ≡ Rows n → (i : ℕ) → i < n → Row marks boxes (get_or marks (i * 2) 0) i
+        go : (n : ℕ) (x : Bool) → (x ≡ true → r.number ≡ 0) → cond x (Ok (length spans)) (Err r) ≡ Ok n → (i : ℕ) → i < n → Row marks boxes (get_or marks (i * 2) 0) i
         go n false z e i l = absurd (subst Answered (sym e) tt)
         go n true z e i l =
             let m : i < length spans = subst (λ (k : ℕ). i < k) (sym (ap count_in e)) l in
@@ -222,7 +220,7 @@ module _ (d : Bool) (p : ℕ) (ks ps : List Float) (g : Bool) (ws : List Float) 
             subst (λ (s : ℕ). Row marks boxes s i) (sym q) (row_is (z refl) i m)
 
 -- both promises of each call
-module _ (p : ℕ) (ks ps : List Float) (g : Bool) (ws : List Float) (a b : ℕ) (marks : List ℕ) (boxes : List Float) (A : ManyAnswer) where
+module _ (p : ℕ) (ks ps : List Float) (g : Bool) (ws : List Float) (a b : ℕ) (marks : List ℕ) (boxes : List Float) (A : Result ℕ Refusal) where
   -- eighteen numbers a box
   abbrev Meet : Refusal → Type 0
   Meet r = RowsMeet r (spans_of p ks ps) (mark_at p ks ps g ws) (box_at p ks ps g ws) a b marks boxes A

@@ -1,5 +1,6 @@
 -- The answers of `bound_spans` and `bound_points`: for each nonempty span what `bound_curve` and `bound_point` answer on its closed range, in a row.
 -- Assumes nothing.
+use Rattle.std.specs.Prelude.{Result, Ok, Err}
 use Rattle.std.specs.Prelude.{ℕ, zero, suc, ◌+◌, ◌-◌, ◌*◌, Bool, true, cond, List, [], ◌∷◌, ◌++◌, length, Float}
 use Rattle.doubles.specs.Run.{at}
 use Rattle.doubles.specs.Value.{zero+}
@@ -13,13 +14,8 @@ use Rattle.bounds.specs.Point.{point_only}
 use Rattle.bounds.specs.Numbers.{bounded_refusal, bounded_values, point_values, six_of}
 use Rattle.bounds.specs.declared.answer.Triple.{Triple}
 use Rattle.bounds.specs.declared.answer.NurbsBounds.{NurbsBounds}
-use Rattle.bounds.specs.declared.answer.Bounded.{Bounded}
-use Rattle.bounds.specs.declared.answer.Bounded.TheVariants.{Are, Refused}
-use Rattle.bounds.specs.declared.answer.PointBounded.{PointBounded}
-use Rattle.bounds.specs.declared.answer.PointBounded.TheVariants as P
 use Rattle.many.specs.Rows.{RowsMeet, row_of}
 use Rattle.many.specs.Start.{table_refusal, rooms_refusal}
-use Rattle.many.specs.declared.answer.ManyAnswer.{ManyAnswer}
 use Rattle.many.specs.declared.boxes.BoxRow.{BoxRow}
 
 -- the nonempty spans among the k places from s on, and those of a curve
@@ -36,7 +32,7 @@ box_width d = cond d 6 18
 
 module _ (p : ℕ) (ks ps : List Float) (g : Bool) (ws : List Float) where
   -- span s over its own closed range
-  abbrev pub bound_in : ℕ → Bounded
+  abbrev pub bound_in : ℕ → Result NurbsBounds Refusal
   bound_in s = bound_of p ks ps g ws (at ks s) (at ks (s + 1))
 
   -- the span with the number of its refusal or 0, and the box
@@ -59,13 +55,13 @@ module _ (p : ℕ) (ks ps : List Float) (g : Bool) (ws : List Float) where
   spans_start_by w a b = let n = length (spans_of p ks ps) in or_else (table_refusal p ks ps g ws) (rooms_refusal a (n * 2) b (n * w))
 
   -- the promises
-  abbrev pub SpansMeet : ℕ → ℕ → List ℕ → List Float → ManyAnswer → Type 0
+  abbrev pub SpansMeet : ℕ → ℕ → List ℕ → List Float → Result ℕ Refusal → Type 0
   SpansMeet a b = RowsMeet (spans_start a b) (spans_of p ks ps) mark_at box_at a b
 
-  abbrev pub BoxesMeet : Bool → ℕ → ℕ → List ℕ → List Float → ManyAnswer → Type 0
+  abbrev pub BoxesMeet : Bool → ℕ → ℕ → List ℕ → List Float → Result ℕ Refusal → Type 0
   BoxesMeet d a b = RowsMeet (spans_start_by (box_width d) a b) (spans_of p ks ps) mark_at (box_at_by d) a b
 
-  abbrev pub PointSpansMeet : ℕ → ℕ → List ℕ → List Float → ManyAnswer → Type 0
+  abbrev pub PointSpansMeet : ℕ → ℕ → List ℕ → List Float → Result ℕ Refusal → Type 0
   PointSpansMeet = BoxesMeet true
 
 -- ---- what the parts of the code leave
@@ -82,15 +78,15 @@ abbrev pub point_bounds : Triple → NurbsBounds
 point_bounds t = record { point = t; du = no_triple; dv = no_triple }
 
 -- what is stored of an answer: no box where it is refused
-abbrev pub box_row : Bounded → BoxRow
-box_row (Are b) = record { number = 0; bounds = b }
-box_row (Refused r) = record { number = r.number; bounds = no_bounds }
+abbrev pub box_row : Result NurbsBounds Refusal → BoxRow
+box_row (Ok b) = record { number = 0; bounds = b }
+box_row (Err r) = record { number = r.number; bounds = no_bounds }
 
-abbrev pub point_box_row : PointBounded → BoxRow
-point_box_row (P.Are t) = record { number = 0; bounds = point_bounds t }
-point_box_row (P.Refused r) = record { number = r.number; bounds = no_bounds }
+abbrev pub point_box_row : Result Triple Refusal → BoxRow
+point_box_row (Ok t) = record { number = 0; bounds = point_bounds t }
+point_box_row (Err r) = record { number = r.number; bounds = no_bounds }
 
-abbrev pub row_by : Bool → Bounded → BoxRow
+abbrev pub row_by : Bool → Result NurbsBounds Refusal → BoxRow
 row_by d a = cond d (point_box_row (point_only a)) (box_row a)
 
 abbrev pub marks_of : ℕ → BoxRow → List ℕ

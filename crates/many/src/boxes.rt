@@ -7,15 +7,14 @@ ghost use Rattle.many.specs.Rows.{rows_by};
 ghost use Rattle.many.specs.Spans.{spans_from, spans_of, box_width, no_triple, no_bounds, point_bounds, box_row, point_box_row, row_by, marks_of, box_of, box_of_by, mark_at, box_at, box_at_by, BoxesMeet, SpansMeet, PointSpansMeet};
 ghost use Rattle.many.specs.RowsHold.{RowsHold, PointRowsHold};
 
-use crate::answer::ManyAnswer;
 use crate::start::{rooms_refusal, table_refusal};
-use crate::store::clear_numbers;
-use bounds::answer::{Bounded, NurbsBounds, PointBounded, Triple};
+use bounds::answer::{NurbsBounds, Triple};
 use bounds::curve::bound_span;
 use bounds::point::point_span;
 use bounds::store::store_triple;
 use interval::Interval;
 use knots::clear::clear;
+use knots::refusal::Refusal;
 
 // What is stored of one answer: the number of its refusal or 0, then the box. Where the point alone is asked for, du and dv are not stored.
 #[derive(Clone, Copy)]
@@ -58,27 +57,27 @@ fn no_bounds() -> NurbsBounds
     point_bounds(no_triple())
 }
 
-fn row_of(a: Bounded) -> BoxRow
+fn row_of(a: Result<NurbsBounds, Refusal>) -> BoxRow
     ensures { result ≡ box_row a }
 {
     match a {
-        Bounded::Are(bounds) => BoxRow { number: 0, bounds },
-        Bounded::Refused(r) => BoxRow {
+        Ok(bounds) => BoxRow { number: 0, bounds },
+        Err(r) => BoxRow {
             number: r.number,
             bounds: no_bounds(),
         },
     }
 }
 
-fn point_row_of(a: PointBounded) -> BoxRow
+fn point_row_of(a: Result<Triple, Refusal>) -> BoxRow
     ensures { result ≡ point_box_row a }
 {
     match a {
-        PointBounded::Are(point) => BoxRow {
+        Ok(point) => BoxRow {
             number: 0,
             bounds: point_bounds(point),
         },
-        PointBounded::Refused(r) => BoxRow {
+        Err(r) => BoxRow {
             number: r.number,
             bounds: no_bounds(),
         },
@@ -159,14 +158,10 @@ fn span_count(degree: usize, count: usize, knots: &[f64]) -> usize
     ensures { result ≡ length (spans_from (count - degree) knots.now degree) }
 {
     let mut n = 0usize;
-    let mut s = degree;
-    while s < count {
+    for s in degree..count {
         if knots[s] < knots[s + 1] {
-            s += 1;
             n += 1;
-            continue;
         }
-        s += 1;
     }
     n
 }
@@ -190,18 +185,14 @@ fn bound_each_by(
 {
     let count = points.len() / 3;
     let mut i = 0usize;
-    let mut s = degree;
-    while s < count {
+    for s in degree..count {
         let lo = knots[s];
         let hi = knots[s + 1];
         if lo < hi {
             let row = row_on(alone, degree, s, knots, points, rational, weights, lo, hi);
             put_row_by(alone, marks, boxes, i, s, row);
             i += 1;
-            s += 1;
-            continue;
         }
-        s += 1;
     }
 }
 
@@ -236,27 +227,21 @@ fn bound_all(
     weights: &[f64],
     marks: &mut [u32],
     boxes: &mut [f64],
-) -> ManyAnswer
+) -> Result<usize, Refusal>
     ensures { BoxesMeet degree knots.now points.now rational weights.now alone (length marks.old) (length boxes.old) marks.new boxes.new result }
 {
-    clear_numbers(marks);
+    marks.fill(0);
     clear(boxes);
-    let table = table_refusal(degree, knots, points, rational, weights);
-    if table.number != 0 {
-        return ManyAnswer::Refused(table);
-    }
+    table_refusal(degree, knots, points, rational, weights)?;
     let n = span_count(degree, points.len() / 3, knots);
     let w = box_width(alone);
-    let room = rooms_refusal(marks.len(), n * 2, boxes.len(), n * w);
-    if room.number != 0 {
-        return ManyAnswer::Refused(room);
-    }
+    rooms_refusal(marks.len(), n * 2, boxes.len(), n * w)?;
     if alone {
         bound_each_by(true, degree, knots, points, rational, weights, marks, boxes);
-        return ManyAnswer::Rows(n);
+        return Ok(n);
     }
     bound_each(degree, knots, points, rational, weights, marks, boxes);
-    ManyAnswer::Rows(n)
+    Ok(n)
 }
 
 // The bounds on each nonempty span over its own closed range, one validation for all: the span and the number of its own refusal or 0, and eighteen numbers. Where that number is 0 they hold the exact point and derivative at every fraction of that range; else they are +0.0. 28 and 29 are never given.
@@ -268,7 +253,7 @@ pub fn bound_spans(
     weights: &[f64],
     marks: &mut [u32],
     boxes: &mut [f64],
-) -> ManyAnswer
+) -> Result<usize, Refusal>
     ensures spans_meet { SpansMeet degree knots.now points.now rational weights.now (length marks.old) (length boxes.old) marks.new boxes.new result }
     ensures rows_hold { RowsHold degree knots.now points.now rational weights.now marks.new boxes.new result }
 {
@@ -286,7 +271,7 @@ pub fn bound_points(
     weights: &[f64],
     marks: &mut [u32],
     boxes: &mut [f64],
-) -> ManyAnswer
+) -> Result<usize, Refusal>
     ensures point_spans_meet { PointSpansMeet degree knots.now points.now rational weights.now (length marks.old) (length boxes.old) marks.new boxes.new result }
     ensures point_rows_hold { PointRowsHold degree knots.now points.now rational weights.now marks.new boxes.new result }
 {

@@ -6,13 +6,12 @@ ghost use Rattle.knots.specs.Span.{refusing, clamping};
 ghost use Rattle.many.specs.Rows.{rows_by};
 ghost use Rattle.many.specs.Points.{width as width_of, row_at, numbers_of, number_at, numbers_at, EachMeets, PointsMeet, Points2Meet};
 
-use crate::answer::ManyAnswer;
 use crate::row::{PointRow, row_of, row2_of, width};
 use crate::start::points_start;
-use crate::store::clear_numbers;
 use evaluate::curve::eval_step;
 use evaluate::curve2::eval2_step;
 use knots::clear::clear;
+use knots::refusal::Refusal;
 use runs::store::store_vector;
 
 // The row of one parameter, by the mode, on a curve that was validated.
@@ -71,11 +70,9 @@ fn eval_each(
     ensures numbers_after { numbers.new ≡ rows_by (number_at clamps degree knots.now points.now rational weights.now two) ts.now ++ drop (length ts.now) numbers.old }
     ensures rows_after { rows.new ≡ rows_by (numbers_at clamps degree knots.now points.now rational weights.now two) ts.now ++ drop (length ts.now * width_of two) rows.old }
 {
-    let mut i = 0usize;
-    while i < ts.len() {
-        let row = row_at(clamps, two, degree, knots, points, rational, weights, ts[i]);
+    for (i, t) in ts.iter().enumerate() {
+        let row = row_at(clamps, two, degree, knots, points, rational, weights, *t);
         put_row(two, numbers, rows, i, row);
-        i += 1;
     }
 }
 
@@ -91,22 +88,19 @@ fn eval_all(
     ts: &[f64],
     numbers: &mut [u32],
     rows: &mut [f64],
-) -> ManyAnswer
+) -> Result<usize, Refusal>
     ensures { EachMeets clamps degree knots.now points.now rational weights.now two ts.now (length numbers.old) (length rows.old) numbers.new rows.new result }
 {
-    clear_numbers(numbers);
+    numbers.fill(0);
     clear(rows);
     let a = numbers.len();
     let b = rows.len();
     let w = width(two);
-    let refusal = points_start(degree, knots, points, rational, weights, ts, w, a, b);
-    if refusal.number != 0 {
-        return ManyAnswer::Refused(refusal);
-    }
+    points_start(degree, knots, points, rational, weights, ts, w, a, b)?;
     eval_each(
         clamps, two, degree, knots, points, rational, weights, ts, numbers, rows,
     );
-    ManyAnswer::Rows(ts.len())
+    Ok(ts.len())
 }
 
 // The point and the first derivative at each parameter: six numbers a row. One outside the domain is refused in its row.
@@ -119,7 +113,7 @@ pub fn eval_many(
     ts: &[f64],
     numbers: &mut [u32],
     rows: &mut [f64],
-) -> ManyAnswer
+) -> Result<usize, Refusal>
     ensures { PointsMeet refusing degree knots.now points.now rational weights.now ts.now (length numbers.old) (length rows.old) numbers.new rows.new result }
 {
     eval_all(
@@ -137,7 +131,7 @@ pub fn eval_many_clamped(
     ts: &[f64],
     numbers: &mut [u32],
     rows: &mut [f64],
-) -> ManyAnswer
+) -> Result<usize, Refusal>
     ensures { PointsMeet clamping degree knots.now points.now rational weights.now ts.now (length numbers.old) (length rows.old) numbers.new rows.new result }
 {
     eval_all(
@@ -155,7 +149,7 @@ pub fn eval2_many(
     ts: &[f64],
     numbers: &mut [u32],
     rows: &mut [f64],
-) -> ManyAnswer
+) -> Result<usize, Refusal>
     ensures { Points2Meet refusing degree knots.now points.now rational weights.now ts.now (length numbers.old) (length rows.old) numbers.new rows.new result }
 {
     eval_all(
@@ -173,7 +167,7 @@ pub fn eval2_many_clamped(
     ts: &[f64],
     numbers: &mut [u32],
     rows: &mut [f64],
-) -> ManyAnswer
+) -> Result<usize, Refusal>
     ensures { Points2Meet clamping degree knots.now points.now rational weights.now ts.now (length numbers.old) (length rows.old) numbers.new rows.new result }
 {
     eval_all(

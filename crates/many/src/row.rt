@@ -3,8 +3,8 @@ ghost use Rattle.std.specs.Prelude.{◌≡◌};
 ghost use Rattle.many.specs.Points.{width as width_of, no_row, point_row, point_row2};
 
 use crate::store::origin;
-use evaluate::curve::CurveAnswer;
-use evaluate::curve2::CurveAnswer2;
+use evaluate::curve::CurveDerivs;
+use evaluate::curve2::CurveDerivs2;
 use knots::refusal::Refusal;
 use runs::vector::Vector;
 
@@ -38,39 +38,30 @@ pub fn no_row(r: Refusal) -> PointRow
     }
 }
 
-pub fn row_of(a: CurveAnswer) -> PointRow
+pub fn row_of(a: Result<CurveDerivs, Refusal>) -> PointRow
     ensures { result ≡ point_row a }
 {
     match a {
-        CurveAnswer::At(d) => {
-            let point = d.point;
-            let d1 = d.d1;
-            PointRow {
-                number: 0,
-                point,
-                d1,
-                d2: origin(),
-            }
-        }
-        CurveAnswer::Refused(r) => no_row(r),
+        Ok(CurveDerivs { point, d1 }) => PointRow {
+            number: 0,
+            point,
+            d1,
+            d2: origin(),
+        },
+        Err(r) => no_row(r),
     }
 }
 
-pub fn row2_of(a: CurveAnswer2) -> PointRow
+pub fn row2_of(a: Result<CurveDerivs2, Refusal>) -> PointRow
     ensures { result ≡ point_row2 a }
 {
     match a {
-        CurveAnswer2::At(d) => {
-            let point = d.point;
-            let d1 = d.d1;
-            let d2 = d.d2;
-            PointRow {
-                number: 0,
-                point,
-                d1,
-                d2,
-            }
-        }
-        CurveAnswer2::Refused(r) => no_row(r),
+        Ok(CurveDerivs2 { point, d1, d2 }) => PointRow {
+            number: 0,
+            point,
+            d1,
+            d2,
+        },
+        Err(r) => no_row(r),
     }
 }

@@ -1,11 +1,12 @@
 // The refusals of a call before any row is made.
 ghost use Rattle.std.specs.Prelude.{◌≡◌, ◌≤◌};
+ghost use Rattle.knots.specs.Refusal.{checked};
 ghost use Rattle.many.specs.Points.{points_start};
 ghost use Rattle.many.specs.Start.{table_refusal, rooms_refusal};
 
 use knots::curve::curve_refusal;
 use knots::limits::over_long;
-use knots::refusal::{Refusal, refuse};
+use knots::refusal::{Reason, Refusal, refuse};
 use knots::shape::{degree_refusal, room_refusal};
 
 // The curve's own, then 31.
@@ -15,24 +16,18 @@ pub fn table_refusal(
     points: &[f64],
     rational: bool,
     weights: &[f64],
-) -> Refusal
-    ensures { result ≡ table_refusal degree knots.now points.now rational weights.now }
+) -> Result<(), Refusal>
+    ensures { result ≡ checked (table_refusal degree knots.now points.now rational weights.now) }
 {
-    let curve = curve_refusal(degree, knots, points, rational, weights);
-    if curve.number != 0 {
-        return curve;
-    }
+    curve_refusal(degree, knots, points, rational, weights)?;
     degree_refusal(degree)
 }
 
 // 30 for two lent runs of a and b numbers that are to hold m and n.
-pub fn rooms_refusal(a: usize, m: usize, b: usize, n: usize) -> Refusal
-    ensures { result ≡ rooms_refusal a m b n }
+pub fn rooms_refusal(a: usize, m: usize, b: usize, n: usize) -> Result<(), Refusal>
+    ensures { result ≡ checked (rooms_refusal a m b n) }
 {
-    let first = room_refusal(a, m);
-    if first.number != 0 {
-        return first;
-    }
+    room_refusal(a, m)?;
     room_refusal(b, n)
 }
 
@@ -47,17 +42,14 @@ pub fn points_start(
     width: usize,
     a: usize,
     b: usize,
-) -> Refusal
+) -> Result<(), Refusal>
     requires { width ≤ 18 }
-    ensures { result ≡ points_start degree knots.now points.now rational weights.now ts.now width a b }
+    ensures { result ≡ checked (points_start degree knots.now points.now rational weights.now ts.now width a b) }
 {
     if over_long(true, ts) {
-        return refuse(30);
+        return Err(refuse(Reason::LengthBad));
     }
-    let table = table_refusal(degree, knots, points, rational, weights);
-    if table.number != 0 {
-        return table;
-    }
+    table_refusal(degree, knots, points, rational, weights)?;
     let n = ts.len();
     rooms_refusal(a, n, b, n * width)
 }

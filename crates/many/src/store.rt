@@ -1,19 +1,8 @@
-// What a lent run and a row hold before they are filled.
-ghost use Rattle.std.specs.Prelude.{◌≡◌, length, replicate};
+// What a row holds before it is filled.
+ghost use Rattle.std.specs.Prelude.{◌≡◌};
 ghost use Rattle.many.specs.Points.{origin as origin_of};
 
 use runs::vector::Vector;
-
-// A lent run of whole numbers is set to 0.
-pub fn clear_numbers(numbers: &mut [u32])
-    ensures { numbers.new ≡ replicate (length numbers.old) 0 }
-{
-    let mut i = 0usize;
-    while i < numbers.len() {
-        numbers[i] = 0;
-        i += 1;
-    }
-}
 
 pub fn origin() -> Vector
     ensures { result ≡ origin_of }

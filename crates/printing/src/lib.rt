@@ -7,10 +7,10 @@ mod pieces;
 use drawing::view_of;
 use lines::print_spans;
 use pieces::{Piece, print_piece, print_points};
-use record::table::{TableAnswer, read_table};
+use record::table::{Curve, read_table};
 
 // The nonempty spans, those with intervals that hold the point or its derivative, or the drawing.
-#[derive(Clone, Copy)]
+#[derive(Clone, Copy, Debug, PartialEq, Eq)]
 pub enum Kind {
     Spans,
     Boxes,
@@ -46,8 +46,8 @@ pub fn print_table(kind: Kind, s: &[u8]) {
     let mut points = [0.0f64; 8192];
     let mut weights = [0.0f64; 8192];
     match read_table(s, &mut knots, &mut points, &mut weights) {
-        TableAnswer::Refused(refusal) => print_piece(Piece::Refusal(refusal)),
-        TableAnswer::Curve { layout, rational } => {
+        Err(refusal) => print_piece(Piece::Refusal(refusal)),
+        Ok(Curve { layout, rational }) => {
             let k = layout.knots;
             let n = layout.points;
             let w = layout.weights;

@@ -8,9 +8,9 @@ ghost use Rattle.printing.specs.Printed.{line_of};
 
 use crate::Kind;
 use drawing::{next_path, parts_of};
-use knots::walk::{NextSpan, next_span};
+use knots::walk::next_span;
 use listing::boxes::next_box;
-use listing::{NextLine, next_line};
+use listing::{Line, next_line};
 
 // How many lines a span has.
 fn lines_of(kind: Kind, count: usize) -> usize {
@@ -31,7 +31,7 @@ fn next_of(
     from: usize,
     part: usize,
     out: &mut [u8; 2304],
-) -> NextLine
+) -> Option<Line>
     ensures value { result ≡ answer_of (line_of kind degree knots.now points.now rational weights.now part) (next_span degree (count_of points.now) knots.now from) }
     ensures shown { Shown 2304 (shown_of (line_of kind degree knots.now points.now rational weights.now part) (next_span degree (count_of points.now) knots.now from)) out.new (length (shown_of (line_of kind degree knots.now points.now rational weights.now part) (next_span degree (count_of points.now) knots.now from))) }
 {
@@ -54,17 +54,15 @@ fn print_span(
     span: usize,
 ) {
     let count = lines_of(kind, points.len() / 3);
-    let mut part = 0usize;
-    while part < count {
+    for part in 0..count {
         let mut line = [0u8; 2304];
         match next_of(
             kind, degree, knots, points, rational, weights, span, part, &mut line,
         ) {
-            NextLine::Line { span: _, length } => {
+            Some(Line { span: _, length }) => {
                 io::write_all(1, &line[..length]);
-                part += 1;
             }
-            NextLine::End => return,
+            None => return,
         }
     }
 }
@@ -82,11 +80,11 @@ pub fn print_spans(
     let mut from = 0usize;
     while from < count {
         match next_span(degree, count, knots, from) {
-            NextSpan::At(span) => {
+            Some(span) => {
                 print_span(kind, degree, knots, points, rational, weights, span);
                 from = span + 1;
             }
-            NextSpan::Nothing => return,
+            None => return,
         }
     }
 }

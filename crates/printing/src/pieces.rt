@@ -7,7 +7,7 @@ use knots::refusal::Refusal;
 use listing::refusal_line;
 use runs::points::point_at;
 
-#[derive(Clone, Copy)]
+#[derive(Clone, Copy, Debug, PartialEq)]
 pub enum Piece {
     Refusal(Refusal),
     Head(View),
@@ -36,10 +36,8 @@ pub fn print_piece(piece: Piece) {
 
 // A line for each control point, in order.
 pub fn print_points(points: &[f64]) {
-    let mut i = 0usize;
-    while i < points.len() / 3 {
+    for i in 0..points.len() / 3 {
         let p = point_at(points, i);
         print_piece(Piece::Point { x: p.x, y: p.y });
-        i += 1;
     }
 }

@@ -19,7 +19,8 @@ use Rattle.doubles.specs.Run.{at, val_at}
 use Rattle.doubles.proofs.TestFacts.{T_of, Tn-of}
 use Rattle.doubles.proofs.Value.{val-lt, val-le, val-zero}
 use Rattle.doubles.proofs.Order.{val-leq}
-use Rattle.knots.specs.Refusal.{refuse, accepted, degree-high, range-bad, range-in-no-span}
+use Rattle.knots.specs.Refusal.{refuse, accepted}
+use Rattle.knots.specs.declared.refusal.Reason.TheVariants.{DegreeHigh, RangeBad, RangeInNoSpan}
 use Rattle.knots.specs.Knots.{ValidKnots}
 use Rattle.knots.specs.Curve.{is_weight, ValidControls}
 use Rattle.knots.proofs.Refusals.{passed}
@@ -67,11 +68,11 @@ pub record RangeValid (p n s : ℕ) (lo hi : Float) : Type 0 where
 pub range-valid : (p n s : ℕ) (lo hi : Float) → (range_refusal p n s lo hi).number ≡ 0 → RangeValid p n s lo hi
 unfolding range_refusal
 range-valid p n s lo hi h =
-    let a = passed (ltb 64 p) (refuse degree-high) _ (λ e. omega arith) h in
-    let b = passed (not (finite lo)) (refuse range-bad) _ (λ e. omega arith) a.1 in
-    let c = passed (not (finite hi)) (refuse range-bad) _ (λ e. omega arith) b.1 in
-    let d = passed (lt hi lo) (refuse range-bad) _ (λ e. omega arith) c.1 in
-    let e = passed (eqb s n) (refuse range-in-no-span) accepted (λ e. omega arith) d.1 in
+    let a = passed (ltb 64 p) (refuse DegreeHigh) _ (λ e. omega arith) h in
+    let b = passed (not (finite lo)) (refuse RangeBad) _ (λ e. omega arith) a.1 in
+    let c = passed (not (finite hi)) (refuse RangeBad) _ (λ e. omega arith) b.1 in
+    let d = passed (lt hi lo) (refuse RangeBad) _ (λ e. omega arith) c.1 in
+    let e = passed (eqb s n) (refuse RangeInNoSpan) accepted (λ e. omega arith) d.1 in
     let f = T_of (finite lo) (not-false (finite lo) b.0) in
     let g = T_of (finite hi) (not-false (finite hi) c.0) in
     record {

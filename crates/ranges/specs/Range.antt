@@ -4,7 +4,8 @@ use Rattle.std.specs.Float.Ieee.{lt, le}
 use Rattle.std.specs.Float.Ieee.Scale.{finite}
 use Rattle.doubles.specs.Run.{at}
 use Rattle.knots.specs.declared.refusal.Refusal.{Refusal}
-use Rattle.knots.specs.Refusal.{refuse, accepted, degree-high, range-bad, range-in-no-span}
+use Rattle.knots.specs.Refusal.{refuse, accepted}
+use Rattle.knots.specs.declared.refusal.Reason.TheVariants.{DegreeHigh, RangeBad, RangeInNoSpan}
 
 -- span i is not empty and contains lo and hi
 unfoldable pub in_span : List Float → Float → Float → ℕ → Bool
@@ -30,8 +31,8 @@ taken_span s n ks lo hi = cond (in_span ks lo hi s) s n
 -- refusals of a range whose span is s: 31, 24, 25, in this order
 unfoldable pub range_refusal : ℕ → ℕ → ℕ → Float → Float → Refusal
 range_refusal p n s lo hi =
-    cond (ltb 64 p) (refuse degree-high)
-    (cond (not (finite lo)) (refuse range-bad)
-    (cond (not (finite hi)) (refuse range-bad)
-    (cond (lt hi lo) (refuse range-bad)
-    (cond (eqb s n) (refuse range-in-no-span) accepted))))
+    cond (ltb 64 p) (refuse DegreeHigh)
+    (cond (not (finite lo)) (refuse RangeBad)
+    (cond (not (finite hi)) (refuse RangeBad)
+    (cond (lt hi lo) (refuse RangeBad)
+    (cond (eqb s n) (refuse RangeInNoSpan) accepted))))

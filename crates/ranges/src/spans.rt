@@ -8,11 +8,7 @@ pub fn in_span(knots: &[f64], lo: f64, hi: f64, i: usize) -> bool
 {
     let a = knots[i];
     let b = knots[i + 1];
-    if a < b {
-        if lo >= a { hi <= b } else { false }
-    } else {
-        false
-    }
+    a < b && lo >= a && hi <= b
 }
 
 // The first nonempty span that contains the closed range, or the count.
@@ -21,14 +17,12 @@ pub fn first_span(degree: usize, count: usize, knots: &[f64], lo: f64, hi: f64) 
     requires count_in_bounds { count < length knots.now }
     ensures { result ≡ span_over degree count knots.now lo hi }
 {
-    let mut i = degree;
-    while i < count {
+    for i in degree..count {
         if in_span(knots, lo, hi, i) {
             return i;
         }
-        i += 1;
     }
-    i
+    count
 }
 
 // Span s where it contains the closed range, or the count.

@@ -1,5 +1,7 @@
 -- A valid curve that was written is read back by `read_table` as the same curve, into any runs that have room for it.
 -- Assumes nothing.
+use Rattle.knots.specs.declared.refusal.Refusal.{Refusal}
+use Rattle.std.specs.Prelude.{Result, Ok}
 use Prim.Native.Nat.{ℕ, ◌≤◌}
 use mathlib.Core.Bool.{Bool, true, false}
 use mathlib.Core.Path.{◌≡◌, refl, ◌∙◌}
@@ -14,11 +16,9 @@ use Rattle.knots.proofs.Curves.{curve-not-refused}
 use Rattle.record.specs.Format.{rational_by}
 use Rattle.record.specs.Reading.{layout, room_for, numbers, Lent}
 use Rattle.runs.specs.Lent.{padded}
-use Rattle.record.specs.Validated.{refusal_in, ReadsTable}
+use Rattle.record.specs.Validated.{curve_as, refusal_in, ReadsTable}
 use Rattle.record.specs.Writing.{bits, chosen, table_from, ReadsBack, SameCurve}
-use Rattle.record.specs.declared.table.TableAnswer.{TableAnswer}
-use Rattle.record.specs.declared.table.TableAnswer.TheVariants.{Curve}
-use Rattle.record.specs.declared.write.Write.TheVariants.{Written}
+use Rattle.record.specs.declared.table.Curve.{Curve}
 use Rattle.record.proofs.Validated.{front_of}
 
 length-bits : (xs : List Float) → length (bits xs) ≡ length xs
@@ -59,13 +59,13 @@ module _ (p : ℕ) (ks ps ws : List Float) where
     not-refused true v = rw (bk, bp, bw) (curve-not-refused p ks ps true ws v)
 
 -- what was written, read into the runs k, q, w
-module _ (p n : ℕ) (ks ps : List Float) (g : Bool) (ws : List Float) (after : List ℕ) (b : ReadsBack p ks ps g ws after (Written n)) (v : ValidCurve p ks ps g ws) where
-  pub curve-back : (k q w k' q' w' : List Float) (r : TableAnswer) → length ks ≤ length k → length ps ≤ length q → (g ≡ true → length ws ≤ length w) →
+module _ (p n : ℕ) (ks ps : List Float) (g : Bool) (ws : List Float) (after : List ℕ) (b : ReadsBack p ks ps g ws after (Ok n)) (v : ValidCurve p ks ps g ws) where
+  pub curve-back : (k q w k' q' w' : List Float) (r : Result Curve Refusal) → length ks ≤ length k → length ps ≤ length q → (g ≡ true → length ws ≤ length w) →
       ReadsTable (take n after) k q w k' q' w' r → SameCurve p ks ps g ws k' q' w' r
   curve-back k q w k' q' w' r lk lp lw reads =
       let t = table_from p ks ps g ws in
       let found = b.table n refl in
-      let answer : r ≡ Curve (layout t) g =
+      let answer : r ≡ curve_as (layout t) g =
       reads.answer ∙ rw (found, room-for p ks ps ws g (length k) (length q) (length w) lk lp lw, not-refused p ks ps ws b.knots b.points b.weights g v, kept p ks ps ws g) in
       let runs : Lent t k q w k' q' w' = rw (answer, found) at reads.runs in
       record {

@@ -1,13 +1,16 @@
--- Little-endian bytes: a number is read back from its bytes, bytes are written back from their number, and both split at any width.
+-- Little-endian bytes: a number is read back from its bytes, bytes are written back from their number, and both split at any width; both are what std reads and writes.
 -- Assumes nothing.
-use Prim.Native.Nat.{ℕ, zero, suc, ◌+◌, ◌*◌, ◌/◌, ◌%◌, ◌^◌, ◌≤◌, ◌<◌}
-use mathlib.Core.Path.{◌≡◌, refl, ◌∙◌, ap}
+use Prim.Native.Nat.{ℕ, zero, suc, ◌+◌, ◌-◌, ◌*◌, ◌/◌, ◌%◌, ◌^◌, ◌≤◌, ◌<◌}
+use mathlib.Core.Path.{◌≡◌, refl, sym, ◌∙◌, ap}
 use mathlib.Core.List.{List, [], ◌∷◌, ◌++◌}
-use native.Mathlib.Nat.{not-suc-le-zero, le_of_suc-le-suc, zero-add, add-zero, suc-add, div-one, div-div-eq-div-mul, pow-succ', one-mul, mul_assoc, mul-add}
-use native.Mathlib.Numerals.{one-add}
+use native.Mathlib.Nat.{not-suc-le-zero, le_of_suc-le-suc, zero-add, add-zero, suc-add, div-one, div-div-eq-div-mul, pow-suc, pow-succ', one-mul, mul_assoc, mul_comm, mul-add}
+use native.Mathlib.Numerals.{one-add, add-one}
 use native.Mathlib.Omega.{arith}
-use lib.ListN.{length, get_or, drop}
+use lib.ListN.{length, get_or, take, drop}
 use lib.Seq.{get_or-drop, drop-drop}
+use Rattle.std.specs.Array.{IsFirstChunk}
+use Rattle.std.proofs.lemmas.List.{take_rest}
+use Rattle.std.specs.Int.{bytes_low_first, byte_worth, sum_through}
 use Rattle.record.specs.Format.{little}
 use Rattle.record.specs.Reading.{number}
 
@@ -56,16 +59,33 @@ number-add zero v l = rw (zero-add, zero-add, one-mul)
 number-add (suc w) v l =
     rw (suc-add, number-add w v (drop 1 l), drop-drop w 1 l, one-add, pow-succ', mul-add, mul_assoc) (omega arith)
 
--- ---- at a place of some bytes
+-- ---- std's words
 
-pub number-two : (i : ℕ) (l : List ℕ) → number 2 (drop i l) ≡ get_or l i 0 + 256 * get_or l (i + 1) 0
+-- the first w bytes alone count
+number_take : (w : ℕ) (l : List ℕ) → number w (take w l) ≡ number w l
 unfolding number
-number-two i l = rw (get_or-drop i l 0 0, drop-drop 1 i l, get_or-drop (i + 1) l 0 0, add-zero i, add-zero (i + 1)) (omega arith)
+number_take zero l = refl
+number_take (suc w) [] = refl
+number_take (suc w) (x ∷ l) = rw (number_take w l)
 
-pub number-halves : (w i : ℕ) (l : List ℕ) → number (w + w) (drop i l) ≡ number w (drop i l) + 256 ^ w * number w (drop (i + w) l)
-number-halves w i l = number-add w w (drop i l) ∙ rw (drop-drop w i l)
+-- bytes as `from_le_bytes` adds them up
+number_sum : (w : ℕ) (l : List ℕ) → sum_through (λ i. byte_worth i (get_or l i 0)) w ≡ number (suc w) l
+unfolding number
+number_sum zero l = omega arith
+number_sum (suc w) l =
+    let more : number (suc (suc w)) l ≡ number (suc w) l + 256 ^ suc w * number 1 (drop (suc w) l) = rw add-one at (number-add (suc w) 1 l) in
+    let last : number 1 (drop (suc w) l) ≡ get_or l (suc w) 0 = rw (get_or-drop (suc w) l 0 0, add-zero (suc w)) (omega arith) in
+    rw (number_sum w l) (ap (λ z. number (suc w) l + z) (mul_comm (get_or l (suc w) 0) (256 ^ suc w) ∙ ap (λ z. 256 ^ suc w * z) (sym last)) ∙ sym more)
 
--- eight bytes by two and two
-pub number-quarters : (i : ℕ) (l : List ℕ)
-    → number 8 (drop i l) ≡ number 2 (drop i l) + 65536 * number 2 (drop (i + 2) l) + 4294967296 * (number 2 (drop (i + 4) l) + 65536 * number 2 (drop (i + 4 + 2) l))
-number-quarters i l = number-halves 4 i l ∙ rw (number-halves 2 i l, number-halves 2 (i + 4) l)
+pub number-first : (w i : ℕ) (s b : List ℕ) → IsFirstChunk (take (length s - i) (drop i s)) b (suc w) → sum_through (λ j. byte_worth j (get_or b j 0)) w ≡ number (suc w) (drop i s)
+number-first w i s b first = number_sum w b ∙ (ap (number (suc w)) (rw take_rest at first.same) ∙ number_take (suc w) (drop i s))
+
+-- bytes as `to_le_bytes` gives them
+little_from : (i w n : ℕ) → bytes_low_first i w n ≡ little w (n / 256 ^ i)
+unfolding little
+little_from i zero n = refl
+little_from zero (suc w) n = rw (little_from 1 w n, div-one)
+little_from (suc i) (suc w) n = rw (little_from (suc (suc i)) w n, div-div-eq-div-mul, pow-suc 256 (suc i))
+
+pub little-bytes : (w n : ℕ) → bytes_low_first 0 w n ≡ little w n
+little-bytes w n = little_from 0 w n ∙ rw div-one

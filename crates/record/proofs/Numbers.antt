@@ -1,24 +1,24 @@
 -- The numbers of a record in three lent runs: where they are read, and what the runs hold after each answer.
 -- Assumes nothing.
+use Rattle.std.specs.Prelude.{Option, Some, None, Ok, Err}
 use Prim.Native.Nat.{ℕ, ◌+◌, ◌*◌, ◌≤◌, ◌<◌}
 use mathlib.Core.Bool.{true, false}
 use mathlib.Core.Path.{◌≡◌, refl, sym, ◌∙◌, subst}
 use mathlib.Core.List.{List, [], append-nil}
-use mathlib.Core.Option.{Option, none, some}
 use native.Mathlib.Nat.{sub-zero}
 use native.Mathlib.Omega.{arith}
 use lib.ListN.{length, drop, length-map}
 use lib.Ieee.{Float}
 use lib.Seq.{sets}
 use borrow.Author.Tests.{le-leb, leb-true}
-use Rattle.knots.specs.Refusal.{refuse, length-bad}
+use Rattle.knots.specs.Refusal.{refuse}
+use Rattle.knots.specs.declared.refusal.Reason.TheVariants.{LengthBad}
 use Rattle.knots.specs.declared.refusal.Refusal.{Refusal}
 use Rattle.doubles.specs.Value.{zero+}
 use Rattle.record.specs.Format.{Table, IsRecordOf, Means, Patterns, given, optional}
 use Rattle.record.specs.Reading.{patterns, table_of, layout, layout_of, room_for, numbers_of, numbers, cleared, blank, Lent, ReadsNumbers}
 use Rattle.runs.specs.Lent.{padded}
 use Rattle.record.specs.declared.read.Layout.{Layout}
-use Rattle.record.specs.declared.read.Record.TheVariants.{Fields, Refused}
 use Rattle.record.proofs.Tests.{both}
 use Rattle.record.proofs.Runs.{length-doubles}
 use Rattle.record.proofs.Fields.{length-field, run-complete}
@@ -27,13 +27,13 @@ use Rattle.record.proofs.Stores.{sets-front}
 
 -- ---- what an answer of the layout says
 
-pub layout-some : (o : Option Table) (l : Layout) → Fields l ≡ layout_of o → (t : Table) × (o ≡ some t) × (layout t ≡ l)
-layout-some none l e = let z : ◌≡◌ {A = ℕ} 0 1 = cc in absurd (omega arith)
-layout-some (some t) l e = (t, refl, cc)
+pub layout-some : (o : Option Table) (l : Layout) → Ok l ≡ layout_of o → (t : Table) × (o ≡ Some t) × (layout t ≡ l)
+layout-some None l e = let z : ◌≡◌ {A = ℕ} 0 1 = cc in absurd (omega arith)
+layout-some (Some t) l e = (t, refl, cc)
 
-pub layout-none : (o : Option Table) (x : Refusal) → Refused x ≡ layout_of o → o ≡ none
-layout-none none x e = refl
-layout-none (some t) x e = let z : ◌≡◌ {A = ℕ} 0 1 = cc in absurd (omega arith)
+pub layout-none : (o : Option Table) (x : Refusal) → Err x ≡ layout_of o → o ≡ None
+layout-none None x e = refl
+layout-none (Some t) x e = let z : ◌≡◌ {A = ℕ} 0 1 = cc in absurd (omega arith)
 
 pub fits-runs : (l : Layout) (k p w : ℕ) → room_for l k p w ≡ true → (l.knots ≤ k) × (l.points ≤ p) × (l.weights ≤ w)
 fits-runs l k p w e =
@@ -51,8 +51,8 @@ pub record Room (s : List ℕ) (l : Layout) : Type 0 where
 
 optional-long : (ws : Option (List ℕ)) → 0 < length (given ws) → length (optional 4 ws) ≡ 3 + 8 * length (given ws)
 unfolding optional
-optional-long none h = absurd (omega arith)
-optional-long (some xs) h = rw (length-field, length-doubles)
+optional-long None h = absurd (omega arith)
+optional-long (Some xs) h = rw (length-field, length-doubles)
 
 room-held : (s : List ℕ) (t : Table) → IsRecordOf s t → Room s (layout t)
 room-held s t h =
@@ -64,7 +64,7 @@ room-held s t h =
       weights = λ some-given. let w = optional-long t.weights some-given in omega arith;
     }
 
-pub numbers-room : (s : List ℕ) (l : Layout) → Means s (table_of s) → Fields l ≡ layout_of (table_of s) → Room s l
+pub numbers-room : (s : List ℕ) (l : Layout) → Means s (table_of s) → Ok l ≡ layout_of (table_of s) → Room s l
 numbers-room s l m e =
     let found = layout-some (table_of s) l e in
     subst (λ (k : Layout). Room s k) found.2 (room-held s found.0 (subst (λ (o : Option Table). Means s o) found.1 m))
@@ -81,8 +81,8 @@ always-room s t h =
 
 weights-at : (s : List ℕ) (i : ℕ) (ws : Option (List ℕ)) → Patterns (given ws) → 8 * length (given ws) < 65536 → drop i s ≡ optional 4 ws → patterns (length (given ws)) (drop (i + 3) s) ≡ given ws
 unfolding optional patterns
-weights-at s i none q small e = refl
-weights-at s i (some xs) q small e = (run-complete s i (i + 3) _ 4 refl xs [] q small refl (e ∙ sym (append-nil _))).1
+weights-at s i None q small e = refl
+weights-at s i (Some xs) q small e = (run-complete s i (i + 3) _ 4 refl xs [] q small refl (e ∙ sym (append-nil _))).1
 
 -- a cleared run with a front of numbers
 filled : (n : ℕ) (xs ys : List ℕ) → ys ≡ xs → length xs ≤ n → sets (cleared n) 0 (numbers ys) ≡ padded n (numbers xs)
@@ -96,9 +96,9 @@ Filled s k p w l =
     (sets (cleared (length k)) 0 (numbers (patterns l.knots (drop 8 s))))
     (sets (cleared (length p)) 0 (numbers (patterns l.points (drop (11 + 8 * l.knots) s))))
     (sets (cleared (length w)) 0 (numbers (patterns l.weights (drop (11 + 8 * l.knots + 8 * l.points + 3) s))))
-    (Fields l)
+    (Ok l)
 
-read_held : (s : List ℕ) (t : Table) (k p w : List Float) → IsRecordOf s t → table_of s ≡ some t → room_for (layout t) (length k) (length p) (length w) ≡ true → Filled s k p w (layout t)
+read_held : (s : List ℕ) (t : Table) (k p w : List Float) → IsRecordOf s t → table_of s ≡ Some t → room_for (layout t) (length k) (length p) (length w) ≡ true → Filled s k p w (layout t)
 read_held s t k p w h o room =
     let at = parts s t h in
     let long = at.long in
@@ -116,7 +116,7 @@ read_held s t k p w h o room =
           });
     }
 
-pub numbers-read : (s : List ℕ) (l : Layout) (k p w : List Float) → Means s (table_of s) → Fields l ≡ layout_of (table_of s) → room_for l (length k) (length p) (length w) ≡ true → Filled s k p w l
+pub numbers-read : (s : List ℕ) (l : Layout) (k p w : List Float) → Means s (table_of s) → Ok l ≡ layout_of (table_of s) → room_for l (length k) (length p) (length w) ≡ true → Filled s k p w l
 numbers-read s l k p w m e room =
     let found = layout-some (table_of s) l e in
     let t = found.0 in
@@ -129,16 +129,16 @@ pub blank-runs : (k p w : List Float) → Lent blank k p w (cleared (length k)) 
 unfolding padded
 blank-runs k p w = record { knots = rw sub-zero; points = rw sub-zero; weights = rw sub-zero }
 
-pub numbers-refused : (s : List ℕ) (k p w : List Float) (x : Refusal) → Means s (table_of s) → Refused x ≡ numbers_of (table_of s) (length k) (length p) (length w) →
-    ReadsNumbers s k p w (cleared (length k)) (cleared (length p)) (cleared (length w)) (Refused x)
+pub numbers-refused : (s : List ℕ) (k p w : List Float) (x : Refusal) → Means s (table_of s) → Err x ≡ numbers_of (table_of s) (length k) (length p) (length w) →
+    ReadsNumbers s k p w (cleared (length k)) (cleared (length p)) (cleared (length w)) (Err x)
 numbers-refused s k p w x m e =
     record { means = m; answer = e; runs = blank-runs k p w }
 
 -- the two refusals
-pub no_record : (s : List ℕ) (k p w : ℕ) (x : Refusal) → Refused x ≡ layout_of (table_of s) → Refused x ≡ numbers_of (table_of s) k p w
+pub no_record : (s : List ℕ) (k p w : ℕ) (x : Refusal) → Err x ≡ layout_of (table_of s) → Err x ≡ numbers_of (table_of s) k p w
 no_record s k p w x e = e ∙ rw (layout-none (table_of s) x e)
 
-pub no_room : (s : List ℕ) (l : Layout) (k p w : ℕ) → Fields l ≡ layout_of (table_of s) → room_for l k p w ≡ false → Refused (refuse length-bad) ≡ numbers_of (table_of s) k p w
+pub no_room : (s : List ℕ) (l : Layout) (k p w : ℕ) → Ok l ≡ layout_of (table_of s) → room_for l k p w ≡ false → Err (refuse LengthBad) ≡ numbers_of (table_of s) k p w
 no_room s l k p w e room =
     let found = layout-some (table_of s) l e in
     let none-for : room_for (layout found.0) k p w ≡ false = subst (λ (x : Layout). room_for x k p w ≡ false) (sym found.2) room in

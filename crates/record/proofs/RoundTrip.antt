@@ -1,5 +1,6 @@
 -- Reading what was written gives the same table and the same doubles, bit for bit.
 -- Assumes nothing.
+use Rattle.std.specs.Prelude.{Result, Ok, Err}
 use Prim.Native.Nat.{ℕ, suc, ◌-◌}
 use mathlib.Core.Bool.{Bool, true, false}
 use mathlib.Core.Path.{◌≡◌, refl, sym, ◌∙◌}
@@ -11,13 +12,12 @@ use lib.Seq.{take_at}
 use lib.Ieee.{Float, nan, binary64, fits}
 use lib.Ieee.Bits.{of_bits-to_bits, to_bits-lt}
 use borrow.Author.Tests.{ltb-true, leb-true}
-use Rattle.knots.specs.Refusal.{refuse, length-bad}
+use Rattle.knots.specs.Refusal.{refuse}
+use Rattle.knots.specs.declared.refusal.Reason.TheVariants.{LengthBad}
 use Rattle.knots.specs.declared.refusal.Refusal.{Refusal}
 use Rattle.record.specs.Format.{Patterns, IsRecordOf, encode, given}
 use Rattle.record.specs.Reading.{numbers}
 use Rattle.record.specs.Writing.{bits, chosen, table_from, holdable, writable, Writes, ReadsBack}
-use Rattle.record.specs.declared.write.Write.{Write}
-use Rattle.record.specs.declared.write.Write.TheVariants.{Written, Refused}
 use Rattle.record.proofs.Tests.{both, held}
 use Rattle.record.proofs.Tables.{complete}
 
@@ -37,7 +37,7 @@ chosen-patterns : (rational : Bool) (ws : List Float) → Doubles ws → Pattern
 chosen-patterns false ws d = tt
 chosen-patterns true ws d = bits-patterns ws d
 
-refused-written : {x : Refusal} {n : ℕ} → Refused x ≡ Written n → ⊥
+refused-written : {x : Refusal} {n : ℕ} → Err x ≡ Ok n → ⊥
 refused-written e = let z : ◌≡◌ {A = ℕ} 0 1 = cc in omega arith
 
 module _ (p : ℕ) (ks ps : List Float) (rational : Bool) (ws : List Float) (dk : Doubles ks) (dp : Doubles ps) (dw : Doubles ws) where
@@ -54,12 +54,12 @@ module _ (p : ℕ) (ks ps : List Float) (rational : Bool) (ws : List Float) (dk 
         weights = chosen-patterns rational ws dw;
       }
 
-  pub reads-back : (before after : List ℕ) (r : Write) → Writes (table_from p ks ps rational ws) before after r → ReadsBack p ks ps rational ws after r
+  pub reads-back : (before after : List ℕ) (r : Result ℕ Refusal) → Writes (table_from p ks ps rational ws) before after r → ReadsBack p ks ps rational ws after r
   reads-back before after r w =
       record {
         table = λ n e.
             let t = table_from p ks ps rational ws in
-            let yes = held (Refused (refuse length-bad)) (Written n) refused-written (writable t (length before)) (Written (length (encode t))) (sym w.answer ∙ e) in
+            let yes = held (Err (refuse LengthBad)) (Ok n) refused-written (writable t (length before)) (Ok (length (encode t))) (sym w.answer ∙ e) in
             let n-is : length (encode t) ≡ n = cc in
             let out : after ≡ encode t ++ replicate (length before - length (encode t)) 0 = w.left ∙ rw yes.0 in
             rw (out, take_at (encode t) (replicate (length before - length (encode t)) 0) n n-is) (complete (encode t) t (holds-encode (both _ _ yes.0).0));

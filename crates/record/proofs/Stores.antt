@@ -1,17 +1,19 @@
 -- Stores into a run, one after another: `sets l i vs` is the run l with vs stored from place i on.
 -- Assumes nothing.
-use Prim.Native.Nat.{ℕ, ◌+◌, ◌-◌, ◌*◌, ◌/◌, ◌^◌, ◌≤◌, ◌<◌}
-use mathlib.Core.Path.{◌≡◌, ◌∙◌, ap}
+use Prim.Native.Nat.{ℕ, ◌+◌, ◌-◌, ◌*◌, ◌≤◌, ◌<◌}
+use mathlib.Core.Path.{◌≡◌, ◌∙◌}
 use mathlib.Core.List.{List, [], ◌∷◌, ◌++◌}
 use native.Mathlib.Nat.{zero-add}
 use native.Mathlib.Omega.{arith}
 use lib.ListN.{length, get_or, set, take, replicate, length-replicate}
 use lib.Seq.{sets, sets-eq}
 use lib.Ieee.{Float, nan, binary64, to_bits}
-use Rattle.knots.proofs.Fill.{sets-append, drop-replicate}
+use borrow.Rule.Slice.PartMut.{put_mid}
+use Rattle.std.specs.Int.{bytes_low_first}
+use Rattle.knots.proofs.Fill.{sets-append, drop-replicate, copied}
 use Rattle.record.specs.Format.{little, doubles, head, field}
 use Rattle.record.specs.Writing.{bits}
-use Rattle.record.proofs.Little.{length-little, little-add}
+use Rattle.record.proofs.Little.{length-little, little-bytes}
 use Rattle.record.proofs.Runs.{length-bits, doubles-more}
 use Rattle.record.proofs.Fields.{length-head}
 
@@ -32,19 +34,11 @@ module _ {A : Type 0} where
 
 -- ---- bytes
 
--- a number's lower half and its upper half are the number
-pub little-halves : (w i n : ℕ) (l : List ℕ) → sets (sets l i (little w n)) (i + w) (little w (n / 256 ^ w)) ≡ sets l i (little (w + w) n)
-little-halves w i n l =
-    let e = sets-append l i (little w n) (little w (n / 256 ^ w)) in
-    rw length-little at e ∙ rw (little-add w w n)
-
--- eight bytes by two and two
-pub little-quarters : (i n : ℕ) (l : List ℕ)
-    → sets (sets (sets (sets l i (little 2 n)) (i + 2) (little 2 (n / 65536))) (i + 4) (little 2 (n / 4294967296))) (i + 4 + 2) (little 2 (n / 4294967296 / 65536)) ≡ sets l i (little 8 n)
-little-quarters i n l =
-    let h = n / 4294967296 in
-    ap (λ (t : List ℕ). sets (sets t (i + 4) (little 2 h)) (i + 4 + 2) (little 2 (h / 65536))) (little-halves 2 i n l)
-    ∙ (little-halves 2 (i + 4) h (sets l i (little 4 n)) ∙ little-halves 4 i n l)
+-- the w lowest bytes of a number, copied into a part
+pub little-copied : (w i k n : ℕ) (l part : List ℕ) → part ≡ bytes_low_first 0 w n → k ≡ w → i + w ≤ length l → put_mid i k l part ≡ sets l i (little w n)
+little-copied w i k n l part e h room =
+    let long = length-little w n in
+    copied l i k (little w n) part (e ∙ little-bytes w n) (omega arith) (omega arith)
 
 -- one double more after j of them
 pub run_more : (j a : ℕ) (xs : List Float) (l : List ℕ) → j < length xs →

@@ -1,10 +1,10 @@
 -- The reader's table is the format's: the table that is read is held by the bytes, and a table that the bytes hold is read.
 -- Assumes nothing.
+use Rattle.std.specs.Prelude.{Option, Some, None}
 use Prim.Native.Nat.{ℕ, ◌+◌, ◌*◌, ◌≤◌, ◌<◌}
 use mathlib.Core.Path.{◌≡◌, refl, sym, ◌∙◌, ap, subst}
 use mathlib.Core.Logic.{⊎_elim}
 use mathlib.Core.List.{List, [], ◌∷◌, ◌++◌, append-nil, append_assoc}
-use mathlib.Core.Option.{Option, none, some}
 use native.Mathlib.Nat.{le_refl, le_of_eq}
 use native.Mathlib.Omega.{arith}
 use lib.ListN.{length, drop, length-append, drop_of_length-le}
@@ -13,16 +13,15 @@ use lib.Seq.{drop_at}
 use borrow.Author.Tests.{le-ltb, eq-eqb, ne_eqb, ltb-false, eqb-true}
 use Rattle.record.specs.Format.{little, doubles, field, optional, encode, given, Table, Patterns, IsRecordOf, Means}
 use Rattle.record.specs.Reading.{patterns, degree_of, run_of, table_at, end_of, table_of}
-use Rattle.record.specs.declared.field.Count.TheVariants.{Is}
 use Rattle.record.proofs.Tests.{either, past, held, counted}
 use Rattle.record.proofs.Little.{Bytes, bytes_drop, length-little}
 use Rattle.record.proofs.Runs.{length-doubles, are-patterns}
 use Rattle.record.proofs.Fields.{length-field, degree-sound, degree-complete, run_sound, run-complete}
 
-none-some : {t : Table} → none ≡ some t → ⊥
+none-some : {t : Table} → None ≡ Some t → ⊥
 none-some {t} e = let z : ◌≡◌ {A = ℕ} 0 1 = cc in omega arith
 
-pub some_same : {t u : Table} → some t ≡ some u → t ≡ u
+pub some_same : {t u : Table} → Some t ≡ Some u → t ≡ u
 some_same e = cc
 
 empty : (l : List ℕ) → length l ≡ 0 → l ≡ []
@@ -39,27 +38,27 @@ module _ (s : List ℕ) (p k n : ℕ) where
   Ends : Table → Type 0
   Ends t = (ws : Option (List ℕ)) × (table_at s p k n ws ≡ t) × (optional 4 ws ≡ drop (11 + 8 * k + 8 * n) s) × Patterns (given ws)
 
-  end-sound : (t : Table) → Bytes s → end_of s p k n ≡ some t → Ends t
+  end-sound : (t : Table) → Bytes s → end_of s p k n ≡ Some t → Ends t
   unfolding end_of optional Ends
   end-sound t b e =
       let l = drop (11 + 8 * k + 8 * n) s in
       ⊎_elim
-      (λ at-end. (none, some_same at-end.1, sym (empty l (eqb-true _ _ at-end.0)), tt))
+      (λ at-end. (None, some_same at-end.1, sym (empty l (eqb-true _ _ at-end.0)), tt))
       (λ more.
-      let found = counted none (some t) none-some (run_of l 4) _ more.1 in
+      let found = counted None (Some t) none-some (run_of l 4) _ more.1 in
       let w = found.0 in
-      let last = held none (some t) none-some _ _ found.2 in
+      let last = held None (Some t) none-some _ _ found.2 in
       let long : length l ≡ 3 + 8 * w = eqb-true _ _ last.0 in
       let b' = bytes_drop (11 + 8 * k + 8 * n) s b in
       let f = run_sound l 0 3 (3 + 8 * w) 4 refl w b' refl found.1 in
       let over : drop (3 + 8 * w) l ≡ [] = drop_of_length-le l (le_of_eq long) in
-      (some (patterns w (drop 3 l)), some_same last.1, sym (append-nil _) ∙ rw over at f, are-patterns w (drop 3 l) (bytes_drop 3 l b')))
-      (either (some t) (eqb (length l) 0) _ _ e)
+      (Some (patterns w (drop 3 l)), some_same last.1, sym (append-nil _) ∙ rw over at f, are-patterns w (drop 3 l) (bytes_drop 3 l b')))
+      (either (Some t) (eqb (length l) 0) _ _ e)
 
-  end-complete : (ws : Option (List ℕ)) → Patterns (given ws) → 8 * length (given ws) < 65536 → drop (11 + 8 * k + 8 * n) s ≡ optional 4 ws → end_of s p k n ≡ some (table_at s p k n ws)
+  end-complete : (ws : Option (List ℕ)) → Patterns (given ws) → 8 * length (given ws) < 65536 → drop (11 + 8 * k + 8 * n) s ≡ optional 4 ws → end_of s p k n ≡ Some (table_at s p k n ws)
   unfolding end_of optional
-  end-complete none q small e = rw e
-  end-complete (some xs) q small e =
+  end-complete None q small e = rw e
+  end-complete (Some xs) q small e =
       let l = drop (11 + 8 * k + 8 * n) s in
       let long : length l ≡ 3 + 8 * length xs = rw (e, length-field, length-doubles) in
       let f = run-complete l 0 3 (3 + 8 * length xs) 4 refl xs [] q small refl (e ∙ sym (append-nil _)) in
@@ -67,14 +66,14 @@ module _ (s : List ℕ) (p k n : ℕ) where
 
 -- ---- the whole record
 
-pub sound : (s : List ℕ) (t : Table) → Bytes s → table_of s ≡ some t → IsRecordOf s t
+pub sound : (s : List ℕ) (t : Table) → Bytes s → table_of s ≡ Some t → IsRecordOf s t
 unfolding table_of encode Ends
 sound s t b e =
-    let short = past none (some t) none-some _ _ e in
-    let d = counted none (some t) none-some (degree_of s) _ short.1 in
-    let ks = counted none (some t) none-some (run_of (drop 5 s) 2) _ d.2 in
+    let short = past None (Some t) none-some _ _ e in
+    let d = counted None (Some t) none-some (degree_of s) _ short.1 in
+    let ks = counted None (Some t) none-some (run_of (drop 5 s) 2) _ d.2 in
     let k = ks.0 in
-    let ps = counted none (some t) none-some (run_of (drop (8 + 8 * k) s) 3) _ ks.2 in
+    let ps = counted None (Some t) none-some (run_of (drop (8 + 8 * k) s) 3) _ ks.2 in
     let n = ps.0 in
     let fd = degree-sound s d.0 b d.1 in
     let fk = run_sound s 5 8 (8 + 8 * k) 2 refl k b refl ks.1 in
@@ -105,16 +104,16 @@ length-encode t = simp (length-append, length-field, length-doubles, length-litt
 -- the weights' bytes are within their field
 pub length-given : (ws : Option (List ℕ)) → 8 * length (given ws) ≤ length (optional 4 ws)
 unfolding optional
-length-given none = le_refl _
-length-given (some xs) = rw (length-field, length-doubles) (omega arith)
+length-given None = le_refl _
+length-given (Some xs) = rw (length-field, length-doubles) (omega arith)
 
 -- where the parts of a held record stand
 pub record Parts (s : List ℕ) (t : Table) : Type 0 where
   pub long : length s ≡ 11 + 8 * length t.knots + 8 * length t.points + length (optional 4 t.weights)
-  pub degree-read : degree_of s ≡ Is t.degree
-  pub knots-read : run_of (drop 5 s) 2 ≡ Is (length t.knots)
+  pub degree-read : degree_of s ≡ Some t.degree
+  pub knots-read : run_of (drop 5 s) 2 ≡ Some (length t.knots)
   pub knots : patterns (length t.knots) (drop 8 s) ≡ t.knots
-  pub points-read : run_of (drop (8 + 8 * length t.knots) s) 3 ≡ Is (length t.points)
+  pub points-read : run_of (drop (8 + 8 * length t.knots) s) 3 ≡ Some (length t.points)
   pub points : patterns (length t.points) (drop (11 + 8 * length t.knots) s) ≡ t.points
   pub end : drop (11 + 8 * length t.knots + 8 * length t.points) s ≡ optional 4 t.weights
 
@@ -144,7 +143,7 @@ parts s t h =
       end = fp.2;
     }
 
-pub complete : (s : List ℕ) (t : Table) → IsRecordOf s t → table_of s ≡ some t
+pub complete : (s : List ℕ) (t : Table) → IsRecordOf s t → table_of s ≡ Some t
 unfolding table_of
 complete s t h =
     let p = parts s t h in
@@ -156,5 +155,5 @@ pub means : (s : List ℕ) → Bytes s → Means s (table_of s)
 means s b = from (table_of s) refl
   where
     from : (o : Option Table) → table_of s ≡ o → Means s o
-    from none e = λ t h. none-some (sym e ∙ complete s t h)
-    from (some t) e = sound s t b e
+    from None e = λ t h. none-some (sym e ∙ complete s t h)
+    from (Some t) e = sound s t b e

@@ -1,5 +1,6 @@
 -- What the tests on the way to an answer said: `no` is what a failed test gives, and the answer is another.
 -- Assumes nothing.
+use Rattle.std.specs.Prelude.{Option, Some, None}
 use Prim.Native.Nat.{ℕ, ◌<◌}
 use mathlib.Core.Bool.{Bool, true, false, cond, ◌&&◌}
 use mathlib.Core.Path.{◌≡◌, refl, subst}
@@ -7,8 +8,6 @@ use mathlib.Core.Logic.{◌⊎◌, inl, inr}
 use native.Mathlib.Omega.{arith}
 use Rattle.knots.proofs.Below.{and_left, and_right}
 use Rattle.record.specs.Reading.{on_count, Below}
-use Rattle.record.specs.declared.field.Count.{Count}
-use Rattle.record.specs.declared.field.Count.TheVariants.{Is, Bad}
 
 pub either : {X : Type 0} (answer : X) (b : Bool) (x y : X) → cond b x y ≡ answer → ((b ≡ true) × (x ≡ answer)) ⊎ ((b ≡ false) × (y ≡ answer))
 either answer true x y e = inl (refl, e)
@@ -23,18 +22,18 @@ module _ {X : Type 0} (no answer : X) (apart : no ≡ answer → ⊥) where
   held true x e = (refl, e)
   held false x e = absurd (apart e)
 
-  pub counted : (x : Count) (f : ℕ → X) → on_count x no f ≡ answer → (m : ℕ) × (x ≡ Is m) × (f m ≡ answer)
-  counted Bad f e = absurd (apart e)
-  counted (Is m) f e = (m, refl, e)
+  pub counted : (x : Option ℕ) (f : ℕ → X) → on_count x no f ≡ answer → (m : ℕ) × (x ≡ Some m) × (f m ≡ answer)
+  counted None f e = absurd (apart e)
+  counted (Some m) f e = (m, refl, e)
 
 pub both : (a b : Bool) → (a && b) ≡ true → (a ≡ true) × (b ≡ true)
 both a b e = (and_left a b e, and_right a b e)
 
-pub bad-is : {n : ℕ} → Bad ≡ Is n → ⊥
+pub bad-is : {n : ℕ} → None ≡ Some n → ⊥
 bad-is {n} e = let z : ◌≡◌ {A = ℕ} 0 1 = cc in omega arith
 
-pub is_same : {m n : ℕ} → Is m ≡ Is n → m ≡ n
+pub is_same : {m n : ℕ} → Some m ≡ Some n → m ≡ n
 is_same e = cc
 
-pub is_below : (m n : ℕ) (x : Count) → x ≡ Is n → Below m x → n < m
-is_below m n x e h = subst (λ (y : Count). Below m y) e h
+pub is_below : (m n : ℕ) (x : Option ℕ) → x ≡ Some n → Below m x → n < m
+is_below m n x e h = subst (λ (y : Option ℕ). Below m y) e h

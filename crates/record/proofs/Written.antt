@@ -1,5 +1,6 @@
 -- The fields of a record stored one after another are the record, and what a call of the writer leaves.
 -- Assumes nothing.
+use Rattle.std.specs.Prelude.{Some, None, Ok, Err}
 use Prim.Native.Nat.{ℕ, ◌+◌, ◌*◌, ◌≤◌, ◌<◌}
 use mathlib.Core.Bool.{Bool, true, false, cond}
 use mathlib.Core.Path.{◌≡◌, refl, sym, ◌∙◌, ap}
@@ -9,11 +10,10 @@ use lib.ListN.{length, replicate, length-append, length-map}
 use borrow.Author.Tests.{le-leb, lt-leb}
 use lib.Ieee.{Float}
 use lib.Seq.{sets}
-use Rattle.knots.specs.Refusal.{refuse, length-bad}
+use Rattle.knots.specs.Refusal.{refuse}
+use Rattle.knots.specs.declared.refusal.Reason.TheVariants.{LengthBad}
 use Rattle.record.specs.Format.{little, doubles, head, field, optional, encode, Table}
 use Rattle.record.specs.Writing.{bits, chosen, table_from, weight_bytes, size_of, holdable, Writes}
-use Rattle.record.specs.declared.field.Count.TheVariants.{Is, Bad}
-use Rattle.record.specs.declared.write.Write.TheVariants.{Written, Refused}
 use Rattle.record.proofs.Tests.{held, bad-is, is_same}
 use Rattle.record.proofs.Little.{length-little}
 use Rattle.record.proofs.Runs.{length-doubles}
@@ -33,7 +33,7 @@ unfolding optional
 length-chosen false ws = refl
 length-chosen true ws = length_run 4 ws
 
-not-held : (n : ℕ) (b : Bool) → cond b (Is n) Bad ≡ Bad → b ≡ false
+not-held : (n : ℕ) (b : Bool) → cond b (Some n) None ≡ None → b ≡ false
 not-held n true e = absurd (bad-is (sym e))
 not-held n false e = refl
 
@@ -81,23 +81,23 @@ module _ (p : ℕ) (ks ps : List Float) (rational : Bool) (ws : List Float) wher
   pub length-table : length (encode t) ≡ 11 + 8 * length ks + 8 * length ps + weight_bytes rational (length ws)
   length-table = length-encode t ∙ rw (length-map, length-map, length-chosen rational ws)
 
-  pub size-table : size_of p (length ks) (length ps) (weight_bytes rational (length ws)) ≡ cond (holdable t) (Is (length (encode t))) Bad
+  pub size-table : size_of p (length ks) (length ps) (weight_bytes rational (length ws)) ≡ cond (holdable t) (Some (length (encode t))) None
   size-table = rw length-table
 
-  pub size_none : size_of p (length ks) (length ps) (weight_bytes rational (length ws)) ≡ Bad → holdable t ≡ false
+  pub size_none : size_of p (length ks) (length ps) (weight_bytes rational (length ws)) ≡ None → holdable t ≡ false
   size_none e = not-held _ (holdable t) (sym size-table ∙ e)
 
-  pub size-some : (n : ℕ) → size_of p (length ks) (length ps) (weight_bytes rational (length ws)) ≡ Is n → (holdable t ≡ true) × (length (encode t) ≡ n)
-  size-some n e = let h = held Bad (Is n) bad-is _ _ (sym size-table ∙ e) in (h.0, is_same h.1)
+  pub size-some : (n : ℕ) → size_of p (length ks) (length ps) (weight_bytes rational (length ws)) ≡ Some n → (holdable t ≡ true) × (length (encode t) ≡ n)
+  size-some n e = let h = held None (Some n) bad-is _ _ (sym size-table ∙ e) in (h.0, is_same h.1)
 
 module _ (t : Table) (before : List ℕ) where
   -- the format does not hold the table
-  pub writes-none : holdable t ≡ false → Writes t before (replicate (length before) 0) (Refused (refuse length-bad))
+  pub writes-none : holdable t ≡ false → Writes t before (replicate (length before) 0) (Err (refuse LengthBad))
   writes-none h = record { answer = rw h; left = rw h }
 
   -- the output is too small
-  pub writes_short : holdable t ≡ true → length before < length (encode t) → Writes t before (replicate (length before) 0) (Refused (refuse length-bad))
+  pub writes_short : holdable t ≡ true → length before < length (encode t) → Writes t before (replicate (length before) 0) (Err (refuse LengthBad))
   writes_short h l = record { answer = rw (h, lt-leb _ _ l); left = rw (h, lt-leb _ _ l) }
 
-  pub writes-all : holdable t ≡ true → length (encode t) ≤ length before → Writes t before (sets (replicate (length before) 0) 0 (encode t)) (Written (length (encode t)))
+  pub writes-all : holdable t ≡ true → length (encode t) ≤ length before → Writes t before (sets (replicate (length before) 0) 0 (encode t)) (Ok (length (encode t)))
   writes-all h l = record { answer = rw (h, le-leb _ _ l); left = rw (h, le-leb _ _ l) (sets-front (length before) 0 (encode t) l) }

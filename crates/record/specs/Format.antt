@@ -1,7 +1,7 @@
 -- The table record of 01: fields of a tag, a length of two bytes and a payload, one after the other in the order of their tags.
 -- A double stands here as its bit pattern, a number below 2 ^ 64, so that a NaN keeps its payload. Assumes nothing.
+use Rattle.std.specs.Prelude.{Option, Some, None}
 use Rattle.std.specs.Prelude.{ℕ, zero, suc, ◌/◌, ◌%◌, ◌^◌, ◌≤◌, ◌<◌, Bool, true, false, ◌≡◌, List, [], ◌∷◌, ◌++◌, length}
-use Rattle.std.proofs.Math.Option.{Option, none, some}
 
 -- the w lowest bytes of a number, the lowest first
 unfoldable pub little : ℕ → ℕ → List ℕ
@@ -22,8 +22,8 @@ field tag payload = head tag (length payload) ++ payload
 
 -- a field that may be absent
 unfoldable pub optional : ℕ → Option (List ℕ) → List ℕ
-optional tag none = []
-optional tag (some xs) = field tag (doubles xs)
+optional tag None = []
+optional tag (Some xs) = field tag (doubles xs)
 
 -- what a record holds: the degree and the patterns of each run. Absent weights and an empty list of weights are two things
 pub record Table : Type 0 where
@@ -43,13 +43,13 @@ Patterns (x ∷ xs) = (x < 2 ^ 64) × Patterns xs
 
 -- the numbers of a run that may be absent
 abbrev pub given : Option (List ℕ) → List ℕ
-given none = []
-given (some xs) = xs
+given None = []
+given (Some xs) = xs
 
 -- whether a curve is rational: absent weights alone mean polynomial, and an empty list is a list of weights
 abbrev pub rational_by : Option (List ℕ) → Bool
-rational_by none = false
-rational_by (some xs) = true
+rational_by None = false
+rational_by (Some xs) = true
 
 -- the bytes s are the record of the table t. That each payload is below 65,536 bytes follows from the record's own length
 pub record IsRecordOf (s : List ℕ) (t : Table) : Type 0 where
@@ -62,5 +62,5 @@ pub record IsRecordOf (s : List ℕ) (t : Table) : Type 0 where
 
 -- what bytes mean: a table that they are the record of, or none if there is no such table
 abbrev pub Means : List ℕ → Option Table → Type 0
-Means s none = (t : Table) → IsRecordOf s t → ⊥
-Means s (some t) = IsRecordOf s t
+Means s None = (t : Table) → IsRecordOf s t → ⊥
+Means s (Some t) = IsRecordOf s t

@@ -1,7 +1,7 @@
 -- Table A's record byte by byte, and one record for each way to be malformed: the format and the reader, computed.
 -- Assumes nothing.
+use Rattle.std.specs.Prelude.{Option, Some, None}
 use Rattle.std.specs.Prelude.{ℕ, ◌≡◌, refl, List, [], ◌∷◌, ◌++◌}
-use Rattle.std.proofs.Math.Option.{Option, none, some}
 use Rattle.std.specs.Float.{nan}
 use Rattle.std.specs.Float.Ieee.{of_bits}
 use Rattle.record.specs.Format.{Table, little, doubles, head, field, optional, encode}
@@ -30,7 +30,7 @@ table_a =
       degree = 2;
       knots = 0x0 ∷ 0x0 ∷ 0x0 ∷ 0x3ff0000000000000 ∷ 0x4000000000000000 ∷ 0x4000000000000000 ∷ 0x4000000000000000 ∷ [];
       points = 0x0 ∷ 0x0 ∷ 0x0 ∷ 0x4000000000000000 ∷ 0x0 ∷ 0x0 ∷ 0x4010000000000000 ∷ 0x0 ∷ 0x0 ∷ 0x4018000000000000 ∷ 0x0 ∷ 0x0 ∷ [];
-      weights = none;
+      weights = None;
     }
 
 pub bytes_a : List ℕ
@@ -57,20 +57,20 @@ empty ws = record { degree = 1; knots = []; points = []; weights = ws }
 
 pub record Worked : Type 0 where
   pub written : encode table_a ≡ bytes_a
-  pub read : table_of bytes_a ≡ some table_a
-  pub absent : table_of (degree1 ++ knots0 ++ points0) ≡ some (empty none)
-  pub zero-length : table_of (degree1 ++ knots0 ++ points0 ++ weights0) ≡ some (empty (some []))
-  pub nothing : table_of [] ≡ none
-  pub missing : table_of (degree1 ++ points0) ≡ none
-  pub repeated : table_of (degree1 ++ knots0 ++ knots0 ++ points0) ≡ none
-  pub repeated-last : table_of (degree1 ++ knots0 ++ points0 ++ weights0 ++ weights0) ≡ none
-  pub descending : table_of (degree1 ++ points0 ++ knots0) ≡ none
-  pub unknown : table_of (degree1 ++ knots0 ++ points0 ++ (5 ∷ 0 ∷ 0 ∷ [])) ≡ none
-  pub cut-head : table_of (degree1 ++ knots0 ++ (3 ∷ 0 ∷ [])) ≡ none
-  pub cut-payload : table_of (degree1 ++ knots0 ++ (3 ∷ 8 ∷ 0 ∷ 0 ∷ [])) ≡ none
-  pub short-degree : table_of ((1 ∷ 1 ∷ 0 ∷ 1 ∷ []) ++ knots0 ++ points0) ≡ none
-  pub half-double : table_of (degree1 ++ (2 ∷ 4 ∷ 0 ∷ 0 ∷ 0 ∷ 0 ∷ 0 ∷ []) ++ points0) ≡ none
-  pub byte-after : table_of (degree1 ++ knots0 ++ points0 ++ (0 ∷ [])) ≡ none
+  pub read : table_of bytes_a ≡ Some table_a
+  pub absent : table_of (degree1 ++ knots0 ++ points0) ≡ Some (empty None)
+  pub zero-length : table_of (degree1 ++ knots0 ++ points0 ++ weights0) ≡ Some (empty (Some []))
+  pub nothing : table_of [] ≡ None
+  pub missing : table_of (degree1 ++ points0) ≡ None
+  pub repeated : table_of (degree1 ++ knots0 ++ knots0 ++ points0) ≡ None
+  pub repeated-last : table_of (degree1 ++ knots0 ++ points0 ++ weights0 ++ weights0) ≡ None
+  pub descending : table_of (degree1 ++ points0 ++ knots0) ≡ None
+  pub unknown : table_of (degree1 ++ knots0 ++ points0 ++ (5 ∷ 0 ∷ 0 ∷ [])) ≡ None
+  pub cut-head : table_of (degree1 ++ knots0 ++ (3 ∷ 0 ∷ [])) ≡ None
+  pub cut-payload : table_of (degree1 ++ knots0 ++ (3 ∷ 8 ∷ 0 ∷ 0 ∷ [])) ≡ None
+  pub short-degree : table_of ((1 ∷ 1 ∷ 0 ∷ 1 ∷ []) ++ knots0 ++ points0) ≡ None
+  pub half-double : table_of (degree1 ++ (2 ∷ 4 ∷ 0 ∷ 0 ∷ 0 ∷ 0 ∷ 0 ∷ []) ++ points0) ≡ None
+  pub byte-after : table_of (degree1 ++ knots0 ++ points0 ++ (0 ∷ [])) ≡ None
   pub signalling-nan : numbers (0x7ff0_0000_0000_0001 ∷ []) ≡ nan ∷ []
 
 pub worked : Worked

@@ -4,9 +4,5 @@ ghost use Rattle.std.specs.Prelude.{◌≡◌, length, replicate};
 pub fn clear_bytes(bytes: &mut [u8])
     ensures { bytes.new ≡ replicate (length bytes.old) 0 }
 {
-    let mut at = 0usize;
-    while at < bytes.len() {
-        bytes[at] = 0;
-        at += 1;
-    }
+    bytes.fill(0);
 }

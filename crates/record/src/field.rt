@@ -8,13 +8,6 @@ ghost use Rattle.record.specs.Writing.{bits};
 use crate::bytes::{double_at, put_u16, put_u64, u16_at};
 use interval::bits::bits_of;
 
-// A count of bytes or numbers, if there is one.
-#[derive(Clone, Copy)]
-pub enum Count {
-    Is(usize),
-    Bad,
-}
-
 fn size(x: u64) -> usize
     requires { x < 65536 }
     ensures { result ≡ x }
@@ -23,54 +16,48 @@ fn size(x: u64) -> usize
 }
 
 // The length of the payload, where a whole field of this tag stands at place i.
-fn field_at(s: &[u8], i: usize, tag: u8) -> Count
+fn field_at(s: &[u8], i: usize, tag: u8) -> Option<usize>
     ensures value { result ≡ field_of (drop i s.now) tag }
     ensures below { Below 65536 result }
 {
     if s.len() < i {
-        return Count::Bad;
+        return None;
     }
     let left = s.len() - i;
     if left < 3 {
-        return Count::Bad;
+        return None;
     }
     if s[i] != tag {
-        return Count::Bad;
+        return None;
     }
     let n = size(u16_at(s, i + 1));
     if left - 3 < n {
-        return Count::Bad;
+        return None;
     }
-    Count::Is(n)
+    Some(n)
 }
 
 // The degree, of a first field that has two bytes.
-pub fn degree_at(s: &[u8]) -> Count
+pub fn degree_at(s: &[u8]) -> Option<usize>
     ensures { result ≡ degree_of s.now }
 {
-    let got = field_at(s, 0, 1);
-    let Count::Is(n) = got else {
-        return Count::Bad;
-    };
+    let n = field_at(s, 0, 1)?;
     if n != 2 {
-        return Count::Bad;
+        return None;
     }
-    Count::Is(size(u16_at(s, 3)))
+    Some(size(u16_at(s, 3)))
 }
 
 // How many doubles the field of this tag at place i has.
-pub fn run_at(s: &[u8], i: usize, tag: u8) -> Count
+pub fn run_at(s: &[u8], i: usize, tag: u8) -> Option<usize>
     ensures value { result ≡ run_of (drop i s.now) tag }
     ensures below { Below 8192 result }
 {
-    let got = field_at(s, i, tag);
-    let Count::Is(n) = got else {
-        return Count::Bad;
-    };
+    let n = field_at(s, i, tag)?;
     if n % 8 != 0 {
-        return Count::Bad;
+        return None;
     }
-    Count::Is(n / 8)
+    Some(n / 8)
 }
 
 // The n doubles from place i on, into the front of a run. Where n is 0 the place is not looked at.
@@ -79,10 +66,8 @@ pub fn fill(s: &[u8], i: usize, n: usize, out: &mut [f64])
     requires n_in_bounds_2 { n ≤ length out.old }
     ensures { out.new ≡ sets out.old 0 (numbers (patterns n (drop i s.now))) }
 {
-    let mut j = 0usize;
-    while j < n {
+    for j in 0..n {
         out[j] = double_at(s, i + 8 * j);
-        j += 1;
     }
 }
 
@@ -102,9 +87,7 @@ pub fn put_run(out: &mut [u8], i: usize, tag: u8, xs: &[f64])
 {
     put_head(out, i, tag, 8 * xs.len());
     let start = i + 3;
-    let mut j = 0usize;
-    while j < xs.len() {
-        put_u64(out, start + 8 * j, bits_of(xs[j]));
-        j += 1;
+    for (j, x) in xs.iter().enumerate() {
+        put_u64(out, start + 8 * j, bits_of(*x));
     }
 }

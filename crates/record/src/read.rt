@@ -1,15 +1,15 @@
 // The reader of the table record.
 ghost use Rattle.std.specs.Prelude.{◌≡◌, ◌+◌, ◌*◌, ◌<◌};
-ghost use Rattle.std.proofs.Math.Option.{none};
+ghost use Rattle.std.specs.Prelude.{None};
 ghost use Rattle.record.specs.Reading.{end_of, layout_of, rational, room_for, ReadsLayout, ReadsNumbers};
 
-use crate::field::{Count, degree_at, fill, run_at};
+use crate::field::{degree_at, fill, run_at};
 use knots::clear::clear;
-use knots::refusal::{Refusal, refuse};
+use knots::refusal::{Reason, Refusal, refuse};
 
 // How many numbers each run of a record has. The knots start at byte 8, the points 3 bytes after the knots, the weights 3 bytes after the points.
 // An absent weights field is not weighted; a zero-length one is, with no weight in it.
-#[derive(Clone, Copy)]
+#[derive(Clone, Copy, Debug, PartialEq, Eq)]
 pub struct Layout {
     pub degree: usize,
     pub knots: usize,
@@ -18,28 +18,22 @@ pub struct Layout {
     pub weights: usize,
 }
 
-#[derive(Clone, Copy)]
-pub enum Record {
-    Fields(Layout),
-    Refused(Refusal),
-}
-
 // The answer for bytes that are no record.
-fn malformed() -> Record
-    ensures { result ≡ layout_of none }
+fn malformed() -> Result<Layout, Refusal>
+    ensures { result ≡ layout_of None }
 {
-    Record::Refused(refuse(33))
+    Err(refuse(Reason::RecordMalformed))
 }
 
 // After the points: the end, or weights up to the end.
-fn end_at(s: &[u8], degree: usize, knots: usize, points: usize) -> Record
+fn end_at(s: &[u8], degree: usize, knots: usize, points: usize) -> Result<Layout, Refusal>
     requires knots_bound { knots < 8192 }
     requires points_bound { points < 8192 }
     ensures { result ≡ layout_of (end_of s.now degree knots points) }
 {
     let at = 11 + 8 * knots + 8 * points;
     if s.len() <= at {
-        return Record::Fields(Layout {
+        return Ok(Layout {
             degree,
             knots,
             points,
@@ -47,14 +41,13 @@ fn end_at(s: &[u8], degree: usize, knots: usize, points: usize) -> Record
             weights: 0,
         });
     }
-    let got = run_at(s, at, 4);
-    let Count::Is(weights) = got else {
+    let Some(weights) = run_at(s, at, 4) else {
         return malformed();
     };
     if s.len() - at != 3 + 8 * weights {
         return malformed();
     }
-    Record::Fields(Layout {
+    Ok(Layout {
         degree,
         knots,
         points,
@@ -64,22 +57,19 @@ fn end_at(s: &[u8], degree: usize, knots: usize, points: usize) -> Record
 }
 
 // The layout of a record, or 33 for bytes that are none.
-pub fn read_record(s: &[u8]) -> Record
+pub fn read_record(s: &[u8]) -> Result<Layout, Refusal>
     ensures { ReadsLayout s.now result }
 {
     if s.len() > 65536 {
         return malformed();
     }
-    let first = degree_at(s);
-    let Count::Is(degree) = first else {
+    let Some(degree) = degree_at(s) else {
         return malformed();
     };
-    let second = run_at(s, 5, 2);
-    let Count::Is(knots) = second else {
+    let Some(knots) = run_at(s, 5, 2) else {
         return malformed();
     };
-    let third = run_at(s, 8 + 8 * knots, 3);
-    let Count::Is(points) = third else {
+    let Some(points) = run_at(s, 8 + 8 * knots, 3) else {
         return malformed();
     };
     end_at(s, degree, knots, points)
@@ -96,28 +86,24 @@ pub fn is_rational(l: Layout) -> bool
 fn has_room(l: Layout, knots: usize, points: usize, weights: usize) -> bool
     ensures { result ≡ room_for l knots points weights }
 {
-    if knots < l.knots {
-        return false;
-    }
-    if points < l.points {
-        return false;
-    }
-    l.weights <= weights
+    l.knots <= knots && l.points <= points && l.weights <= weights
 }
 
 // The numbers of a record into three lent runs, or 33, or 30 for a run with too little room. What a run does not need, and all of it after a refusal, is +0.0.
-pub fn read_numbers(s: &[u8], knots: &mut [f64], points: &mut [f64], weights: &mut [f64]) -> Record
+pub fn read_numbers(
+    s: &[u8],
+    knots: &mut [f64],
+    points: &mut [f64],
+    weights: &mut [f64],
+) -> Result<Layout, Refusal>
     ensures { ReadsNumbers s.now knots.old points.old weights.old knots.new points.new weights.new result }
 {
     clear(knots);
     clear(points);
     clear(weights);
-    let read = read_record(s);
-    let Record::Fields(l) = read else {
-        return read;
-    };
+    let l = read_record(s)?;
     if !has_room(l, knots.len(), points.len(), weights.len()) {
-        return Record::Refused(refuse(30));
+        return Err(refuse(Reason::LengthBad));
     }
     let k = l.knots;
     let n = l.points;
@@ -126,5 +112,5 @@ pub fn read_numbers(s: &[u8], knots: &mut [f64], points: &mut [f64], weights: &m
     fill(s, 8, k, knots);
     fill(s, 11 + 8 * k, n, points);
     fill(s, at + 3, w, weights);
-    Record::Fields(l)
+    Ok(l)
 }

@@ -1,27 +1,28 @@
 // A record read and validated.
 ghost use Rattle.std.specs.Prelude.{◌≡◌, ◌≤◌, length, take};
+ghost use Rattle.knots.specs.Refusal.{checked};
 ghost use Rattle.knots.specs.Curve.{curve_refusal};
 ghost use Rattle.record.specs.Reading.{rational};
 ghost use Rattle.record.specs.Validated.{ReadsTable};
 
-use crate::read::{Layout, Record, is_rational, read_numbers};
+use crate::read::{Layout, is_rational, read_numbers};
 use knots::clear::clear;
 use knots::curve::curve_refusal;
 use knots::refusal::Refusal;
 
-// The curve of a record, by its layout and whether it is rational; or why there is none.
-#[derive(Clone, Copy)]
-pub enum TableAnswer {
-    Curve { layout: Layout, rational: bool },
-    Refused(Refusal),
+// The curve of a record, by its layout and whether it is rational.
+#[derive(Clone, Copy, Debug, PartialEq, Eq)]
+pub struct Curve {
+    pub layout: Layout,
+    pub rational: bool,
 }
 
 // The curve's own refusal, of the numbers at the fronts of three runs.
-fn layout_refusal(l: Layout, knots: &[f64], points: &[f64], weights: &[f64]) -> Refusal
+fn layout_refusal(l: Layout, knots: &[f64], points: &[f64], weights: &[f64]) -> Result<(), Refusal>
     requires knots_in_bounds { l.knots ≤ length knots.now }
     requires points_in_bounds { l.points ≤ length points.now }
     requires weights_in_bounds { l.weights ≤ length weights.now }
-    ensures { result ≡ curve_refusal l.degree (take l.knots knots.now) (take l.points points.now) (rational l) (take l.weights weights.now) }
+    ensures { result ≡ checked (curve_refusal l.degree (take l.knots knots.now) (take l.points points.now) (rational l) (take l.weights weights.now)) }
 {
     let k = l.knots;
     let n = l.points;
@@ -42,24 +43,18 @@ pub fn read_table(
     knots: &mut [f64],
     points: &mut [f64],
     weights: &mut [f64],
-) -> TableAnswer
+) -> Result<Curve, Refusal>
     ensures { ReadsTable s.now knots.old points.old weights.old knots.new points.new weights.new result }
 {
-    let read = read_numbers(s, knots, points, weights);
-    match read {
-        Record::Refused(refusal) => TableAnswer::Refused(refusal),
-        Record::Fields(layout) => {
-            let refusal = layout_refusal(layout, knots, points, weights);
-            if refusal.number != 0 {
-                clear(knots);
-                clear(points);
-                clear(weights);
-                return TableAnswer::Refused(refusal);
-            }
-            TableAnswer::Curve {
-                layout,
-                rational: is_rational(layout),
-            }
-        }
+    let layout = read_numbers(s, knots, points, weights)?;
+    if let Err(refusal) = layout_refusal(layout, knots, points, weights) {
+        clear(knots);
+        clear(points);
+        clear(weights);
+        return Err(refusal);
     }
+    Ok(Curve {
+        layout,
+        rational: is_rational(layout),
+    })
 }

@@ -6,41 +6,41 @@ ghost use Rattle.record.specs.Writing.{table_from, weight_bytes, size_of, Writes
 
 use crate::bytes::put_u16;
 use crate::clear::clear_bytes;
-use crate::field::{Count, put_head, put_run};
-use knots::refusal::{Refusal, refuse};
+use crate::field::{put_head, put_run};
+use knots::refusal::{Reason, Refusal, refuse};
 
-#[derive(Clone, Copy)]
-pub enum Write {
-    Written(usize),
-    Refused(Refusal),
-}
-
-fn within(n: usize) -> Count
-    ensures { result ≡ cond (leb n 65536) (Count.Is n) Count.Bad }
+fn within(n: usize) -> Option<usize>
+    ensures { result ≡ cond (leb n 65536) (Some n) None }
 {
     if n > 65536 {
-        return Count::Bad;
+        return None;
     }
-    Count::Is(n)
+    Some(n)
 }
 
 // The bytes of a record of these counts, where the format holds it.
-fn record_size(degree: usize, knots: usize, points: usize, rational: bool, weights: usize) -> Count
+fn record_size(
+    degree: usize,
+    knots: usize,
+    points: usize,
+    rational: bool,
+    weights: usize,
+) -> Option<usize>
     ensures { result ≡ size_of degree knots points (weight_bytes rational weights) }
 {
     if degree > 65535 {
-        return Count::Bad;
+        return None;
     }
     if knots > 8191 {
-        return Count::Bad;
+        return None;
     }
     if points > 8191 {
-        return Count::Bad;
+        return None;
     }
     let polynomial = 11 + 8 * knots + 8 * points;
     if rational {
         if weights > 8191 {
-            return Count::Bad;
+            return None;
         }
         return within(polynomial + (3 + 8 * weights));
     }
@@ -79,18 +79,17 @@ pub fn write_record(
     rational: bool,
     weights: &[f64],
     out: &mut [u8],
-) -> Write
+) -> Result<usize, Refusal>
     ensures writes { Writes (table_from degree knots.now points.now rational weights.now) out.old out.new result }
     ensures reads_back { ReadsBack degree knots.now points.now rational weights.now out.new result }
 {
     clear_bytes(out);
-    let size = record_size(degree, knots.len(), points.len(), rational, weights.len());
-    let Count::Is(n) = size else {
-        return Write::Refused(refuse(30));
+    let Some(n) = record_size(degree, knots.len(), points.len(), rational, weights.len()) else {
+        return Err(refuse(Reason::LengthBad));
     };
     if out.len() < n {
-        return Write::Refused(refuse(30));
+        return Err(refuse(Reason::LengthBad));
     }
     put_table(degree, knots, points, rational, weights, out);
-    Write::Written(n)
+    Ok(n)
 }

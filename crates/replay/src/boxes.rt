@@ -1,7 +1,8 @@
 // Bounds: what is read behind a table, and what the Rust answers.
-use bounds::answer::{Bounded, NurbsBounds, Triple};
+use bounds::answer::{NurbsBounds, Triple};
 use bounds::curve::bound_curve;
 use bounds::surface::bound_surface;
+use knots::refusal::Refusal;
 use replaying::answers::{accepted, ends, refused};
 use replaying::words::double;
 
@@ -9,31 +10,21 @@ fn triple(t: Triple) -> bool {
     let x = ends(t.x, false);
     let y = ends(t.y, false);
     let z = ends(t.z, false);
-    if x {
-        if y {
-            return z;
-        }
-    }
-    false
+    x && y && z
 }
 
 fn boxed(b: NurbsBounds) -> bool {
     let point = triple(b.point);
     let du = triple(b.du);
     let dv = triple(b.dv);
-    if point {
-        if du {
-            return dv;
-        }
-    }
-    false
+    point && du && dv
 }
 
 // Reads the 18 ends of a box, or a refusal.
-fn judged(a: Bounded) -> bool {
+fn judged(a: Result<NurbsBounds, Refusal>) -> bool {
     match a {
-        Bounded::Are(b) => if accepted() { boxed(b) } else { false },
-        Bounded::Refused(r) => refused(r.number, r.direction, r.place),
+        Ok(b) => accepted() && boxed(b),
+        Err(r) => refused(r.number, r.direction, r.place),
     }
 }
 

@@ -1,5 +1,5 @@
 // Intervals: the operands of a case, the number that the Rust answers, and the answer's words.
-use interval::{Interval, New, Quotient, Sign, float};
+use interval::{DivideError, Interval, Sign, float};
 use replaying::answers;
 use replaying::answers::same;
 use replaying::words::{double, word};
@@ -7,7 +7,7 @@ use replaying::words::{double, word};
 // What stands for 'no interval', which has no refusal number.
 const NO_INTERVAL: u64 = 99;
 
-fn operand() -> New {
+fn operand() -> Option<Interval> {
     let lo = double();
     let hi = double();
     Interval::new(lo, hi)
@@ -27,36 +27,35 @@ fn refused(number: u64) -> bool {
 fn ends(i: Interval, open: bool) -> bool {
     let want = word();
     let agree = answers::ends(i, open);
-    if want == 0 { agree } else { false }
+    want == 0 && agree
 }
 
-fn test(call: u32) -> bool {
+// A test of one double.
+fn test<F: FnOnce(f64) -> bool>(of: F) -> bool
+    requires { F.IsAlwaysCallable of }
+{
     let x = double();
     let want = word();
-    if call == 0 {
-        return said(float::is_nan(x), want);
-    }
-    said(float::is_finite(x), want)
+    said(of(x), want)
 }
 
-fn step(call: u32) -> bool {
+// A double made of one.
+fn step<F: FnOnce(f64) -> f64>(of: F) -> bool
+    requires { F.IsAlwaysCallable of }
+{
     let x = double();
     let want = word();
-    if call == 2 {
-        return same(float::next_up(x), want, false);
-    }
-    same(float::next_down(x), want, false)
+    same(of(x), want, false)
 }
 
-// The sign of a zero that min, max or a hull picks from is open in the Rust.
-fn extreme(call: u32) -> bool {
+// One of two doubles. The sign of a zero that min, max or a hull picks from is open in the Rust.
+fn extreme<F: FnOnce(f64, f64) -> f64>(of: F) -> bool
+    requires { F.IsAlwaysCallable of }
+{
     let a = double();
     let b = double();
     let want = word();
-    if call == 4 {
-        return same(float::min(a, b), want, true);
-    }
-    same(float::max(a, b), want, true)
+    same(of(a, b), want, true)
 }
 
 fn width() -> bool {
@@ -64,12 +63,8 @@ fn width() -> bool {
     let want = word();
     let width = word();
     match n {
-        New::Made(a) => if want == 0 {
-            same(a.width(), width, false)
-        } else {
-            false
-        },
-        New::Nothing => want == NO_INTERVAL,
+        Some(a) => want == 0 && same(a.width(), width, false),
+        None => want == NO_INTERVAL,
     }
 }
 
@@ -78,8 +73,8 @@ fn contains() -> bool {
     let x = double();
     let want = word();
     match n {
-        New::Made(a) => said(a.contains(x), want),
-        New::Nothing => want == NO_INTERVAL,
+        Some(a) => said(a.contains(x), want),
+        None => want == NO_INTERVAL,
     }
 }
 
@@ -96,82 +91,70 @@ fn sign() -> bool {
     let n = operand();
     let want = word();
     match n {
-        New::Made(a) => want == sign_number(a.sign()),
-        New::Nothing => want == NO_INTERVAL,
+        Some(a) => want == sign_number(a.sign()),
+        None => want == NO_INTERVAL,
     }
 }
 
-fn one(call: u32, a: Interval) -> Interval {
-    if call == 7 {
-        return a;
-    }
-    if call == 12 {
-        return a.sqr();
-    }
-    a.neg()
-}
-
-fn unary(call: u32) -> bool {
-    let n = operand();
-    match n {
-        New::Made(a) => ends(one(call, a), false),
-        New::Nothing => refused(NO_INTERVAL),
+// An interval made of one.
+fn unary<F: FnOnce(Interval) -> Interval>(of: F) -> bool
+    requires { F.IsAlwaysCallable of }
+{
+    match operand() {
+        Some(a) => ends(of(a), false),
+        None => refused(NO_INTERVAL),
     }
 }
 
-fn two(call: u32, a: Interval, b: Interval) -> Interval {
-    if call == 14 {
-        return a.hull(b);
-    }
-    if call == 15 {
-        return a.add(b);
-    }
-    if call == 16 {
-        return a.sub(b);
-    }
-    a.mul(b)
+// Both operands: they are read whether the first is an interval or not.
+fn operands() -> Option<(Interval, Interval)> {
+    let a = operand();
+    let b = operand();
+    a.zip(b)
 }
 
-fn quotient(a: Interval, b: Interval) -> bool {
-    let q = interval::divide(a, b);
-    match q {
-        Quotient::Is(i) => ends(i, false),
-        Quotient::HoldsZero => refused(26),
-        Quotient::Unbounded => refused(28),
+// An interval made of two.
+fn binary<F: FnOnce(Interval, Interval) -> Interval>(open: bool, of: F) -> bool
+    requires { F.IsAlwaysCallable of }
+{
+    match operands() {
+        Some((a, b)) => ends(of(a, b), open),
+        None => refused(NO_INTERVAL),
     }
 }
 
-fn on_both(call: u32, a: Interval, b: Interval) -> bool {
-    if call == 18 {
-        return quotient(a, b);
-    }
-    ends(two(call, a, b), call == 14)
-}
-
-fn binary(call: u32) -> bool {
-    let n = operand();
-    let m = operand();
-    match n {
-        New::Made(a) => match m {
-            New::Made(b) => on_both(call, a, b),
-            New::Nothing => refused(NO_INTERVAL),
+fn quotient() -> bool {
+    match operands() {
+        Some((a, b)) => match interval::divide(a, b) {
+            Ok(i) => ends(i, false),
+            Err(DivideError::HoldsZero) => refused(26),
+            Err(DivideError::Unbounded) => refused(28),
         },
-        New::Nothing => refused(NO_INTERVAL),
+        None => refused(NO_INTERVAL),
     }
 }
 
 // Reads one case of a call and says whether the answer is the list's.
 pub fn agrees(call: u32) -> bool {
     match call {
-        0..=1 => test(call),
-        2..=3 => step(call),
-        4..=5 => extreme(call),
+        0 => test(float::is_nan),
+        1 => test(float::is_finite),
+        2 => step(float::next_up),
+        3 => step(float::next_down),
+        4 => extreme(float::min),
+        5 => extreme(float::max),
         6 => ends(Interval::entire(), false),
+        7 => unary(|a| a),
         8 => ends(Interval::point(double()), false),
         9 => width(),
         10 => contains(),
         11 => sign(),
-        7 | 12..=13 => unary(call),
-        _ => binary(call),
+        12 => unary(Interval::sqr),
+        13 => unary(Interval::neg),
+        14 => binary(true, Interval::hull),
+        15 => binary(false, Interval::add),
+        16 => binary(false, Interval::sub),
+        17 => binary(false, Interval::mul),
+        _ => quotient(),
     }
 }

@@ -29,20 +29,16 @@ fn replay(call: u32) {
     print_heading();
     let count = cases();
     let mut differ = 0u64;
-    let mut i = 0u64;
-    while i < count {
+    for _ in 0..count {
         if !agrees(call) {
             differ += 1;
         }
-        i += 1;
     }
     print(count, differ);
 }
 
 fn main() {
-    let mut call = 0u32;
-    while call < COUNT {
+    for call in 0..COUNT {
         replay(call);
-        call += 1;
     }
 }

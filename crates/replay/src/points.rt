@@ -1,7 +1,9 @@
 // Points, the reversed curve and the isocurve: what is read behind a table, and what the Rust answers.
-use evaluate::curve::{CurveAnswer, eval, eval_clamped};
-use evaluate::curve2::{CurveAnswer2, eval2, eval2_clamped};
-use evaluate::surface::{SurfaceAnswer, eval_surface, eval_surface_clamped};
+use crate::spans::checked;
+use evaluate::curve::{CurveDerivs, eval, eval_clamped};
+use evaluate::curve2::{CurveDerivs2, eval2, eval2_clamped};
+use evaluate::surface::{SurfaceDerivs, eval_surface, eval_surface_clamped};
+use knots::refusal::Refusal;
 use made::iso_curve::{iso_curve, iso_knots};
 use made::reverse::reversed;
 use replaying::answers::{accepted, refused, same};
@@ -14,61 +16,39 @@ fn vector(v: Vector) -> bool {
     let x = word();
     let y = word();
     let z = word();
-    if same(v.x, x, false) {
-        if same(v.y, y, false) {
-            return same(v.z, z, false);
-        }
-    }
-    false
+    same(v.x, x, false) && same(v.y, y, false) && same(v.z, z, false)
 }
 
 fn two(a: Vector, b: Vector) -> bool {
     let x = vector(a);
     let y = vector(b);
-    if x { y } else { false }
+    x && y
 }
 
 fn three(a: Vector, b: Vector, c: Vector) -> bool {
     let x = two(a, b);
     let y = vector(c);
-    if x { y } else { false }
+    x && y
 }
 
 // Reads a run: it stands at the front, and +0.0 behind it.
 fn held(out: &[f64]) -> bool {
     let n = size();
     let mut all = true;
-    let mut i = 0usize;
-    while i < out.len() {
+    for (i, x) in out.iter().enumerate() {
         let want = if i < n { word() } else { 0 };
-        if !same(out[i], want, false) {
+        if !same(*x, want, false) {
             all = false;
         }
-        i += 1;
     }
     all
 }
 
-fn all(a: bool, b: bool, c: bool, d: bool) -> bool {
-    if a {
-        if b {
-            if c {
-                return d;
-            }
-        }
-    }
-    false
-}
-
 // Reads what `eval` answers, by either mode.
-fn curve_agrees(a: CurveAnswer) -> bool {
+fn curve_agrees(a: Result<CurveDerivs, Refusal>) -> bool {
     match a {
-        CurveAnswer::At(d) => if accepted() {
-            two(d.point, d.d1)
-        } else {
-            false
-        },
-        CurveAnswer::Refused(r) => refused(r.number, r.direction, r.place),
+        Ok(d) => accepted() && two(d.point, d.d1),
+        Err(r) => refused(r.number, r.direction, r.place),
     }
 }
 
@@ -88,14 +68,10 @@ pub fn eval_agrees(
 }
 
 // Reads what `eval2` answers, by either mode.
-fn curve2_agrees(a: CurveAnswer2) -> bool {
+fn curve2_agrees(a: Result<CurveDerivs2, Refusal>) -> bool {
     match a {
-        CurveAnswer2::At(d) => if accepted() {
-            three(d.point, d.d1, d.d2)
-        } else {
-            false
-        },
-        CurveAnswer2::Refused(r) => refused(r.number, r.direction, r.place),
+        Ok(d) => accepted() && three(d.point, d.d1, d.d2),
+        Err(r) => refused(r.number, r.direction, r.place),
     }
 }
 
@@ -115,14 +91,10 @@ pub fn eval2_agrees(
 }
 
 // Reads what `eval_surface` answers, by either mode.
-fn surface_agrees(a: SurfaceAnswer) -> bool {
+fn surface_agrees(a: Result<SurfaceDerivs, Refusal>) -> bool {
     match a {
-        SurfaceAnswer::At(d) => if accepted() {
-            three(d.point, d.du, d.dv)
-        } else {
-            false
-        },
-        SurfaceAnswer::Refused(r) => refused(r.number, r.direction, r.place),
+        Ok(d) => accepted() && three(d.point, d.du, d.dv),
+        Err(r) => refused(r.number, r.direction, r.place),
     }
 }
 
@@ -168,11 +140,11 @@ pub fn reversal(
         &mut out_points,
         &mut out_weights,
     );
-    let number = refused(r.number, r.direction, r.place);
+    let number = checked(r);
     let a = held(&out_knots);
     let b = held(&out_points);
     let c = held(&out_weights);
-    all(number, a, b, c)
+    number && a && b && c
 }
 
 // The knots that are handed back are held against the Rust's whether the curve is refused or not.
@@ -206,9 +178,9 @@ pub fn along<'a>(
         &mut out_points,
         &mut out_weights,
     );
-    let number = refused(r.number, r.direction, r.place);
+    let number = checked(r);
     let a = held(&out_points);
     let b = held(&out_weights);
     let c = held(iso_knots(constant_u, u_knots, v_knots));
-    all(number, a, b, c)
+    number && a && b && c
 }

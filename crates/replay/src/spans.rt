@@ -1,12 +1,20 @@
 // Validation, spans and classes: what is read behind a table, and what the Rust answers.
 use knots::curve::curve_refusal;
-use knots::refusal::class_of;
-use knots::span::{SpanAnswer, clamp, find_span, find_span_clamped};
+use knots::refusal::{Refusal, class_of};
+use knots::span::{clamp, find_span, find_span_clamped};
 use knots::surface::surface_refusal;
-use knots::walk::{NextSpan, next_span};
-use replaying::answers::{refused, same};
+use knots::walk::next_span;
+use replaying::answers::{accepted, refused, same};
 use replaying::runs::size;
 use replaying::words::{double, word};
+
+// Reads what a check answers: 0, or the refusal.
+pub fn checked(a: Result<(), Refusal>) -> bool {
+    match a {
+        Ok(()) => accepted(),
+        Err(r) => refused(r.number, r.direction, r.place),
+    }
+}
 
 pub fn curve(
     degree: usize,
@@ -15,8 +23,7 @@ pub fn curve(
     rational: bool,
     weights: &[f64],
 ) -> bool {
-    let r = curve_refusal(degree, knots, points, rational, weights);
-    refused(r.number, r.direction, r.place)
+    checked(curve_refusal(degree, knots, points, rational, weights))
 }
 
 pub fn surface(
@@ -30,23 +37,18 @@ pub fn surface(
     rational: bool,
     weights: &[f64],
 ) -> bool {
-    let r = surface_refusal(
+    checked(surface_refusal(
         u_degree, v_degree, u_knots, v_knots, u_count, v_count, points, rational, weights,
-    );
-    refused(r.number, r.direction, r.place)
+    ))
 }
 
 // Reads the number of a refusal and its place, or 0 and the span.
-fn spanned(a: SpanAnswer) -> bool {
+fn spanned(a: Result<usize, Refusal>) -> bool {
     let number = word();
     let at = size();
     match a {
-        SpanAnswer::Span(s) => if number == 0 { s == at } else { false },
-        SpanAnswer::Refused(r) => if r.number as u64 == number {
-            r.place == at
-        } else {
-            false
-        },
+        Ok(s) => number == 0 && s == at,
+        Err(r) => r.number as u64 == number && r.place == at,
     }
 }
 
@@ -63,8 +65,8 @@ pub fn next(degree: usize, count: usize, knots: &[f64]) -> bool {
     let from = size();
     let span = size();
     match next_span(degree, count, knots, from) {
-        NextSpan::At(s) => s == span,
-        NextSpan::Nothing => count == span,
+        Some(s) => s == span,
+        None => count == span,
     }
 }
 

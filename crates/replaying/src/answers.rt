@@ -41,8 +41,8 @@ pub fn refused(number: u32, direction: u32, place: usize) -> bool {
     let want = word();
     let along = word();
     let at = word();
-    if number as u64 == want {
-        if direction as u64 == along {
+    if u64::from(number) == want {
+        if u64::from(direction) == along {
             return place as u64 == at;
         }
     }

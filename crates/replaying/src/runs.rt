@@ -19,10 +19,8 @@ fn fill(out: &mut [f64]) -> usize
     if n > out.len() {
         return 0;
     }
-    let mut i = 0usize;
-    while i < n {
-        out[i] = double();
-        i += 1;
+    for x in out[..n].iter_mut() {
+        *x = double();
     }
     n
 }

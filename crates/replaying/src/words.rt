@@ -23,33 +23,24 @@ pub fn double() -> f64 {
 }
 
 // Any byte that is no digit counts as 0.
+#[tactic(auto, using(std::proofs::lemmas::Bool::Decides::nat_tests), unfolding(crate::specs::Digits::digit_of))]
 fn digit(b: u8) -> u64
     ensures value { result ≡ digit_of b }
     ensures upper_bound { result < 16 }
 {
-    if b < 48 {
-        return 0;
+    match b {
+        b'0'..=b'9' => u64::from(b - b'0'),
+        b'a'..=b'f' => u64::from(b - b'a' + 10),
+        _ => 0,
     }
-    if b < 58 {
-        return (b - 48) as u64;
-    }
-    if b < 97 {
-        return 0;
-    }
-    if b < 103 {
-        return (b - 87) as u64;
-    }
-    0
 }
 
 fn value(t: &[u8; 17]) -> u64
     ensures { result ≡ hex 16 t.now }
 {
-    let mut v = 0u64;
-    let mut i = 0usize;
-    while i < 16 {
+    let mut v = 0;
+    for i in 0..16 {
         v = 16 * v + digit(t[i]);
-        i += 1;
     }
     v
 }

@@ -9,11 +9,11 @@ use native.Mathlib.Numerals.{add-one}
 use lib.ListN.{length, set, take, drop, length-append, length-replicate}
 use lib.Seq.{take_at}
 use lib.Ieee.{Float}
+use borrow.Author.Tests.{eq-eqb, ne_eqb}
 use Rattle.doubles.specs.Value.{zero+}
 use Rattle.knots.specs.Clear.{zeros}
 use Rattle.knots.proofs.Fill.{drop-replicate}
 use Rattle.knots.specs.declared.refusal.Refusal.{Refusal}
-use Rattle.knots.proofs.Refusals.{stop, skip}
 use Rattle.runs.specs.Tabulate.{tabulate}
 use Rattle.runs.proofs.Tabulated.{length-tabulate}
 use Rattle.runs.specs.Lent.{padded, left_in}
@@ -56,15 +56,15 @@ padded-long m l h = length-append l (zeros (m - length l)) ∙ sum (length-repli
 module _ (r : Refusal) (m : ℕ) (l xs : List Float) where
   pub left-refused : (r.number ≡ 0 → ⊥) → xs ≡ zeros m → xs ≡ left_in r m l
   unfolding left_in
-  left-refused h e = simp (stop {r = r} {a = r} refl h) e
+  left-refused h e = simp (ne_eqb r.number 0 h) e
 
   pub left-answered : r.number ≡ 0 → xs ≡ padded m l → xs ≡ left_in r m l
   unfolding left_in
-  left-answered h e = simp (skip {r = r} {a = r} refl h) e
+  left-answered h e = simp (eq-eqb r.number 0 h) e
 
 pub left-padded : (r : Refusal) (m : ℕ) (l : List Float) → r.number ≡ 0 → left_in r m l ≡ padded m l
 unfolding left_in
-left-padded r m l h = simp (skip {r = r} {a = r} refl h)
+left-padded r m l h = simp (eq-eqb r.number 0 h)
 
 -- a run that was cleared, by its own length
 pub cleared-length : (xs : List Float) (n : ℕ) → xs ≡ zeros n → length xs ≡ n

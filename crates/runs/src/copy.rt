@@ -1,46 +1,22 @@
 // A run at the front of another, and +0.0 behind it.
-ghost use Rattle.std.specs.Prelude.{◌≡◌, ◌⊎◌, ◌++◌, ◌-◌, ◌≤◌, length, take, drop};
+ghost use Rattle.std.specs.Prelude.{◌≡◌, ◌++◌, ◌-◌, length, take};
 ghost use Rattle.knots.specs.Clear.{zeros};
 ghost use Rattle.runs.specs.Lent.{padded};
-
-// The first n numbers of a run go to the front of another.
-fn copy_front(n: usize, xs: &[f64], out: &mut [f64])
-    requires { (n ≤ length xs.now) × (n ≤ length out.old) }
-    ensures { out.new ≡ take n xs.now ++ drop n out.old }
-{
-    let mut i = 0usize;
-    while i < n {
-        out[i] = xs[i];
-        i += 1;
-    }
-}
 
 // The numbers from a place on become +0.0.
 pub fn clear_from(xs: &mut [f64], from: usize)
     ensures { xs.new ≡ take from xs.old ++ zeros (length xs.old - from) }
 {
-    let mut j = from;
-    while j < xs.len() {
-        xs[j] = 0.0;
-        j += 1;
+    if from < xs.len() {
+        xs[from..].fill(0.0);
     }
-}
-
-// The smaller of two.
-fn fewer(a: usize, b: usize) -> usize
-    ensures { (result ≤ a) × (result ≤ b) × ((result ≡ a) ⊎ (result ≡ b)) }
-{
-    if a < b {
-        return a;
-    }
-    b
 }
 
 // A run goes to the front of another as far as that has room, and +0.0 behind it.
 pub fn copy_run(xs: &[f64], out: &mut [f64])
     ensures { out.new ≡ padded (length out.old) (take (length out.old) xs.now) }
 {
-    let n = fewer(xs.len(), out.len());
-    copy_front(n, xs, out);
+    let n = out.len().min(xs.len());
+    out[..n].copy_from_slice(&xs[..n]);
     clear_from(out, n);
 }

@@ -4,7 +4,7 @@ ghost use Rattle.runs.specs.Point.{finite_vector};
 
 use interval::float::is_finite;
 
-#[derive(Clone, Copy)]
+#[derive(Clone, Copy, Debug, PartialEq)]
 pub struct Vector {
     pub x: f64,
     pub y: f64,

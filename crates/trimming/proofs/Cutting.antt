@@ -1,41 +1,41 @@
--- The cut of a curve that stands in scratch, and the answers of `trim`.
+-- The cut of a curve that stands in scratch.
 -- Assumes nothing.
-use Prim.Native.Nat.{ℕ, zero, suc, ◌+◌, ◌*◌, ◌/◌, ◌%◌, ◌≤◌, ◌<◌}
+use Rattle.std.specs.Prelude.{Result, Ok, Err}
+use Prim.Native.Nat.{ℕ, ◌+◌, ◌*◌, ◌/◌, ◌%◌, ◌≤◌, ◌<◌}
 use mathlib.Core.Bool.{Bool, true, false}
 use mathlib.Core.Path.{◌≡◌, refl, sym, ◌∙◌, ap, subst}
 use mathlib.Core.List.{List, []}
 use native.Mathlib.Omega.{arith}
-use borrow.Author.Tests.{eq-eqb}
+use borrow.Author.Tests.{eq-eqb, eqb-true, eqb-false}
 use lib.ListN.{length, take, drop, length-take, length-drop}
 use lib.Seq.{get_or-take, get_or-drop, ext_get_or}
+use lib.Dec.{eqb}
 use lib.Ieee.{Float, nan}
 use Rattle.doubles.specs.Run.{at}
-use Rattle.knots.specs.Clear.{zeros}
+use Rattle.knots.specs.Refusal.{checked}
 use Rattle.knots.specs.Knots.{ValidKnots}
 use Rattle.knots.specs.Curve.{count_of, formed_refusal, ValidCurve}
 use Rattle.knots.specs.declared.refusal.Refusal.{Refusal}
-use Rattle.knots.proofs.Refusals.{stop, skip}
+use Rattle.knots.proofs.Refusals.{refused}
 use Rattle.runs.proofs.Tabulated.{length-tabulate, at-tabulate}
 use Rattle.runs.specs.Lent.{padded, left_in}
 use Rattle.runs.proofs.Overlays.{take-padded}
 use Rattle.edits.specs.Counts.{missing_of, below_of}
 use Rattle.edits.specs.Rows.{given}
 use Rattle.insertion.specs.Fold.{insert_all}
-use Rattle.edits.specs.Outcome.{Outcome, refuses}
+use Rattle.edits.specs.Outcome.{Outcome}
 use Rattle.edits.specs.Whole.{given_of}
-use Rattle.edits.specs.Work.{laid, knots_from, points_from, weights_from, refusal_of, work_in, take_refusal}
+use Rattle.edits.specs.Work.{laid, knots_from, points_from, weights_from, refusal_of, work_in}
 use Rattle.edits.specs.Passes.{OutMeets}
-use Rattle.edits.specs.declared.answer.EditAnswer.{EditAnswer}
-use Rattle.edits.specs.declared.answer.EditAnswer.TheVariants.{Formed, Refused}
+use Rattle.edits.specs.declared.answer.FormedCurve.{FormedCurve}
 use Rattle.edits.proofs.RowReads.{knot-from}
-use Rattle.edits.proofs.Starting.{out-fits, thirds}
+use Rattle.edits.proofs.Starting.{thirds}
 use Rattle.edits.proofs.RunWithCurve.{laid-long}
-use Rattle.edits.proofs.WorkCalls.{take-fits}
 use Rattle.insertion.proofs.ListResult.{made}
 use Rattle.insertion.proofs.Repeated.{ends-long}
 use Rattle.insertion.proofs.Chained.{knots-are, points-are, weights-are, refused-is, given_is}
-use Rattle.edits.proofs.Outcomes.{edit-refused, edit-late, edit-formed, edit-unique}
-use Rattle.trimming.specs.Trim.{ends_of, kept_of, cut_refusal, cut_curve, cut_of, trim_start, trim_outcome, TrimMeets}
+use Rattle.edits.proofs.Outcomes.{edit-unique, checked-none}
+use Rattle.trimming.specs.Trim.{ends_of, kept_of, cut_refusal, cut_curve, cut_of, trim_outcome, TrimMeets}
 use Rattle.trimming.specs.Passes.{CutDone}
 use Rattle.trimming.proofs.Ends.{given-long}
 
@@ -98,17 +98,12 @@ pub cut-weights : (n f m : ℕ) (g : Bool) (xs ws : List Float) → f + m ≤ n 
 cut-weights n f m true xs ws b W = weights-cut 0 0 n f m true xs [] [] ws b W
 cut-weights n f m false xs ws b W = refl
 
--- ---- the curve at the front of the outputs
-pub taken-open : (p m f : ℕ) (g : Bool) (a l b c d : ℕ) (r : Refusal) → r ≡ take_refusal p m f g a l b c d → (f + m) * 4 ≤ a → a + (f + m + p + 1) ≤ l → m + p + 1 ≤ b → m * 3 ≤ c → given g m ≤ d
-    → r.number ≡ 0
-taken-open p m f g a l b c d r e x y u v w = ap (λ (q : Refusal). q.number) (e ∙ sym (take-fits p m f g a l b c d x y _ (out-fits p m g b c d u v w)))
-
 -- ---- the cut of an outcome
-module _ (a p n f m : ℕ) (g : Bool) (w₀ : List Float) (b : f + m ≤ n) (x : n * 4 ≤ a) (y : a + (n + p + 1) ≤ length w₀) (A B C : ℕ) (k₁ p₁ w₁ : List Float) (r : Refusal) where
+module _ (a p n f m : ℕ) (g : Bool) (w₀ : List Float) (b : f + m ≤ n) (x : n * 4 ≤ a) (y : a + (n + p + 1) ≤ length w₀) (A B C : ℕ) (k₁ p₁ w₁ : List Float) (r : Result Unit Refusal) where
   pub cut-formed : (ks ps ws xs : List Float) → ValidKnots p n ks → length ps ≡ n * 3 → length ws ≡ given g n → xs ≡ laid a w₀ ks ps g ws
       → CutDone p m g (knots_from (a + f) p m xs) (points_from m (drop (f * 4) xs)) (weights_from g m (drop (f * 4) xs)) A B C k₁ p₁ w₁ r → OutMeets A B C (cut_curve p g f m ks ps ws) k₁ p₁ w₁ r
   unfolding cut_curve cut_refusal OutMeets
-  cut-formed ks ps ws xs v P W E D = go r.number refl
+  cut-formed ks ps ws xs v P W E D = go (eqb (cut_refusal p g f m ks ps ws).number 0) refl
     where
       n0 : n + 0 ≡ n
       n0 = omega arith
@@ -131,20 +126,20 @@ module _ (a p n f m : ℕ) (g : Bool) (w₀ : List Float) (b : f + m ≤ n) (x :
           ap (λ (u : List Float). weights_from g m (drop (f * 4) u)) E
           ∙ cut-weights n f m g (laid a w₀ ks ps g ws) ws b (weights-are a p n g w₀ ks ps ws v P W 0 nan (omega arith) (omega arith))
 
-      R : r ≡ cut_refusal p g f m ks ps ws
-      R = D.refusal ∙ moved K Q V'
+      R : r ≡ checked (cut_refusal p g f m ks ps ws)
+      R = D.refusal ∙ ap checked (moved K Q V')
         where
           moved : {i i' j j' h h' : List Float} → i ≡ i' → j ≡ j' → h ≡ h' → formed_refusal p m i j g h ≡ formed_refusal p m i' j' g h'
           moved I J H = rw (I, J, H)
 
-      go : (i : ℕ) → r.number ≡ i → OutMeets A B C (cut_curve p g f m ks ps ws) k₁ p₁ w₁ r
-      go zero e = rw (skip R e) ((e, D.knots ∙ ap (padded A) K, D.points ∙ ap (padded B) Q, D.weights ∙ ap (padded C) V'))
-      go (suc i) e = rw (stop R (λ q. omega arith)) ((R, λ q. omega arith))
+      go : (t : Bool) → eqb (cut_refusal p g f m ks ps ws).number 0 ≡ t → OutMeets A B C (cut_curve p g f m ks ps ws) k₁ p₁ w₁ r
+      go true e = rw e ((R ∙ checked-none _ (eqb-true _ 0 e), D.knots ∙ ap (padded A) K, D.points ∙ ap (padded B) Q, D.weights ∙ ap (padded C) V'))
+      go false e = rw e (R ∙ sym (refused _ (eqb-false _ 0 e)))
 
 -- ---- what `cut` leaves
-pub cut-done : (p m : ℕ) (g : Bool) (a f : ℕ) (xs k₁ p₁ w₁ : List Float) (A B C : ℕ) (q r : Refusal) → q.number ≡ 0 → a + (f + m + p + 1) ≤ length xs
+pub cut-done : (p m : ℕ) (g : Bool) (a f : ℕ) (xs k₁ p₁ w₁ : List Float) (A B C : ℕ) (q : Refusal) (r : Result Unit Refusal) → q.number ≡ 0 → a + (f + m + p + 1) ≤ length xs
     → k₁ ≡ left_in q A (knots_from (a + f) p m xs) → p₁ ≡ left_in q B (points_from m (drop (f * 4) xs)) → w₁ ≡ left_in q C (weights_from g m (drop (f * 4) xs))
-    → r ≡ formed_refusal p m (take (m + p + 1) k₁) (take (m * 3) p₁) g (take (given g m) w₁)
+    → r ≡ checked (formed_refusal p m (take (m + p + 1) k₁) (take (m * 3) p₁) g (take (given g m) w₁))
     → CutDone p m g (knots_from (a + f) p m xs) (points_from m (drop (f * 4) xs)) (weights_from g m (drop (f * 4) xs)) A B C k₁ p₁ w₁ r
 unfolding left_in
 cut-done p m g a f xs k₁ p₁ w₁ A B C q r z l K P W R =
@@ -156,9 +151,9 @@ cut-done p m g a f xs k₁ p₁ w₁ A B C q r z l K P W R =
     record {
       refusal =
           R
-          ∙ moved
+          ∙ ap checked (moved
           (take-padded (m + p + 1) A (knots_from (a + f) p m xs) k₁ kl k) (take-padded (m * 3) B (points_from m (drop (f * 4) xs)) p₁ (length-tabulate (m * 3) _) x)
-          (take-padded (given g m) C (weights_from g m (drop (f * 4) xs)) w₁ (length-tabulate (given g m) _) w);
+          (take-padded (given g m) C (weights_from g m (drop (f * 4) xs)) w₁ (length-tabulate (given g m) _) w));
       knots = k;
       points = x;
       weights = w;
@@ -182,17 +177,17 @@ module _ (p : ℕ) (ks ps : List Float) (g : Bool) (ws : List Float) (v : ValidC
   N = count_of ps + (missing_of p ks lo + missing_of p ks hi)
 
   module _ (A B C : ℕ) (k₁ p₁ w₁ : List Float) where
-    pub into-refused : (r : Refusal) → r ≡ refusal_of aim → (r.number ≡ 0 → ⊥) → OutMeets A B C (cut_of p g F M aim) k₁ p₁ w₁ r
+    pub into-refused : (r : Refusal) → Err r ≡ checked (refusal_of aim) → OutMeets A B C (cut_of p g F M aim) k₁ p₁ w₁ (Err r)
     unfolding OutMeets
-    into-refused r e h = rw (refused-is p g (count_of ps) ks ps (given_of g ws) (ends_of p ks lo hi) r e h) ((refl, h))
+    into-refused r e = rw (refused-is p g (count_of ps) ks ps (given_of g ws) (ends_of p ks lo hi) r e) refl
 
-    pub into-cut : (a : ℕ) (w₀ : List Float) (f m : ℕ) → f ≡ F → m ≡ M → F + M ≤ N → N * 4 ≤ a → a + (N + p + 1) ≤ length w₀ → (q : Refusal) → q ≡ refusal_of aim → q.number ≡ 0 →
+    pub into-cut : (a : ℕ) (w₀ : List Float) (f m : ℕ) → f ≡ F → m ≡ M → F + M ≤ N → N * 4 ≤ a → a + (N + p + 1) ≤ length w₀ → Ok tt ≡ checked (refusal_of aim) →
         (xs : List Float) → xs ≡ work_in a g w₀ aim
-        → (r : Refusal)
+        → (r : Result Unit Refusal)
         → CutDone p m g (knots_from (a + f) p m xs) (points_from m (drop (f * 4) xs)) (weights_from g m (drop (f * 4) xs)) A B C k₁ p₁ w₁ r → OutMeets A B C (cut_of p g F M aim) k₁ p₁ w₁ r
     unfolding ends_of
-    into-cut a w₀ f m f≡ m≡ b x y q Q z xs E r D =
-        let G = given_is p g (count_of ps) ks ps (given_of g ws) (ends_of p ks lo hi) q Q z in
+    into-cut a w₀ f m f≡ m≡ b x y Q xs E r D =
+        let G = given_is p g (count_of ps) ks ps (given_of g ws) (ends_of p ks lo hi) Q in
         let e = G.is in
         let d = made p g (count_of ps) ks ps (given_of g ws) (ends_of p ks lo hi) G.knots G.points G.weights v.knots e in
         let s : count_of ps + length (ends_of p ks lo hi) ≡ N = ap (λ (i : ℕ). count_of ps + i) (ends-long p ks lo hi) in
@@ -201,35 +196,8 @@ module _ (p : ℕ) (ks ps : List Float) (g : Bool) (ws : List Float) (v : ValidC
         rw e (cut-formed a p N F M g w₀ b x y A B C k₁ p₁ w₁ r G.knots G.points G.weights xs (subst (λ (i : ℕ). ValidKnots p i G.knots) s d.valid)
         (d.points (thirds v.triples) ∙ ap (λ (i : ℕ). i * 3) s) (d.weights (given-long g (count_of ps) ws v.controls.weights) ∙ ap (given g) s) (E ∙ ap (work_in a g w₀) e) D₂)
 
--- ---- `trim`
-module _ (p : ℕ) (ks ps : List Float) (g : Bool) (ws : List Float) (lo hi : Float) (a b c d : ℕ) (s₁ : List Float) (S : s₁ ≡ zeros d) where
-  abbrev goal : Outcome
-  goal = trim_outcome p ks ps g ws lo hi a b c d
-
-  abbrev whole : Outcome
-  whole = cut_of p g (below_of ks lo) (kept_of p ks lo hi) (insert_all p g (count_of ps) ks ps (given_of g ws) (ends_of p ks lo hi))
-
-  pub trim-early : (r : Refusal) → r ≡ trim_start p ks ps g ws lo hi a b c d → (r.number ≡ 0 → ⊥) → (k₁ p₁ w₁ : List Float) → k₁ ≡ zeros a → p₁ ≡ zeros b → w₁ ≡ zeros c
-      → TrimMeets p ks ps g ws lo hi a b c d k₁ p₁ w₁ s₁ (Refused r)
-  unfolding trim_outcome
-  trim-early r e h k₁ p₁ w₁ K P W =
-      let o : goal ≡ refuses r = simp (stop e h) (ap refuses (sym e)) in
-      edit-refused p (kept_of p ks lo hi) goal a b c d s₁ S r o k₁ p₁ w₁ K P W
-
-  module _ (x : Refusal) (E : x ≡ trim_start p ks ps g ws lo hi a b c d) (z : x.number ≡ 0) (r : Refusal) (k₁ p₁ w₁ : List Float) (m : OutMeets a b c whole k₁ p₁ w₁ r) where
-    opened : goal ≡ whole
-    unfolding trim_outcome
-    opened = simp (skip E z)
-
-    pub trim-late : (r.number ≡ 0 → ⊥) → (k₂ p₂ w₂ : List Float) → k₂ ≡ zeros a → p₂ ≡ zeros b → w₂ ≡ zeros c → TrimMeets p ks ps g ws lo hi a b c d k₂ p₂ w₂ s₁ (Refused r)
-    trim-late h k₂ p₂ w₂ K P W = edit-late p (kept_of p ks lo hi) goal a b c d s₁ S whole opened r k₁ p₁ w₁ m h k₂ p₂ w₂ K P W
-
-    pub trim-formed : r.number ≡ 0 → (n : ℕ) → n ≡ kept_of p ks lo hi → TrimMeets p ks ps g ws lo hi a b c d k₁ p₁ w₁ s₁ (Formed p n)
-    trim-formed h n e =
-        subst (λ (i : ℕ). TrimMeets p ks ps g ws lo hi a b c d k₁ p₁ w₁ s₁ (Formed p i)) (sym e) (edit-formed p (kept_of p ks lo hi) goal a b c d s₁ S whole opened r k₁ p₁ w₁ m h)
-
 -- any two outcomes that the contract permits coincide
-pub trim-unique : (p : ℕ) (ks ps : List Float) (g : Bool) (ws : List Float) (lo hi : Float) (a b c d : ℕ) (k₁ p₁ w₁ s₁ k₂ p₂ w₂ s₂ : List Float) (r q : EditAnswer)
+pub trim-unique : (p : ℕ) (ks ps : List Float) (g : Bool) (ws : List Float) (lo hi : Float) (a b c d : ℕ) (k₁ p₁ w₁ s₁ k₂ p₂ w₂ s₂ : List Float) (r q : Result FormedCurve Refusal)
     → TrimMeets p ks ps g ws lo hi a b c d k₁ p₁ w₁ s₁ r → TrimMeets p ks ps g ws lo hi a b c d k₂ p₂ w₂ s₂ q → (r ≡ q) × (k₁ ≡ k₂) × (p₁ ≡ p₂) × (w₁ ≡ w₂) × (s₁ ≡ s₂)
 trim-unique p ks ps g ws lo hi a b c d k₁ p₁ w₁ s₁ k₂ p₂ w₂ s₂ r q M N =
     edit-unique p (kept_of p ks lo hi) (trim_outcome p ks ps g ws lo hi a b c d) a b c d k₁ p₁ w₁ s₁ k₂ p₂ w₂ s₂ r q M N

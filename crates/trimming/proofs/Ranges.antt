@@ -11,12 +11,12 @@ use lib.Ieee.{Float, lt, le}
 use lib.Ieee.Scale.{finite}
 use Rattle.doubles.specs.Run.{at}
 use Rattle.doubles.proofs.TestedOrder.{le-fails}
-use Rattle.knots.specs.Refusal.{refuse, trim-bad}
+use Rattle.knots.specs.Refusal.{refuse}
+use Rattle.knots.specs.declared.refusal.Reason.TheVariants.{TrimBad}
 use Rattle.knots.specs.Knots.{ValidKnots}
 use Rattle.knots.specs.Curve.{count_of, ValidCurve}
-use Rattle.knots.specs.declared.refusal.Refusal.{Refusal}
 use Rattle.knots.proofs.Below.{and_left, and_right}
-use Rattle.knots.proofs.Refusals.{or_else-none, passed, stop, skip}
+use Rattle.knots.proofs.Refusals.{or_else-none, passed}
 use Rattle.edits.specs.Counts.{multiplicity_of, missing_of, below_of}
 use Rattle.edits.specs.Start.{clamped_ends, edit_start, out_room, scratch_room}
 use Rattle.insertion.proofs.KnotCounts.{below-mono, below-room}
@@ -59,21 +59,6 @@ pub kept-fits : (p n : ℕ) (ks : List Float) → ValidKnots p n ks → (lo hi :
 unfolding kept_of
 kept-fits p n ks v lo hi b m = let l = v.long in omega (arith, below-room ks hi)
 
--- ---- 15, 30
-module _ (p : ℕ) (ks : List Float) (n : ℕ) (g : Bool) (lo hi : Float) (a b c d : ℕ) where
-  pub range-15 : in_range (at ks p) (at ks n) lo hi ≡ false → (r : Refusal) → r ≡ refuse trim-bad → r ≡ range_refusal p ks n g lo hi a b c d
-  unfolding range_refusal
-  range-15 h r e = simp h e
-
-  pub range-out : in_range (at ks p) (at ks n) lo hi ≡ true → (r : Refusal) → r ≡ out_room p (kept_of p ks lo hi) g a b c → (r.number ≡ 0 → ⊥) → r ≡ range_refusal p ks n g lo hi a b c d
-  unfolding range_refusal
-  range-out h r e z = simp (h, stop e z) e
-
-  pub range-scratch : in_range (at ks p) (at ks n) lo hi ≡ true → (q : Refusal) → q ≡ out_room p (kept_of p ks lo hi) g a b c → q.number ≡ 0 → (r : Refusal)
-      → r ≡ scratch_room p (n + (missing_of p ks lo + missing_of p ks hi)) d → r ≡ range_refusal p ks n g lo hi a b c d
-  unfolding range_refusal
-  range-scratch h q Q z r e = simp (h, skip Q z) e
-
 -- ---- no refusal at the start
 pub record Open (p : ℕ) (ks ps : List Float) (g : Bool) (ws : List Float) (lo hi : Float) (a b c d : ℕ) : Type 0 where
   pub curve : ValidCurve p ks ps g ws
@@ -88,7 +73,7 @@ module _ (p : ℕ) (ks ps : List Float) (g : Bool) (ws : List Float) (lo hi : Fl
   start-open h =
       let n = count_of ps in
       let x = or_else-none (edit_start p ks ps g ws) _ h in
-      let y = passed (not (in_range (at ks p) (at ks n) lo hi)) (refuse trim-bad) _ (λ e. omega arith) x.1 in
+      let y = passed (not (in_range (at ks p) (at ks n) lo hi)) (refuse TrimBad) _ (λ e. omega arith) x.1 in
       let z = or_else-none (out_room p (kept_of p ks lo hi) g a b c) (scratch_room p (n + (missing_of p ks lo + missing_of p ks hi)) d) y.1 in
       let o = edit-open p ks ps g ws x.0 in
       record {

@@ -1,11 +1,12 @@
 -- A curve cut to the part from lo to hi: each end is inserted until it stands degree + 1 times, and what lies between is taken.
 -- A curve has degree p, knots ks, points ps and, where g is true, weights ws.
 -- Assumes nothing.
-use Rattle.std.specs.Prelude.{ℕ, ◌+◌, ◌-◌, ◌*◌, Bool, not, cond, ◌&&◌, List, ◌++◌, take, drop, replicate, eqb, Float}
+use Rattle.std.specs.Prelude.{ℕ, ◌+◌, ◌-◌, ◌*◌, Bool, not, cond, ◌&&◌, List, ◌++◌, take, drop, replicate, eqb, Float, Result}
 use Rattle.std.specs.Float.Ieee.{lt, le}
 use Rattle.std.specs.Float.Ieee.Scale.{finite}
 use Rattle.doubles.specs.Run.{at}
-use Rattle.knots.specs.Refusal.{refuse, or_else, trim-bad}
+use Rattle.knots.specs.Refusal.{refuse, or_else}
+use Rattle.knots.specs.declared.refusal.Reason.TheVariants.{TrimBad}
 use Rattle.knots.specs.Curve.{count_of, formed_refusal}
 use Rattle.knots.specs.declared.refusal.Refusal.{Refusal}
 use Rattle.edits.specs.Counts.{missing_of, below_of}
@@ -14,7 +15,7 @@ use Rattle.insertion.specs.Fold.{insert_all}
 use Rattle.edits.specs.Outcome.{Outcome, gives, refuses}
 use Rattle.edits.specs.Start.{edit_start, out_room, scratch_room}
 use Rattle.edits.specs.Whole.{given_of, EditMeets}
-use Rattle.edits.specs.declared.answer.EditAnswer.{EditAnswer}
+use Rattle.edits.specs.declared.answer.FormedCurve.{FormedCurve}
 
 -- 15 is given where this fails: finite ends, lo below hi, inside the domain from a to b
 unfoldable pub in_range : Float → Float → Float → Float → Bool
@@ -30,7 +31,7 @@ kept_of p ks lo hi = below_of ks hi + missing_of p ks lo - below_of ks lo
 -- 15, 30
 unfoldable pub range_refusal : ℕ → List Float → ℕ → Bool → Float → Float → ℕ → ℕ → ℕ → ℕ → Refusal
 range_refusal p ks n g lo hi a b c d =
-    cond (not (in_range (at ks p) (at ks n) lo hi)) (refuse trim-bad)
+    cond (not (in_range (at ks p) (at ks n) lo hi)) (refuse TrimBad)
     (or_else (out_room p (kept_of p ks lo hi) g a b c) (scratch_room p (n + (missing_of p ks lo + missing_of p ks hi)) d))
 
 -- m points from place f on, checked by 1 to 10 again
@@ -56,5 +57,5 @@ module _ (p : ℕ) (ks ps : List Float) (g : Bool) (ws : List Float) (lo hi : Fl
       (cut_of p g (below_of ks lo) (kept_of p ks lo hi) (insert_all p g (count_of ps) ks ps (given_of g ws) (ends_of p ks lo hi)))
       (refuses trim_start)
 
-  abbrev pub TrimMeets : List Float → List Float → List Float → List Float → EditAnswer → Type 0
+  abbrev pub TrimMeets : List Float → List Float → List Float → List Float → Result FormedCurve Refusal → Type 0
   TrimMeets = EditMeets p (kept_of p ks lo hi) trim_outcome a b c d

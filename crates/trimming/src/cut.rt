@@ -1,5 +1,6 @@
 // Both ends are inserted in scratch, and what lies between goes to the outputs.
 ghost use Rattle.std.specs.Prelude.{◌≡◌, ◌+◌, ◌*◌, ◌/◌, ◌≤◌, length, drop};
+ghost use Rattle.knots.specs.Refusal.{checked};
 ghost use Rattle.knots.specs.Curve.{ValidCurve};
 ghost use Rattle.edits.specs.Counts.{missing_of};
 ghost use Rattle.edits.specs.Rows.{given};
@@ -25,23 +26,17 @@ pub fn insert_ends(
     hi: f64,
     a: usize,
     work: &mut [f64],
-) -> Refusal
+) -> Result<(), Refusal>
     requires valid_curve { ValidCurve degree knots.now points.now rational weights.now }
     requires hi_bound { ((length points.now / 3 + (missing_of degree knots.now lo + missing_of degree knots.now hi)) * 4 ≤ a) × (a + (length points.now / 3 + (missing_of degree knots.now lo + missing_of degree knots.now hi) + degree + 1) ≤ length work.old) }
-    ensures value { result ≡ refusal_of (insert_all degree rational (length points.now / 3) knots.now points.now (given_of rational weights.now) (ends_of degree knots.now lo hi)) }
+    ensures value { result ≡ checked (refusal_of (insert_all degree rational (length points.now / 3) knots.now points.now (given_of rational weights.now) (ends_of degree knots.now lo hi))) }
     ensures work_after { work.new ≡ work_in a rational work.old (insert_all degree rational (length points.now / 3) knots.now points.now (given_of rational weights.now) (ends_of degree knots.now lo hi)) }
 {
     let n = points.len() / 3;
     let x = missing(degree + 1, knots, lo);
     let y = missing(degree + 1, knots, hi);
-    let laid = lay_curve(knots, points, rational, weights, a, work);
-    if laid.number != 0 {
-        return laid;
-    }
-    let first = insert_times(degree, n, rational, lo, x, a, work);
-    if first.number != 0 {
-        return first;
-    }
+    lay_curve(knots, points, rational, weights, a, work)?;
+    insert_times(degree, n, rational, lo, x, a, work)?;
     insert_times(degree, n + x, rational, hi, y, a, work)
 }
 
@@ -56,16 +51,13 @@ pub fn cut(
     knots: &mut [f64],
     points: &mut [f64],
     weights: &mut [f64],
-) -> Refusal
+) -> Result<(), Refusal>
     requires m_bound { ((f + m) * 4 ≤ a) × (a + (f + m + p + 1) ≤ length work.now) }
     requires p_in_bounds { m + p + 1 ≤ length knots.old }
     requires m_in_bounds { m * 3 ≤ length points.old }
     requires m_in_bounds_2 { given rational m ≤ length weights.old }
     ensures { CutDone p m rational (knots_from (a + f) p m work.now) (points_from m (drop (f * 4) work.now)) (weights_from rational m (drop (f * 4) work.now)) (length knots.old) (length points.old) (length weights.old) knots.new points.new weights.new result }
 {
-    let taken = take_curve(p, m, f, rational, a, work, knots, points, weights);
-    if taken.number != 0 {
-        return taken;
-    }
+    take_curve(p, m, f, rational, a, work, knots, points, weights)?;
     front_refusal(p, m, rational, knots, points, weights)
 }

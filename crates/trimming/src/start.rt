@@ -1,5 +1,6 @@
 // The refusals of a cut before anything is formed.
 ghost use Rattle.std.specs.Prelude.{◌≡◌, ◌+◌, ◌≤◌, ◌<◌, length};
+ghost use Rattle.knots.specs.Refusal.{checked};
 ghost use Rattle.knots.specs.Knots.{ValidKnots};
 ghost use Rattle.edits.specs.Counts.{below_of};
 ghost use Rattle.trimming.specs.Trim.{in_range, kept_of, range_refusal, trim_start};
@@ -7,7 +8,7 @@ ghost use Rattle.trimming.specs.Trim.{in_range, kept_of, range_refusal, trim_sta
 use edits::counts::{below, missing};
 use edits::start::{edit_start, out_room, scratch_room};
 use interval::float::is_finite;
-use knots::refusal::{Refusal, refuse};
+use knots::refusal::{Reason, Refusal, refuse};
 
 // Finite ends, lo below hi, and both in the domain from a to b.
 fn is_range(a: f64, b: f64, lo: f64, hi: f64) -> bool
@@ -52,18 +53,15 @@ fn range_refusal(
     b: usize,
     c: usize,
     d: usize,
-) -> Refusal
+) -> Result<(), Refusal>
     requires valid_knots { ValidKnots p n knots.now }
     requires knots_len_bound { length knots.now ≤ 1048576 }
-    ensures { result ≡ range_refusal p knots.now n rational lo hi a b c d }
+    ensures { result ≡ checked (range_refusal p knots.now n rational lo hi a b c d) }
 {
     if !is_range(knots[p], knots[n], lo, hi) {
-        return refuse(15);
+        return Err(refuse(Reason::TrimBad));
     }
-    let out = out_room(p, kept(p, knots, lo, hi), rational, a, b, c);
-    if out.number != 0 {
-        return out;
-    }
+    out_room(p, kept(p, knots, lo, hi), rational, a, b, c)?;
     let x = missing(p + 1, knots, lo);
     let y = missing(p + 1, knots, hi);
     scratch_room(p, n + (x + y), d)
@@ -82,13 +80,10 @@ pub fn trim_start(
     b: usize,
     c: usize,
     d: usize,
-) -> Refusal
-    ensures { result ≡ trim_start degree knots.now points.now rational weights.now lo hi a b c d }
+) -> Result<(), Refusal>
+    ensures { result ≡ checked (trim_start degree knots.now points.now rational weights.now lo hi a b c d) }
 {
-    let early = edit_start(degree, knots, points, rational, weights);
-    if early.number != 0 {
-        return early;
-    }
+    edit_start(degree, knots, points, rational, weights)?;
     range_refusal(
         degree,
         knots,

@@ -10,7 +10,7 @@ ghost use Rattle.trimming.specs.Trim.{kept_of, ends_of, cut_of, TrimMeets};
 
 use crate::cut::{cut, insert_ends};
 use crate::start::{kept, trim_start};
-use edits::answer::EditAnswer;
+use edits::answer::FormedCurve;
 use edits::counts::{below, missing};
 use edits::work::clear_all;
 use knots::clear::clear;
@@ -29,7 +29,7 @@ fn trim_into(
     out_points: &mut [f64],
     out_weights: &mut [f64],
     work: &mut [f64],
-) -> Refusal
+) -> Result<(), Refusal>
     requires valid_curve { ValidCurve degree knots.now points.now rational weights.now }
     requires lo_bound { below_of knots.now lo ≤ below_of knots.now hi }
     requires degree_in_bounds { kept_of degree knots.now lo hi + degree + 1 ≤ length out_knots.old }
@@ -41,10 +41,7 @@ fn trim_into(
     let x = missing(degree + 1, knots, lo);
     let y = missing(degree + 1, knots, hi);
     let a = (points.len() / 3 + (x + y)) * 4;
-    let late = insert_ends(degree, knots, points, rational, weights, lo, hi, a, work);
-    if late.number != 0 {
-        return late;
-    }
+    insert_ends(degree, knots, points, rational, weights, lo, hi, a, work)?;
     let f = below(knots, lo);
     let m = kept(degree, knots, lo, hi);
     cut(
@@ -73,7 +70,7 @@ pub fn trim(
     out_points: &mut [f64],
     out_weights: &mut [f64],
     scratch: &mut [f64],
-) -> EditAnswer
+) -> Result<FormedCurve, Refusal>
     ensures { TrimMeets degree knots.now points.now rational weights.now lo hi (length out_knots.old) (length out_points.old) (length out_weights.old) (length scratch.old) out_knots.new out_points.new out_weights.new scratch.new result }
 {
     let a = out_knots.len();
@@ -81,11 +78,11 @@ pub fn trim(
     let c = out_weights.len();
     let d = scratch.len();
     let early = trim_start(degree, knots, points, rational, weights, lo, hi, a, b, c, d);
-    if early.number != 0 {
+    if let Err(r) = early {
         clear_all(out_knots, out_points, out_weights, scratch);
-        return EditAnswer::Refused(early);
+        return Err(r);
     }
-    let refusal = trim_into(
+    let late = trim_into(
         degree,
         knots,
         points,
@@ -98,11 +95,11 @@ pub fn trim(
         out_weights,
         scratch,
     );
-    if refusal.number != 0 {
+    if let Err(r) = late {
         clear_all(out_knots, out_points, out_weights, scratch);
-        return EditAnswer::Refused(refusal);
+        return Err(r);
     }
     clear(scratch);
     let count = kept(degree, knots, lo, hi);
-    EditAnswer::Formed { degree, count }
+    Ok(FormedCurve { degree, count })
 }

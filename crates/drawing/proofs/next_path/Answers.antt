@@ -13,10 +13,10 @@ use Rattle.knots.specs.Walk.{next_span}
 use Rattle.knots.specs.Curve.{count_of}
 use Rattle.drawing.proofs.next_path.Goals as goal
 
-pub returns-in-Range : goal.returns-in-Range
+pub returns-in-Some : goal.returns-in-Some
 unfolding drawn_of part_line
-returns-in-Range c = let all = let a = c.args in
-    let s = c.in-Range.span in
+returns-in-Some c = let all = let a = c.args in
+    let s = c.in-Some.field-0.span in
     let k = parts_of (count_of a.points.now) in
     let j = part_of k a.part in
     let text : Float → Float → List ℕ = λ lower upper. box_text s j
@@ -28,13 +28,13 @@ returns-in-Range c = let all = let a = c.args in
     ) at c.box_text-length.ensures in
     next-shown (drawn_of a.degree a.knots.now a.points.now a.rational a.weights.now a.part) a.knots.now
     (next_span a.degree (count_of a.points.now) a.knots.now a.«from») 2304 text
-    (sym c.in-Range.is ∙ c.next_range.ensures) refl shown in
+    (sym c.in-Some.is ∙ c.next_range.ensures) refl shown in
     record { value = all.0; shown = all.1 }
 
-pub returns-in-Nothing : goal.returns-in-Nothing
-returns-in-Nothing c = let all = let a = c.args in
+pub returns-in-None : goal.returns-in-None
+returns-in-None c = let all = let a = c.args in
     let long : length a.out.now ≡ 2304 = search rules in
     end-shown (drawn_of a.degree a.knots.now a.points.now a.rational a.weights.now a.part) a.knots.now
     (next_span a.degree (count_of a.points.now) a.knots.now a.«from») 2304
-    (sym c.in-Nothing.is ∙ c.next_range.ensures) c.clear_bytes.ensures long in
+    (sym c.in-None.is ∙ c.next_range.ensures) c.clear_bytes.ensures long in
     record { value = all.0; shown = all.1 }

@@ -1,4 +1,8 @@
-use Rattle.std.proofs.Common.{sym, ap, ◌∙◌}
+use Rattle.std.proofs.Common.{◌≡◌, refl, sym, ap, ◌∙◌}
+use Rattle.std.specs.Prelude.{Option, Some, None}
+use Rattle.std.specs.Option.{ok_or}
+use Rattle.interval.specs.declared.Interval.{Interval}
+use Rattle.interval.specs.declared.DivideError.TheVariants.{Unbounded}
 use lib.Ieee.{of_bits, is_nan}
 use Rattle.doubles.proofs.Extremes.{min-number, max-number}
 use Rattle.interval.specs.Ops.{contains_of, reciprocal_of, made_by}
@@ -25,10 +29,12 @@ most-requires c = sym c.is_nan.ensures ∙ c.if-is_nan.false
 pub above-requires : goal.above-requires
 above-requires c = ap is_nan c.most.ensures ∙ max-number _ _ (sym c.is_nan.ensures ∙ c.if-is_nan.false)
 
-pub returns-in-Made : goal.returns-in-Made
-unfolding of_bits reciprocal_of contains_of
-returns-in-Made c = rw (← c.contains.ensures, c.if-contains.false) (sym (ap made_by (sym (c.new-n.ensures ∙ stepped _ _ _ _ _ _ _ c.number-x.ensures c.least.ensures c.below.ensures c.most.ensures c.above.ensures) ∙ c.in-Made.is)))
+made : (n : Option Interval) → ok_or n Unbounded ≡ made_by n
+made (Some r) = refl
+made None = refl
 
-pub returns-in-Nothing : goal.returns-in-Nothing
+pub returns : goal.returns
 unfolding of_bits reciprocal_of contains_of
-returns-in-Nothing c = rw (← c.contains.ensures, c.if-contains.false) (sym (ap made_by (sym (c.new-n.ensures ∙ stepped _ _ _ _ _ _ _ c.number-x.ensures c.least.ensures c.below.ensures c.most.ensures c.above.ensures) ∙ c.in-Nothing.is)))
+returns c = rw (← c.contains.ensures, c.if-contains.false) (
+    c.ok_or.ensures.value ∙ made c.new.result ∙ ap made_by (c.new.ensures ∙ stepped _ _ _ _ _ _ _ c.number-x.ensures c.least.ensures c.below.ensures c.most.ensures c.above.ensures)
+    )

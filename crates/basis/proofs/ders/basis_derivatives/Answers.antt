@@ -3,7 +3,6 @@
 use mathlib.Core.Path.{sym, ◌∙◌}
 use native.Mathlib.Omega.{arith}
 use lib.ListN.{length}
-use borrow.Author.Tests.{not-true, not-false}
 use Rattle.basis.proofs.Whole.{reached, answer-none, answer-some, cleared-long}
 use Rattle.basis.proofs.ders.basis_derivatives.Goals as goal
 

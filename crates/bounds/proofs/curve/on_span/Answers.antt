@@ -1,47 +1,20 @@
-use native.Mathlib.Omega.{arith}
+use Rattle.std.proofs.lemmas.Result.{err_from_is_err_and}
 use Rattle.bounds.specs.Curve.{span_bound}
 use Rattle.bounds.proofs.curve.on_span.Goals as goal
 
-pub weights_of-requires : goal.weights_of-requires
-weights_of-requires c = omega (arith, c.requires.degree_le_s, c.requires.s_bound)
-
-pub row_of-net-requires-clause-degree_bound : goal.row_of-net-requires-clause-degree_bound
-row_of-net-requires-clause-degree_bound c = c.requires.degree_bound
-
-pub row_of-net-requires-clause-degree_le_span : goal.row_of-net-requires-clause-degree_le_span
-row_of-net-requires-clause-degree_le_span c = c.requires.degree_le_s
-
-pub row_of-net-requires-clause-degree_in_bounds : goal.row_of-net-requires-clause-degree_in_bounds
-row_of-net-requires-clause-degree_in_bounds c = c.requires.degree_in_bounds
-
-pub row_of-net-requires-clause-degree_bound_2 : goal.row_of-net-requires-clause-degree_bound_2
-row_of-net-requires-clause-degree_bound_2 c = omega (
-  arith,
-  c.requires.degree_le_s,
-  c.requires.s_bound,
-)
-
-pub returns-in-Made : goal.returns-in-Made
+pub returns-in_err-w : goal.returns-in_err-w
 unfolding span_bound
-returns-in-Made c = rw (
-  ← c.weights_of.ensures,
-  c.in-Are.is,
-  ← c.new.ensures,
-  c.in-Made.is,
-  ← c.parameter-t.ensures,
-  ← c.point_at-o.ensures,
-  ← c.row_of-net.ensures,
-) c.cartesian_of.ensures
+returns-in_err-w c = let p = err_from_is_err_and c.from_residual.result c.from_residual.ensures.1 in rw (p.1, p.2, ← c.in_err-w.ensures)
 
-pub returns-in-Nothing : goal.returns-in-Nothing
+pub returns-in_default : goal.returns-in_default
 unfolding span_bound
-returns-in-Nothing c = rw (
-  ← c.weights_of.ensures,
-  c.in-Are.is,
-  ← c.new.ensures,
-  c.in-Nothing.is,
-)
+returns-in_default c = rw (← c.in_ok-w.ensures, ← c.new.ensures, c.in_default.is, c.refuse.ensures)
 
-pub returns-in-Refused : goal.returns-in-Refused
+pub returns-in_err-h : goal.returns-in_err-h
 unfolding span_bound
-returns-in-Refused c = rw (← c.weights_of.ensures, c.in-Refused.is)
+returns-in_err-h c = let p = err_from_is_err_and c.from_residual-in_err-h.result c.from_residual-in_err-h.ensures.1 in
+    rw (p.1, p.2, ← c.in_ok-w.ensures, ← c.in-Some.ensures, ← c.parameter-t.ensures, ← c.point_at-o.ensures, ← c.in_err-h.ensures)
+
+pub returns : goal.returns
+unfolding span_bound
+returns c = rw (← c.in_ok-w.ensures, ← c.in-Some.ensures, ← c.parameter-t.ensures, ← c.point_at-o.ensures, ← c.in_ok-h.ensures) c.cartesian_of.ensures

@@ -1,4 +1,3 @@
-use Prim.Native.Nat.{◌+◌, ◌-◌}
 use lib.ListN.{length}
 use Rattle.ends.specs.Flat.{flat_of}
 use Rattle.bounds.specs.Start.{start_at}
@@ -7,6 +6,3 @@ use Rattle.bounds.proofs.flat.fill_flat.Given as goal
 
 abbrev pub invariant-loop-m : goal.invariant-loop-m
 invariant-loop-m l = InFlat (λ i. flat_of (start_at l.points l.weights l.rational l.base l.o l.r i)) l.degree (length l.initial.net) l.net l.m
-
-abbrev pub decreases-loop-m : goal.decreases-loop-m
-decreases-loop-m l = l.degree + 1 - l.m

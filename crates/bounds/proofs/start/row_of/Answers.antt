@@ -1,17 +1,11 @@
+use Rattle.std.proofs.lemmas.Result.{err_from_is_err_and}
 use Rattle.bounds.specs.Start.{row_of}
 use Rattle.bounds.proofs.start.row_of.Goals as goal
 
-pub row_by-requires : goal.row_by-requires
-row_by-requires c = record { degree_bound = c.requires.degree_bound; degree_le_span = c.requires.degree_le_span; degree_in_bounds = c.requires.degree_in_bounds; degree_bound_2 = c.requires.degree_bound_2 }
-
-pub returns-in-Is : goal.returns-in-Is
+pub returns-in_err-r : goal.returns-in_err-r
 unfolding row_of
-returns-in-Is c = rw (← c.point.ensures, ← c.reciprocal.ensures, c.in-Is.is) c.row_by.ensures
+returns-in_err-r c = let p = err_from_is_err_and c.from_residual.result c.from_residual.ensures.1 in rw (p.1, p.2, ← c.point.ensures, ← c.in_err-r.ensures)
 
-pub returns-in-HoldsZero : goal.returns-in-HoldsZero
+pub returns : goal.returns
 unfolding row_of
-returns-in-HoldsZero c = rw (← c.point.ensures, ← c.reciprocal.ensures, c.in-HoldsZero.is)
-
-pub returns-in-Unbounded : goal.returns-in-Unbounded
-unfolding row_of
-returns-in-Unbounded c = rw (← c.point.ensures, ← c.reciprocal.ensures, c.in-Unbounded.is)
+returns c = rw (← c.point.ensures, ← c.in_ok-r.ensures) c.row_by.ensures

@@ -1,13 +1,9 @@
 -- The number times what is left of the power stays the same.
 -- Assumes nothing.
 use mathlib.Core.Path.{◌≡◌}
-use Prim.Native.Nat.{◌*◌, ◌^◌}
-use lib.ListN.{length}
+use Prim.Native.Nat.{◌-◌, ◌*◌, ◌^◌}
 use Rattle.decimals.specs.Figures.{number, Figures}
 use Rattle.decimals.proofs.figures.double.Given as goal
 
-abbrev pub invariant-loop-left : goal.invariant-loop-left
-invariant-loop-left l = (Figures l.run) × (length l.run ≡ length l.initial.run) × (number l.run * 2 ^ l.left ≡ number l.initial.run * 2 ^ l.k)
-
-abbrev pub decreases-loop-left : goal.decreases-loop-left
-decreases-loop-left l = l.left
+abbrev pub invariant-loop : goal.invariant-loop
+invariant-loop l = (Figures l.run) × (number l.run * 2 ^ (l.k - 32 * l.counter) ≡ number l.initial.run * 2 ^ l.k)

@@ -13,10 +13,10 @@ returns-then-size-gt9218868437227405312 c = let a = c.args in
     let good = c.well_formed in
     let fit : T (fits binary64 a.x) = subst T (sym good.1.1.1.0.1) tt in
     let f = nan_is a.up a.x fit _ c.bits_of-bits.ensures c.if-size-gt9218868437227405312.true in
-    let w = c.put_word.ensures in
+    let w = c.store.ensures.stored in
     rw f (record {
-      out_after = w.out_after;
-      value = w.value;
+      out_after = w.run;
+      value = w.end;
       upper_bound = omega arith;
     })
 
@@ -29,10 +29,10 @@ returns-then-size-eq9218868437227405312 c = let a = c.args in
     a.up a.x fit _ c.bits_of-bits.ensures
     c.if-size-eq9218868437227405312.true in
     let m = c.put_minus-next.ensures in
-    let w = c.put_word-then-size-eq9218868437227405312.ensures in
+    let w = c.store-then-size-eq9218868437227405312.ensures.stored in
     let r =
     inf-stored
-    a.out.now a.at (leb 0x8000000000000000 c.bits_of-bits.result) m.out_after m.value m.upper_bound w.out_after w.value in
+    a.out.now a.at (leb 0x8000000000000000 c.bits_of-bits.result) m.out_after m.value m.upper_bound w.run w.end in
     rw f (record {
       out_after = r.0;
       value = r.1;

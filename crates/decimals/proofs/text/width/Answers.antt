@@ -1,22 +1,15 @@
--- Digits are counted until one is left.
+-- A number has one digit more than its whole logarithm.
 -- Assumes nothing.
+use mathlib.Core.Path.{sym}
+use native.Mathlib.Nat.{pow-succ'}
+use native.Mathlib.Numerals.{add-one}
 use native.Mathlib.Omega.{arith}
-use borrow.Author.Rules.{rules}
-use Rattle.decimals.proofs.Widths.{counting-start, counting-step, counting-end}
+use Rattle.decimals.proofs.Places.{width_is}
 use Rattle.decimals.proofs.text.width.Goals as goal
 
-pub loop-rest-init : goal.loop-rest-init
-loop-rest-init c = counting-start _ (search rules)
+pub returns-then-n-lt10-clause-value : goal.returns-then-n-lt10-clause-value
+returns-then-n-lt10-clause-value c = sym (width_is 19 0 c.args.n (omega arith) (omega arith) (λ h. absurd (omega arith)))
 
-pub overflow_add-w : goal.overflow_add-w
-overflow_add-w c = omega (arith, c.loop-rest.invariant.spent)
-
-pub loop-rest-preserved : goal.loop-rest-preserved
-loop-rest-preserved c = counting-step c.loop-rest.invariant c.loop-rest-test.true
-
-pub returns : goal.returns
-returns c = let inv = c.loop-rest.invariant in
-    record {
-      value = counting-end inv c.loop-rest-test.false;
-      upper_bound = omega (arith, inv.spent);
-    }
+pub returns-else-n-lt10-clause-value : goal.returns-else-n-lt10-clause-value
+returns-else-n-lt10-clause-value c = let log = c.ilog10.ensures in
+    rw add-one (sym (width_is 19 c.ilog10.result c.args.n (omega arith) (rw pow-succ' log.next_power_gt) (λ _. log.power_le)))

@@ -1,6 +1,6 @@
 -- `drawing::extremes::extreme` meets its contract.
 -- Assumes nothing.
-use Prim.Native.Nat.{◌-◌, ◌/◌}
+use Prim.Native.Nat.{◌/◌}
 use mathlib.Core.Path.{◌≡◌, ◌∙◌, ap}
 use mathlib.Core.Bool.{cond}
 use native.Mathlib.Omega.{arith}
@@ -14,18 +14,16 @@ use Rattle.runs.specs.Coordinate.{coordinate}
 use Rattle.drawing.proofs.extremes.extreme.Goals as goal
 
 pub loop-i-init : goal.loop-i-init
-loop-i-init c = (omega arith, c.start-found.ensures ∙ extreme-none c.args.up (λ j. coordinate c.args.points.now j c.args.k))
+loop-i-init c = c.start-found.ensures ∙ extreme-none c.args.up (λ j. coordinate c.args.points.now j c.args.k)
 
 pub loop-i-preserved : goal.loop-i-preserved
 loop-i-preserved c = let a = c.args in
-    let l = c.loop-i in (
-      omega arith,
-      c.outer-found.ensures
-          ∙ ap₂ (λ (y x : Float). cond a.up (fmax y x) (fmin y x)) l.invariant.1 c.coordinate_at.ensures
-          ∙ extreme-more a.up (λ j. coordinate a.points.now j a.k) l.i,
-    )
+    let l = c.loop-i in
+    c.outer-found.ensures
+    ∙ ap₂ (λ (y x : Float). cond a.up (fmax y x) (fmin y x)) l.invariant c.coordinate_at.ensures
+    ∙ extreme-more a.up (λ j. coordinate a.points.now j a.k) l.i
 
 pub returns : goal.returns
 unfolding least_of greatest_of
 returns c = let a = c.args in
-    let e : c.loop-i.i ≡ length a.points.now / 3 = omega arith in c.loop-i.invariant.1 ∙ ap (extreme_from a.up (λ j. coordinate a.points.now j a.k)) e
+    let e : c.loop-i.i ≡ length a.points.now / 3 = omega arith in c.loop-i.invariant ∙ ap (extreme_from a.up (λ j. coordinate a.points.now j a.k)) e

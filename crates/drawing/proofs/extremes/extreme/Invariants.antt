@@ -1,13 +1,9 @@
 -- `drawing::extremes::extreme` meets its contract.
 -- Assumes nothing.
-use Prim.Native.Nat.{◌-◌, ◌≤◌}
 use mathlib.Core.Path.{◌≡◌}
 use Rattle.drawing.proofs.Outermost.{extreme_from}
 use Rattle.runs.specs.Coordinate.{coordinate}
 use Rattle.drawing.proofs.extremes.extreme.Given as goal
 
 abbrev pub invariant-loop-i : goal.invariant-loop-i
-invariant-loop-i l = (l.i ≤ l.n) × (l.found ≡ extreme_from l.up (λ j. coordinate l.points j l.k) l.i)
-
-abbrev pub decreases-loop-i : goal.decreases-loop-i
-decreases-loop-i l = l.n - l.i
+invariant-loop-i l = l.found ≡ extreme_from l.up (λ j. coordinate l.points j l.k) l.i

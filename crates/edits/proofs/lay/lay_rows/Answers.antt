@@ -1,20 +1,13 @@
 -- `edits::lay::lay_rows` meets its contract.
 -- Assumes nothing.
-use Prim.Native.Nat.{◌-◌, ◌/◌}
+use Prim.Native.Nat.{◌/◌}
 use lib.ListN.{length}
 use native.Mathlib.Omega.{arith}
-use Rattle.edits.proofs.LayLoop.{lay-start, lay-more, lay-end}
+use Rattle.edits.proofs.LayLoop.{lay-more}
 use mathlib.Core.Path.{◌∙◌, ap₂}
 use Rattle.edits.specs.Passes.{kept_row}
 use Rattle.edits.proofs.RowStores.{row_put-done}
 use Rattle.edits.proofs.lay.lay_rows.Goals as goal
-
-pub loop-i-init : goal.loop-i-init
-loop-i-init c = let a = c.args in
-    lay-start (length a.points.now / 3) a.points.now a.rational a.weights.now a.rows.now
-
-pub put_whole-requires : goal.put_whole-requires
-put_whole-requires c = let l = c.loop-i.invariant.done.long in omega arith
 
 pub loop-i-preserved : goal.loop-i-preserved
 loop-i-preserved c = let a = c.args in
@@ -24,16 +17,9 @@ loop-i-preserved c = let a = c.args in
     c.loop-i-test.true _
     (c.kept_row-q.ensures
     ∙ ap₂ kept_row c.point_at.ensures c.weight_at.ensures)
-    _ c.rows-1.given
+    _ c.put_whole.auto.rows
     (row_put-done
     lp.i _ _
     (let t = c.loop-i-test.true in
     let p = c.requires.points_in_bounds_2 in let l = lp.invariant.done.long in omega arith)
     a.rational _ c.put_whole.ensures)
-
-pub shape_of-rows : goal.shape_of-rows
-shape_of-rows c = c.loop-i.invariant.done.long
-
-pub returns : goal.returns
-returns c = let a = c.args in
-    lay-end (length a.points.now / 3) a.points.now a.rational a.weights.now a.rows.now _ c.loop-i.i c.loop-i.invariant c.loop-i-test.false

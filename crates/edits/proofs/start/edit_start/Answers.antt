@@ -1,30 +1,29 @@
-use mathlib.Core.Path.{◌∙◌, sym, ap}
+-- `edits::start::edit_start` meets its contract.
+-- Assumes nothing.
+use Rattle.std.proofs.Common.{◌∙◌, sym, ap}
+use Rattle.std.specs.Prelude.{Err}
+use Rattle.std.proofs.lemmas.Result.{err_from_is_err_and}
 use native.Mathlib.Omega.{arith}
-use borrow.Author.Tests.{not-true, not-false}
-use Rattle.knots.specs.Refusal.{refuse}
-use Rattle.knots.specs.declared.refusal.Refusal.{Refusal}
+use Rattle.knots.specs.Refusal.{checked}
+use Rattle.knots.proofs.Refusals.{let_by, skip, refused-first}
 use Rattle.knots.proofs.Curves.{valid-curve}
-use Rattle.edits.proofs.Starting.{edit-early, edit-17, edit-none}
+use Rattle.edits.specs.Start.{edit_start}
 use Rattle.edits.proofs.start.edit_start.Goals as goal
 
-pub returns-then-curve-ne0 : goal.returns-then-curve-ne0
-returns-then-curve-ne0 c = let a = c.args in
-    edit-early a.degree a.knots.now a.points.now a.rational a.weights.now _ c.curve_refusal-curve.ensures c.if-curve-ne0.true
+pub returns-in_err-curve_refusal : goal.returns-in_err-curve_refusal
+unfolding edit_start
+returns-in_err-curve_refusal c = let p = err_from_is_err_and c.from_residual.result c.from_residual.ensures.1 in
+    rw (p.1, p.2) (refused-first _ _ c.in_err-curve_refusal.ensures)
 
 pub clamped_ends-requires : goal.clamped_ends-requires
 clamped_ends-requires c = let a = c.args in
-    let v = valid-curve a.degree a.knots.now a.points.now a.rational a.weights.now
-    (sym (ap (λ (r : Refusal). r.number) c.curve_refusal-curve.ensures) ∙ c.if-curve-ne0.false) in
+    let v = valid-curve a.degree a.knots.now a.points.now a.rational a.weights.now (let_by _ c.in_ok-curve_refusal.ensures) in
     let l = v.knots.long in let k = v.knots.count in (k, omega arith)
 
 pub returns-then-not-clamped_ends : goal.returns-then-not-clamped_ends
-returns-then-not-clamped_ends c = let a = c.args in
-    edit-17
-    a.degree a.knots.now a.points.now a.rational a.weights.now _ c.curve_refusal-curve.ensures c.if-curve-ne0.false _
-    c.clamped_ends.ensures _ c.if-not-clamped_ends.true c.refuse.ensures
+unfolding edit_start checked
+returns-then-not-clamped_ends c = simp (skip _ c.in_ok-curve_refusal.ensures, sym c.clamped_ends.ensures ∙ c.if-not-clamped_ends.true) (ap Err c.refuse.ensures)
 
 pub returns : goal.returns
-returns c = let a = c.args in
-    edit-none
-    a.degree a.knots.now a.points.now a.rational a.weights.now _ c.curve_refusal-curve.ensures c.if-curve-ne0.false _
-    c.clamped_ends.ensures _ c.if-not-clamped_ends.false c.refuse-2.ensures
+unfolding edit_start checked
+returns c = simp (skip _ c.in_ok-curve_refusal.ensures, sym c.clamped_ends.ensures ∙ c.if-not-clamped_ends.false)

@@ -1,22 +1,28 @@
-use mathlib.Core.Path.{sym, ◌∙◌, ap}
+-- `edits::work::front_refusal` meets its contract.
+-- Assumes nothing.
+use Rattle.std.proofs.Common.{◌∙◌, ap, ℕ, ◌+◌, ◌*◌}
+use Rattle.std.proofs.lemmas.Result.{err_from_is_err_and}
 use native.Mathlib.Omega.{arith}
-use lib.ListN.{length, length-take}
-use Rattle.knots.specs.declared.refusal.Refusal.{Refusal}
+use lib.ListN.{length, take, length-take}
+use Rattle.knots.specs.Refusal.{checked}
+use Rattle.knots.specs.Curve.{formed_refusal}
+use Rattle.knots.proofs.Refusals.{let_by, skip, refused-first}
+use Rattle.edits.specs.Work.{front_refusal}
 use Rattle.edits.proofs.Starting.{out-open}
-use Rattle.edits.proofs.WorkCalls.{front-short, front-formed}
 use borrow.Author.Rules.{rules}
 use Rattle.edits.proofs.work.front_refusal.Goals as goal
 
-pub returns-then-room-ne0 : goal.returns-then-room-ne0
-returns-then-room-ne0 c = let a = c.args in
-    front-short a.p a.n a.rational a.knots.now a.points.now a.weights.now _ c.out_room-room.ensures c.if-room-ne0.true
+pub returns-in_err-out_room : goal.returns-in_err-out_room
+unfolding front_refusal
+returns-in_err-out_room c = let p = err_from_is_err_and c.from_residual.result c.from_residual.ensures.1 in
+    rw (p.1, p.2) (refused-first _ _ c.in_err-out_room.ensures)
 
 pub overflow_add-a : goal.overflow_add-a
 overflow_add-a c = let a = c.args in
     let o =
     out-open
     a.p a.n a.rational (length a.knots.now) (length a.points.now) (length a.weights.now)
-    (sym (ap (λ (r : Refusal). r.number) c.out_room-room.ensures) ∙ c.if-room-ne0.false) in
+    (let_by _ c.in_ok-out_room.ensures) in
     let x = o.knots in
     let y = o.points in let z = o.weights in let g = c.well_formed in let f = c.ranges in search rules
 
@@ -25,7 +31,7 @@ overflow_add-a-2 c = let a = c.args in
     let o =
     out-open
     a.p a.n a.rational (length a.knots.now) (length a.points.now) (length a.weights.now)
-    (sym (ap (λ (r : Refusal). r.number) c.out_room-room.ensures) ∙ c.if-room-ne0.false) in
+    (let_by _ c.in_ok-out_room.ensures) in
     let x = o.knots in
     let y = o.points in let z = o.weights in let g = c.well_formed in let f = c.ranges in search rules
 
@@ -34,7 +40,7 @@ overflow_mul-b c = let a = c.args in
     let o =
     out-open
     a.p a.n a.rational (length a.knots.now) (length a.points.now) (length a.weights.now)
-    (sym (ap (λ (r : Refusal). r.number) c.out_room-room.ensures) ∙ c.if-room-ne0.false) in
+    (let_by _ c.in_ok-out_room.ensures) in
     let x = o.knots in
     let y = o.points in let z = o.weights in let g = c.well_formed in let f = c.ranges in search rules
 
@@ -43,7 +49,7 @@ slice_bounds-formed_refusal-end c = let a = c.args in
     let o =
     out-open
     a.p a.n a.rational (length a.knots.now) (length a.points.now) (length a.weights.now)
-    (sym (ap (λ (r : Refusal). r.number) c.out_room-room.ensures) ∙ c.if-room-ne0.false) in
+    (let_by _ c.in_ok-out_room.ensures) in
     let x = o.knots in
     let y = o.points in
     let z = o.weights in
@@ -54,7 +60,7 @@ slice_bounds-formed_refusal-end-2 c = let a = c.args in
     let o =
     out-open
     a.p a.n a.rational (length a.knots.now) (length a.points.now) (length a.weights.now)
-    (sym (ap (λ (r : Refusal). r.number) c.out_room-room.ensures) ∙ c.if-room-ne0.false) in
+    (let_by _ c.in_ok-out_room.ensures) in
     let x = o.knots in
     let y = o.points in
     let z = o.weights in
@@ -66,7 +72,7 @@ slice_bounds-formed_refusal-end-3 c = let a = c.args in
     let o =
     out-open
     a.p a.n a.rational (length a.knots.now) (length a.points.now) (length a.weights.now)
-    (sym (ap (λ (r : Refusal). r.number) c.out_room-room.ensures) ∙ c.if-room-ne0.false) in
+    (let_by _ c.in_ok-out_room.ensures) in
     let x = o.knots in
     let y = o.points in
     let z = o.weights in
@@ -74,7 +80,9 @@ slice_bounds-formed_refusal-end-3 c = let a = c.args in
     let f = c.ranges in let e = c.given_count-c.ensures in simp length-take (omega arith)
 
 pub returns : goal.returns
+unfolding front_refusal
 returns c = let a = c.args in
-    front-formed
-    a.p a.n a.rational a.knots.now a.points.now a.weights.now _ c.out_room-room.ensures
-    c.if-room-ne0.false _ c.given_count-c.ensures _ c.formed_refusal.ensures
+    simp
+    (skip _ c.in_ok-out_room.ensures)
+    (c.formed_refusal.ensures
+    ∙ ap (λ (i : ℕ). checked (formed_refusal a.p a.n (take (a.n + a.p + 1) a.knots.now) (take (a.n * 3) a.points.now) a.rational (take i a.weights.now))) c.given_count-c.ensures)

@@ -1,8 +1,6 @@
 -- `elevation::elevate::form` meets its contract.
 -- Assumes nothing.
-use mathlib.Core.Path.{ap}
 use lib.ListN.{length}
-use Rattle.knots.specs.declared.refusal.Refusal.{Refusal}
 use Rattle.elevation.proofs.Outcomes.{copy-ready, copied, raised-up, start-ready, meets-moved}
 use Rattle.elevation.proofs.elevate.form.Goals as goal
 
@@ -16,8 +14,8 @@ copy_curve-requires c = let all = let a = c.args in
 pub returns-then-raised-degree : goal.returns-then-raised-degree
 returns-then-raised-degree c = let a = c.args in
     copied
-    a.degree a.knots.now a.points.now a.rational a.weights.now a.raised (length a.out_knots.now) (length a.out_points.now) (length a.out_weights.now) _ _ _ _
-    c.if-raised-degree.true (ap (λ (x : Refusal). x.number) c.refuse.ensures)
+    a.degree a.knots.now a.points.now a.rational a.weights.now a.raised (length a.out_knots.now) (length a.out_points.now) (length a.out_weights.now) _ _ _
+    c.if-raised-degree.true
     c.copy_curve.ensures
 
 pub raise_into-requires : goal.raise_into-requires

@@ -1,22 +1,27 @@
 -- `elevation::into::raise_extracted` meets its contract.
 -- Assumes nothing.
+use Rattle.std.proofs.lemmas.Result.{err_from_is_err_and}
 use Prim.Native.Nat.{ℕ, ◌+◌, ◌*◌, ◌≤◌}
 use native.Mathlib.Omega.{arith}
 use mathlib.Core.Path.{sym, ◌∙◌, subst, ap}
 use lib.ListN.{length}
+use Rattle.knots.proofs.Refusals.{let_by}
 use Rattle.edits.specs.Rows.{given}
 use Rattle.elevation.specs.Breaks.{breaks_of}
 use Rattle.elevation.proofs.RaisedCurve.{elevated-is, some-points, lift-stop, lift-joined}
 use Rattle.edits.specs.Control.{vector_of}
 use Rattle.elevation.proofs.into.raise_extracted.Goals as goal
 
-pub returns-then-lifted-ne0 : goal.returns-then-lifted-ne0
-returns-then-lifted-ne0 c = let a = c.args in
+pub returns-in_err-lift_in : goal.returns-in_err-lift_in
+returns-in_err-lift_in c = let p = err_from_is_err_and c.from_residual.result c.from_residual.ensures.1 in
+    let a = c.args in
     let q = c.requires in
-    lift-stop
+    rw
+    (p.1, p.2)
+    (lift-stop
     a.p a.e a.n (omega (arith, q.p_lt_n.3)) a.knots.now (breaks_of a.p a.n a.knots.now) a.rational a.m q.m_value.0 a.work.now q.m_value.1 _
-    c.scale_in-scale.ensures _ c.lift_in-lifted.ensures.value a.out_knots.now a.out_points.now a.out_weights.now
-    _ _ _ c.if-lifted-ne0.true
+    c.scale_in-scale.ensures a.out_knots.now a.out_points.now a.out_weights.now
+    _ _ _ _ c.in_err-lift_in.ensures.value)
 
 pub elevated_count-count-requires : goal.elevated_count-count-requires
 elevated_count-count-requires c = let q = c.requires in
@@ -47,13 +52,9 @@ returns c = let a = c.args in
     let q = c.requires in
     lift-joined
     a.p a.e a.n (omega (arith, q.p_lt_n.3)) a.knots.now (breaks_of a.p a.n a.knots.now) a.rational a.m q.m_value.0 a.work.now q.m_value.1 _
-    c.scale_in-scale.ensures _
-    c.lift_in-lifted.ensures.value a.out_knots.now a.out_points.now
-    a.out_weights.now _ _ _ c.if-lifted-ne0.false _
-    c.lift_in-lifted.ensures.work_after
+    c.scale_in-scale.ensures a.out_knots.now a.out_points.now
+    a.out_weights.now _ _ _ (let_by _ c.in_ok-lift_in.ensures.value) _
+    c.in_ok-lift_in.ensures.work_after
     (some-points a.p a.m (breaks_of a.p a.n a.knots.now) q.m_value.0) _
-    (c.vector_of-o.ensures
-    ∙ ap
-    vector_of
-    c.row_at.ensures)
+    (c.vector_of-o.ensures ∙ ap vector_of c.row_at.ensures)
     _ c.join.ensures

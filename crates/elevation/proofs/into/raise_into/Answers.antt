@@ -1,5 +1,6 @@
 -- `elevation::into::raise_into` meets its contract.
 -- Assumes nothing.
+use Rattle.std.proofs.lemmas.Result.{err_from_is_err_and}
 use Prim.Native.Nat.{◌+◌, ◌*◌}
 use native.Mathlib.Omega.{arith}
 use mathlib.Core.Path.{refl}
@@ -49,41 +50,42 @@ overflow_mul-a c = let a = c.args in
     c.count_breaks-met.ensures in
     let x = q.0 in let y = q.1 in let z = q.2 in search rules
 
-pub returns-then-laid-ne0 : goal.returns-then-laid-ne0
-returns-then-laid-ne0 c = let a = c.args in
-    absurd
-    (c.if-laid-ne0.true
-    (lay-none
+pub returns-in_err-lay_curve : goal.returns-in_err-lay_curve
+returns-in_err-lay_curve c = let a = c.args in
+    let no =
+    lay-none
     a.degree a.knots.now a.points.now a.rational a.weights.now a.raised (length a.out_knots.now) (length a.out_points.now) (length a.out_weights.now)
     (length a.work.now) c.requires.work_value
     c.count_breaks-met.result.breaks c.count_breaks-met.result.full
     c.count_breaks-met.ensures
     ((a.degree + 1) * (c.count_breaks-met.result.breaks + 1)) refl a.work.now refl _
-    c.lay_curve-laid.ensures.value))
+    c.in_err-lay_curve.ensures.value in
+    cc
 
-pub extract-refusal-requires : goal.extract-refusal-requires
-extract-refusal-requires c = let all = let a = c.args in
+pub extract-requires : goal.extract-requires
+extract-requires c = let all = let a = c.args in
     extract-ready
     a.degree a.knots.now a.points.now a.rational a.weights.now a.raised (length a.out_knots.now) (length a.out_points.now) (length a.out_weights.now)
     (length a.work.now) c.requires.work_value
     c.count_breaks-met.result.breaks c.count_breaks-met.result.full
     c.count_breaks-met.ensures
     ((a.degree + 1) * (c.count_breaks-met.result.breaks + 1)) refl a.work.now refl _
-    c.lay_curve-laid.ensures.work_after
+    c.in_ok-lay_curve.ensures.work_after
     _ (omega arith) in
     record { p_lt_n = all.0; valid_knots = all.1.0; knots_bound = all.1.1.0; p_in_bounds = all.1.1.1 }
 
-pub returns-then-refusal-ne0 : goal.returns-then-refusal-ne0
-returns-then-refusal-ne0 c = let a = c.args in
-    into-stop
+pub returns-in_err-extract : goal.returns-in_err-extract
+returns-in_err-extract c = let p = err_from_is_err_and c.from_residual-in_err-extract.result c.from_residual-in_err-extract.ensures.1 in
+    let a = c.args in
+    rw
+    (p.1, p.2)
+    (into-stop
     a.degree a.knots.now a.points.now a.rational a.weights.now a.raised (length a.out_knots.now) (length a.out_points.now) (length a.out_weights.now)
-    (length a.work.now)
-    c.requires.work_value
-    c.count_breaks-met.result.breaks
-    c.count_breaks-met.result.full
+    (length a.work.now) c.requires.work_value
+    c.count_breaks-met.result.breaks c.count_breaks-met.result.full
     c.count_breaks-met.ensures
     ((a.degree + 1) * (c.count_breaks-met.result.breaks + 1)) refl a.work.now refl _
-    c.lay_curve-laid.ensures.work_after _ _ c.extract-refusal.ensures c.if-refusal-ne0.true _ _ _
+    c.in_ok-lay_curve.ensures.work_after _ _ c.in_err-extract.ensures _ refl _ _ _)
 
 pub raise_extracted-requires : goal.raise_extracted-requires
 raise_extracted-requires c = let all = let b = c.count_breaks-met in
@@ -96,7 +98,7 @@ raise_extracted-requires c = let all = let b = c.count_breaks-met in
     b.result.full
     b.ensures
     ((a.degree + 1) * (b.result.breaks + 1))
-    refl a.work.now refl _ c.lay_curve-laid.ensures.work_after q.fact _ (omega arith) in
+    refl a.work.now refl _ c.in_ok-lay_curve.ensures.work_after q.fact _ (omega arith) in
     record { p_lt_n = all.0; m_value = all.1.0; e_in_bounds = all.1.1.0; knots_in_bounds = all.1.1.1.0; knots_in_bounds_2 = all.1.1.1.1 }
 
 pub returns : goal.returns
@@ -110,7 +112,7 @@ returns c = let a = c.args in
     c.count_breaks-met.ensures
     ((a.degree + 1) * (c.count_breaks-met.result.breaks + 1))
     refl a.work.now refl _
-    c.lay_curve-laid.ensures.work_after
-    _ _ c.extract-refusal.ensures
-    c.if-refusal-ne0.false a.out_knots.now a.out_points.now a.out_weights.now _ _ _ _
+    c.in_ok-lay_curve.ensures.work_after
+    _ _ c.in_ok-extract.ensures
+    refl a.out_knots.now a.out_points.now a.out_weights.now _ _ _ _
     c.raise_extracted.ensures q.out_knots_value.0 q.out_knots_value.1 q.out_knots_value.2

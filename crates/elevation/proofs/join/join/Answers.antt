@@ -1,9 +1,9 @@
 use Rattle.edits.proofs.WorkCalls.{front-is}
-use mathlib.Core.Path.{◌∙◌, subst}
+use mathlib.Core.Path.{◌∙◌, ap, subst}
 use Prim.Native.Nat.{ℕ, ◌*◌, ◌≤◌}
 use native.Mathlib.Omega.{arith}
 use lib.ListN.{length}
-use borrow.Author.Tests.{not-true, not-false}
+use Rattle.knots.specs.Refusal.{checked}
 use Rattle.edits.specs.Rows.{given}
 use Rattle.edits.specs.Passes.{row_of}
 use Rattle.elevation.specs.Breaks.{breaks_of}
@@ -48,4 +48,4 @@ returns c = let a = c.args in
     c.out_knots-1.given in
     let y = c.out_points-1.given in let z = c.out_weights-1.given in
     let i = q.e_in_bounds in let j = q.count_in_bounds in let k = q.count_in_bounds_2 in c.front_refusal.ensures
-    ∙ front-is a.e a.count a.rational _ _ _ (omega arith) (omega arith) (omega arith))
+    ∙ ap checked (front-is a.e a.count a.rational _ _ _ (omega arith) (omega arith) (omega arith)))

@@ -7,14 +7,6 @@ use Rattle.elevation.proofs.raise.raise_once.Goals as goal
 pub loop-i-init : goal.loop-i-init
 loop-i-init c = raise-start c.args.d c.args.rows.now c.requires.d_in_bounds
 
-pub raise_at-q-requires : goal.raise_at-q-requires
-raise_at-q-requires c = let q = c.requires in
-    let U = c.loop-i.invariant.upto in let L = c.loop-i.invariant.long in let l = q.d_in_bounds in
-    record {
-      d_bound = (q.d_bound, omega arith, U);
-      i_in_bounds = omega arith;
-    }
-
 pub loop-i-preserved : goal.loop-i-preserved
 loop-i-preserved c = let a = c.args in
     let l = c.loop-i in
@@ -26,5 +18,5 @@ pub returns : goal.returns
 returns c = let a = c.args in
     let l = c.loop-i in
     raise-end
-    a.d a.rows.now c.requires.d_in_bounds l.rows l.i l.invariant c.loop-i-test.false _
+    a.d a.rows.now c.requires.d_in_bounds l.rows l.i l.invariant (let t = c.loop-i-test.false in omega arith) _
     c.row_at-end.ensures _ c.put_row-2.ensures

@@ -1,59 +1,30 @@
 -- `elevation::walk::count_breaks` meets its contract.
 -- Assumes nothing.
 use borrow.Author.Rules.{rules}
+use borrow.Author.Tests.{tests}
 use native.Mathlib.Omega.{arith}
-use Prim.Native.Nat.{◌+◌, ◌-◌, ℕ}
 use mathlib.Core.Path.{◌∙◌, ap}
-use mathlib.Core.Bool.{Bool}
-use Rattle.edits.specs.Counts.{bit}
-use Rattle.elevation.specs.Breaks.{breaks_of}
-use Rattle.elevation.proofs.BreakWalks.{left, left-none, breaks-few, full-le, walk-all, count-start, count-more, count-end}
-use Rattle.edits.proofs.CountLoop.{bit_le}
+use mathlib.Core.Logic.{inl}
+use mathlib.Core.List.{List}
+use lib.ListN.{length}
+use lib.Ieee.{Float}
+use Rattle.std.proofs.lemmas.Iterator.Consumers.{YieldsList-from_first, YieldsList-from_filter, count_from_yields_List}
+use Rattle.elevation.specs.Breaks.{is_full, breaks_of}
+use Rattle.elevation.specs.Passes.{breaks_left}
+use Rattle.elevation.proofs.BreakWalks.{breaks-few, full-kept}
 use Rattle.elevation.proofs.walk.count_breaks.Goals as goal
 
-pub next_break-k-requires : goal.next_break-k-requires
-next_break-k-requires c = (omega arith, omega arith, c.requires.1)
-
-pub loop-k-init : goal.loop-k-init
-loop-k-init c = (
-  c.next_break-k.ensures.place,
-  count-start
-      c.args.p c.args.knots.now (breaks_of c.args.p c.args.n c.args.knots.now)
-      (left c.args.knots.now c.args.n c.next_break-k.result)
-      (walk-all c.args.p c.args.n c.args.knots.now c.next_break-k.result c.next_break-k.ensures),
-)
-
-pub overflow_add-full : goal.overflow_add-full
-overflow_add-full c = let a = c.args in
-    let l = c.loop-k in
-    let w = breaks-few a.p a.n a.knots.now c.requires.0 in
-    let v = full-le a.p a.knots.now (breaks_of a.p a.n a.knots.now) in
-    let x = l.invariant.1.breaks in let y = l.invariant.1.full in let b = bit_le c.is_full.result in let r = c.bit_of-full.ensures in search rules
-
-pub overflow_add-breaks : goal.overflow_add-breaks
-overflow_add-breaks c = let a = c.args in
-    let l = c.loop-k in
-    let w = breaks-few a.p a.n a.knots.now c.requires.0 in
-    let v = full-le a.p a.knots.now (breaks_of a.p a.n a.knots.now) in let x = l.invariant.1.breaks in let y = l.invariant.1.full in search rules
-
-pub next_break-k-requires-in-loop-k : goal.next_break-k-requires-in-loop-k
-next_break-k-requires-in-loop-k c = (omega arith, omega arith, c.requires.1)
-
-pub loop-k-smaller : goal.loop-k-smaller
-loop-k-smaller c = let f = c.next_break-k-in-loop-k.ensures.from in omega arith
-
-pub loop-k-preserved : goal.loop-k-preserved
-loop-k-preserved c = let a = c.args in
-    let l = c.loop-k in (
-      c.next_break-k-in-loop-k.ensures.place,
-      count-more
-          a.p a.knots.now (breaks_of a.p a.n a.knots.now) a.n l.k c.next_break-k-in-loop-k.result l.breaks l.full _ l.invariant.1 l.invariant.0
-          c.loop-k-test.true c.next_break-k-in-loop-k.ensures
-          (ap (λ (x : ℕ). l.full + x) (c.bit_of-full.ensures ∙ ap (λ (b : Bool). bit b) c.is_full.ensures)),
-    )
+pub count-breaks-requires-clause-fits : goal.count-breaks-requires-clause-fits
+count-breaks-requires-clause-fits c = let w = breaks-few c.args.p c.args.n c.args.knots.now c.requires.0 in
+    let e = ap (λ (x : List Float). length x) c.new.ensures in
+    let f = c.ranges.n.fits in
+    inl (omega arith)
 
 pub returns : goal.returns
 returns c = let a = c.args in
-    count-end
-    a.p a.knots.now (breaks_of a.p a.n a.knots.now) (left a.knots.now a.n c.loop-k.k) c.loop-k.breaks c.loop-k.full c.loop-k.invariant.1
-    (left-none a.knots.now a.n c.loop-k.k c.loop-k-test.false)
+    let bs = breaks_of a.p a.n a.knots.now in
+    record {
+      breaks = count_from_yields_List _ _ c.count-breaks.ensures.ran (YieldsList-from_first (λ (x : Float). x) breaks_left bs c.new.ensures);
+      full = count_from_yields_List _ _ c.count-full.ensures.ran (YieldsList-from_filter _ (is_full a.p a.knots.now) (YieldsList-from_first (λ (x : Float). x) breaks_left bs (ap breaks_left c.filter.ensures.source ∙ c.new-2.ensures)) c.filter.ensures.closure (λ x r q k. search (rules, tests)))
+          ∙ full-kept a.p a.knots.now bs;
+    }

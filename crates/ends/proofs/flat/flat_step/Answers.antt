@@ -1,16 +1,14 @@
 use lib.Ieee.{of_bits}
+use Rattle.std.proofs.lemmas.Result.{err_from_is_err_and}
 use Rattle.jets.specs.Jet.{constant_of, parameter_of, jet_sub, jet_scale}
 use Rattle.jets.specs.Net.{share_of}
 use Rattle.ends.proofs.flat.flat_step.Goals as goal
 
-pub returns-in-Is : goal.returns-in-Is
-unfolding share_of parameter_of jet_scale jet_sub constant_of of_bits
-returns-in-Is c = rw (← c.point-l.ensures, ← c.point.ensures, ← c.sub-d.ensures, ← c.point-2.ensures, ← c.divide.ensures, c.in-Is.is, c.mix.ensures, c.mul.ensures, c.sub.ensures)
+pub returns-in_err-q : goal.returns-in_err-q
+unfolding share_of of_bits
+returns-in_err-q c = let p = err_from_is_err_and c.from_residual.result c.from_residual.ensures.1 in
+    rw (p.1, p.2, ← c.point-l.ensures, ← c.point.ensures, ← c.sub-d.ensures, ← c.point-2.ensures, ← c.in_err-q.ensures)
 
-pub returns-in-HoldsZero : goal.returns-in-HoldsZero
+pub returns : goal.returns
 unfolding share_of parameter_of jet_scale jet_sub constant_of of_bits
-returns-in-HoldsZero c = rw (← c.point-l.ensures, ← c.point.ensures, ← c.sub-d.ensures, ← c.point-2.ensures, ← c.divide.ensures, c.in-HoldsZero.is)
-
-pub returns-in-Unbounded : goal.returns-in-Unbounded
-unfolding share_of parameter_of jet_scale jet_sub constant_of of_bits
-returns-in-Unbounded c = rw (← c.point-l.ensures, ← c.point.ensures, ← c.sub-d.ensures, ← c.point-2.ensures, ← c.divide.ensures, c.in-Unbounded.is)
+returns c = rw (← c.point-l.ensures, ← c.point.ensures, ← c.sub-d.ensures, ← c.point-2.ensures, ← c.in_ok-q.ensures, c.mix.ensures, c.mul.ensures, c.sub.ensures)

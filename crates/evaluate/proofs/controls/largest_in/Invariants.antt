@@ -1,13 +1,10 @@
 -- `evaluate::controls::largest_in` meets its contract.
 -- Assumes nothing.
-use Prim.Native.Nat.{◌+◌, ◌-◌, ◌≤◌}
+use Prim.Native.Nat.{◌+◌}
 use mathlib.Core.Path.{◌≡◌}
 use Rattle.runs.specs.Larger.{largest_from}
 use Rattle.doubles.specs.Run.{at}
 use Rattle.evaluate.proofs.controls.largest_in.Given as goal
 
-abbrev pub invariant-loop-j : goal.invariant-loop-j
-invariant-loop-j l = (l.j ≤ l.n) × (l.a ≡ largest_from l.m (λ k. at l.weights (l.first + k)) l.j)
-
-abbrev pub decreases-loop-j : goal.decreases-loop-j
-decreases-loop-j l = l.n - l.j
+abbrev pub invariant-loop-w : goal.invariant-loop-w
+invariant-loop-w l = l.a ≡ largest_from l.m (λ k. at l.weights (l.first + k)) l.w-index

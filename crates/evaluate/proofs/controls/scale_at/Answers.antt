@@ -1,7 +1,6 @@
 -- `evaluate::controls::scale_at` meets its contract.
 -- Assumes nothing.
 use lib.Ieee.{of_bits}
-use borrow.Author.Tests.{not-true, not-false}
 use Rattle.evaluate.specs.Controls.{scale_of}
 use Rattle.evaluate.proofs.controls.scale_at.Goals as goal
 

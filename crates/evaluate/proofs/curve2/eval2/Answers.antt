@@ -1,16 +1,23 @@
 -- `evaluate::curve2::eval2` meets its contract.
 -- Assumes nothing.
-use mathlib.Core.Path.{◌∙◌}
+use Rattle.std.proofs.Common.{◌∙◌, ap}
+use Rattle.std.proofs.lemmas.Result.{err_from_is_err_and}
 use Rattle.knots.specs.Span.{refusing}
+use Rattle.knots.proofs.Refusals.{let_by}
+use Rattle.evaluate.specs.Curve2.{told2}
 use Rattle.evaluate.proofs.Steps.{eval-fits}
-use Rattle.evaluate.proofs.Curves.{eval2-is}
+use Rattle.evaluate.proofs.Curves.{eval2-refused, eval2-is}
 use Rattle.evaluate.proofs.curve2.eval2.Goals as goal
 
-pub eval2_with-requires : goal.eval2_with-requires
-eval2_with-requires c = let all = let a = c.args in
-    eval-fits a.degree a.knots.now a.points.now a.rational a.weights.now refusing a.t _ c.eval_refusal-refusal.ensures in
-    record { degree_bound = all.0; weights_value = all.1 }
+pub returns-in_err-eval_refusal : goal.returns-in_err-eval_refusal
+returns-in_err-eval_refusal c = let a = c.args in
+    let p = err_from_is_err_and c.from_residual.result c.from_residual.ensures.1 in rw (p.1, p.2) (eval2-refused refusing a.degree a.knots.now a.points.now a.rational a.weights.now a.t c.in_err-eval_refusal.ensures)
+
+pub found2_at-requires : goal.found2_at-requires
+found2_at-requires c = let a = c.args in
+    let o = eval-fits a.degree a.knots.now a.points.now a.rational a.weights.now refusing a.t (let_by _ c.in_ok-eval_refusal.ensures) in
+    record { degree_bound = o.0; weights_value = o.1 }
 
 pub returns : goal.returns
 returns c = let a = c.args in
-    c.eval2_with.ensures ∙ eval2-is refusing a.degree a.knots.now a.points.now a.rational a.weights.now a.t _ c.eval_refusal-refusal.ensures
+    c.told2_of.ensures ∙ (ap told2 c.found2_at.ensures ∙ eval2-is refusing a.degree a.knots.now a.points.now a.rational a.weights.now a.t (let_by _ c.in_ok-eval_refusal.ensures))

@@ -1,6 +1,5 @@
 -- `evaluate::net::net_row` meets its contract.
 -- Assumes nothing.
-use Prim.Native.Nat.{◌+◌, ◌-◌, ◌≤◌}
 use mathlib.Core.Path.{◌≡◌}
 use mathlib.Core.Bool.{false}
 use lib.Ieee.{binary64, mul}
@@ -9,7 +8,4 @@ use Rattle.evaluate.specs.Controls.{sums_from, row_term}
 use Rattle.evaluate.proofs.net.net_row.Given as goal
 
 abbrev pub invariant-loop-l : goal.invariant-loop-l
-invariant-loop-l l = (l.l ≤ l.q + 1) × (l.t ≡ sums_from l.initial.t (row_term false l.points l.rational l.weights l.scale l.o l.first (λ i. mul binary64 l.x (cell l.ders l.j i))) l.l)
-
-abbrev pub decreases-loop-l : goal.decreases-loop-l
-decreases-loop-l l = l.q + 1 - l.l
+invariant-loop-l l = l.t ≡ sums_from l.initial.t (row_term false l.points l.rational l.weights l.scale l.o l.first (λ i. mul binary64 l.x (cell l.ders l.j i))) l.l

@@ -1,13 +1,14 @@
 -- `evaluate::refusals::parameter_refusal` meets its contract.
 -- Assumes nothing.
-use Rattle.knots.proofs.Refusals.{stop, skip}
+use Rattle.std.proofs.lemmas.Result.{err_from_is_err_and}
+use Rattle.knots.proofs.Refusals.{skip, refused-first}
 use Rattle.evaluate.specs.Curve.{parameter_refusal}
 use Rattle.evaluate.proofs.refusals.parameter_refusal.Goals as goal
 
-pub returns-then-refusal-ne0 : goal.returns-then-refusal-ne0
+pub returns-in_err-degree_refusal : goal.returns-in_err-degree_refusal
 unfolding parameter_refusal
-returns-then-refusal-ne0 c = simp (stop c.degree_refusal-refusal.ensures c.if-refusal-ne0.true) c.degree_refusal-refusal.ensures
+returns-in_err-degree_refusal c = let p = err_from_is_err_and c.from_residual.result c.from_residual.ensures.1 in rw (p.1, p.2) (refused-first _ _ c.in_err-degree_refusal.ensures)
 
 pub returns : goal.returns
 unfolding parameter_refusal
-returns c = simp (skip c.degree_refusal-refusal.ensures c.if-refusal-ne0.false) c.domain_refusal.ensures
+returns c = simp (skip _ c.in_ok-degree_refusal.ensures) c.domain_refusal.ensures

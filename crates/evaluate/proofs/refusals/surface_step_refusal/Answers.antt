@@ -1,13 +1,14 @@
 -- `evaluate::refusals::surface_step_refusal` meets its contract.
 -- Assumes nothing.
-use Rattle.knots.proofs.Refusals.{stop, skip}
+use Rattle.std.proofs.lemmas.Result.{err_from_is_err_and}
+use Rattle.knots.proofs.Refusals.{skip, refused-first}
 use Rattle.evaluate.specs.Surface.{surface_step_refusal}
 use Rattle.evaluate.proofs.refusals.surface_step_refusal.Goals as goal
 
-pub returns-then-refusal-ne0 : goal.returns-then-refusal-ne0
+pub returns-in_err-surface_shape : goal.returns-in_err-surface_shape
 unfolding surface_step_refusal
-returns-then-refusal-ne0 c = simp (stop c.surface_shape-refusal.ensures c.if-refusal-ne0.true) c.surface_shape-refusal.ensures
+returns-in_err-surface_shape c = let p = err_from_is_err_and c.from_residual.result c.from_residual.ensures.1 in rw (p.1, p.2) (refused-first _ _ c.in_err-surface_shape.ensures)
 
 pub returns : goal.returns
 unfolding surface_step_refusal
-returns c = simp (skip c.surface_shape-refusal.ensures c.if-refusal-ne0.false) c.parameters_refusal.ensures
+returns c = simp (skip _ c.in_ok-surface_shape.ensures) c.parameters_refusal.ensures

@@ -1,15 +1,21 @@
 -- `evaluate::surface::eval_surface` meets its contract.
 -- Assumes nothing.
-use mathlib.Core.Path.{◌∙◌}
+use Rattle.std.proofs.lemmas.Result.{err_from_is_err_and}
 use Rattle.knots.specs.Span.{refusing}
-use Rattle.evaluate.proofs.Surfaces.{surface-eval-fits, surface-eval-is}
+use Rattle.knots.proofs.Refusals.{let_by}
+use Rattle.evaluate.proofs.Surfaces.{surface-eval-fits, surface-eval-refused, surface-eval-is}
 use Rattle.evaluate.proofs.surface.eval_surface.Goals as goal
 
-pub surface_with-requires : goal.surface_with-requires
-surface_with-requires c = let all = let a = c.args in
-    surface-eval-fits a.p a.q a.uk.now a.vk.now a.m a.n a.points.now a.rational a.weights.now refusing a.u a.v _ c.surface_eval_refusal-refusal.ensures in
-    record { p_bound = all.0; q_bound = all.1.0; weights_value = all.1.1 }
+pub returns-in_err-surface_eval_refusal : goal.returns-in_err-surface_eval_refusal
+returns-in_err-surface_eval_refusal c = let a = c.args in
+    let p = err_from_is_err_and c.from_residual.result c.from_residual.ensures.1 in rw (p.1, p.2)
+    (surface-eval-refused a.p a.q a.uk.now a.vk.now a.m a.n a.points.now a.rational a.weights.now refusing a.u a.v c.in_err-surface_eval_refusal.ensures)
+
+pub surface_found-requires : goal.surface_found-requires
+surface_found-requires c = let a = c.args in
+    let o = surface-eval-fits a.p a.q a.uk.now a.vk.now a.m a.n a.points.now a.rational a.weights.now refusing a.u a.v (let_by _ c.in_ok-surface_eval_refusal.ensures) in
+    record { p_bound = o.0; q_bound = o.1.0; weights_value = o.1.1 }
 
 pub returns : goal.returns
 returns c = let a = c.args in
-    c.surface_with.ensures ∙ surface-eval-is a.p a.q a.uk.now a.vk.now a.m a.n a.points.now a.rational a.weights.now refusing a.u a.v _ c.surface_eval_refusal-refusal.ensures
+    surface-eval-is a.p a.q a.uk.now a.vk.now a.m a.n a.points.now a.rational a.weights.now refusing a.u a.v (let_by _ c.in_ok-surface_eval_refusal.ensures) _ c.surface_found.ensures

@@ -1,12 +1,12 @@
 use Rattle.bounds.specs.Numbers.{bounded_values}
-use Rattle.bounds.specs.declared.answer.Bounded.TheVariants.{Are}
+use Rattle.std.specs.Prelude.{Ok}
 use Rattle.exports.proofs.Put.{leaves-short}
 use Rattle.exports.proofs.Box.{leaves-box}
 use native.Mathlib.Omega.{arith}
 use Rattle.exports.proofs.boxes.put_box.Goals as goal
 
 pub returns-then-out-lt18 : goal.returns-then-out-lt18
-returns-then-out-lt18 c = let a = c.args in leaves-short (bounded_values (Are a.b)) a.out.now _ c.clear.ensures (omega arith)
+returns-then-out-lt18 c = let a = c.args in leaves-short (bounded_values (Ok a.b)) a.out.now _ c.clear.ensures (omega arith)
 
 pub returns : goal.returns
 returns c = let a = c.args in

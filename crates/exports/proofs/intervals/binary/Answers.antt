@@ -4,13 +4,13 @@ use Rattle.exports.proofs.Branches.{on_both-leaves, no_both, ends_of}
 use Rattle.exports.specs.Intervals.{ends, operation_of}
 use Rattle.exports.proofs.intervals.binary.Goals as goal
 
-pub returns-in-Are : goal.returns-in-Are
-returns-in-Are c = on_both-leaves
+pub returns-in-Some : goal.returns-in-Some
+returns-in-Some c = on_both-leaves
     (λ (a b : Interval). ends (operation_of c.args.code a b))
-    (sym c.pair-p.ensures ∙ c.in-Are.is)
+    (sym c.pair.ensures ∙ c.in-Some.is)
     (ends_of c.operation.ensures c.put.ensures)
 
-pub returns-in-Nothing : goal.returns-in-Nothing
-returns-in-Nothing c = no_both
+pub returns-in-None : goal.returns-in-None
+returns-in-None c = no_both
     (λ (a b : Interval). ends (operation_of c.args.code a b))
-    (sym c.pair-p.ensures ∙ c.in-Nothing.is) c.refuse.ensures
+    (sym c.pair.ensures ∙ c.in-None.is) c.refuse.ensures

@@ -5,8 +5,8 @@ use Rattle.exports.proofs.Put.{leaves_by, told-values}
 use mathlib.Core.Path.{sym, ap}
 use Rattle.exports.proofs.points.put_curve.Goals as goal
 
-pub returns-in-At : goal.returns-in-At
-returns-in-At c = leaves_by (ap curve_answer (sym c.in-At.is)) (told-values _ c.put_vectors.ensures)
+pub returns-in-Ok : goal.returns-in-Ok
+returns-in-Ok c = leaves_by (ap curve_answer (sym c.in-Ok.is)) (told-values _ c.put_vectors.ensures)
 
-pub returns-in-Refused : goal.returns-in-Refused
-returns-in-Refused c = leaves_by (ap curve_answer (sym c.in-Refused.is)) c.put_refusal.ensures
+pub returns-in-Err : goal.returns-in-Err
+returns-in-Err c = leaves_by (ap curve_answer (sym c.in-Err.is)) c.put_refusal.ensures

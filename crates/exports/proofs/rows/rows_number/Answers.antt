@@ -5,9 +5,9 @@ use Rattle.exports.specs.Rows.{rows_number}
 use Rattle.exports.specs.Tables.{packed_of}
 use Rattle.exports.proofs.rows.rows_number.Goals as goal
 
-pub returns-in-Rows : goal.returns-in-Rows
+pub returns-in-Ok : goal.returns-in-Ok
 unfolding packed_of
-returns-in-Rows c = ap rows_number (sym c.in-Rows.is)
+returns-in-Ok c = ap rows_number (sym c.in-Ok.is)
 
-pub returns-in-Refused : goal.returns-in-Refused
-returns-in-Refused c = c.packed.ensures ∙ ap rows_number (sym c.in-Refused.is)
+pub returns-in-Err : goal.returns-in-Err
+returns-in-Err c = c.packed.ensures ∙ ap rows_number (sym c.in-Err.is)

@@ -7,6 +7,3 @@ use Rattle.insertion.proofs.list.insert_many.Given as goal
 
 abbrev pub invariant-loop-j : goal.invariant-loop-j
 invariant-loop-j l = InTurns l.a l.p l.rational l.n l.m (replicate l.m l.t) (λ k. replicate (l.m - k) l.t) l.initial.work l.work l.j
-
-abbrev pub decreases-loop-j : goal.decreases-loop-j
-decreases-loop-j l = l.m - l.j

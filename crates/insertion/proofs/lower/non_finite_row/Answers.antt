@@ -1,10 +1,7 @@
 -- `insertion::lower::non_finite_row` meets its contract: all points before the place reached are finite.
 -- Assumes nothing.
-use Prim.Native.Nat.{◌-◌}
-use mathlib.Core.Path.{sym, ◌∙◌, ap}
-use mathlib.Core.Bool.{true}
+use mathlib.Core.Path.{◌≡◌, sym, ◌∙◌, ap}
 use native.Mathlib.Omega.{arith}
-use borrow.Author.Tests.{not-true, not-false}
 use Rattle.knots.proofs.Below.{all_none, all_more, off-ends, off-stops}
 use Rattle.runs.specs.Point.{finite_vector}
 use Rattle.edits.specs.Control.{vector_of}
@@ -24,4 +21,5 @@ loop-i-preserved c = let l = c.loop-i in
     (omega arith, all_more _ l.i l.invariant.1 (sym told ∙ c.if-not-finite_vector.false))
 
 pub returns : goal.returns
-returns c = let l = c.loop-i in off-ends _ _ l.i (omega (arith, l.invariant.0)) l.invariant.1
+returns c = let l = c.loop-i in
+    let e : c.args.m ≡ l.i = omega (arith, l.invariant.0) in e ∙ off-ends _ _ l.i (sym e) l.invariant.1

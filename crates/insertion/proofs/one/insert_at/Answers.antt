@@ -1,6 +1,7 @@
 -- `insertion::one::insert_at` meets its contract.
 -- Assumes nothing.
-use mathlib.Core.Path.{◌∙◌, ap, ◌≡◌, subst}
+use Rattle.std.proofs.Common.{◌∙◌, ap, ◌≡◌, subst}
+use Rattle.std.proofs.lemmas.Result.{err_from_is_err_and}
 use native.Mathlib.Omega.{arith}
 use Rattle.edits.specs.Control.{vector_of, is_lifted}
 use Rattle.edits.specs.Passes.{LiftDone}
@@ -9,38 +10,43 @@ use Rattle.insertion.proofs.OneInsertion.{form-19}
 use mathlib.Core.Bool.{true, false}
 use lib.Ieee.{Float}
 use Rattle.knots.specs.Below.{all_below}
+use Rattle.knots.proofs.Refusals.{let_by, stopped_by}
 use Rattle.edits.specs.Work.{controls}
 use Rattle.edits.proofs.LiftCall.{lifted-bad, lifted-done}
 use Rattle.insertion.proofs.one.insert_at.Goals as goal
 
-pub returns-then-lifted-ne0 : goal.returns-then-lifted-ne0
-returns-then-lifted-ne0 c = let a = c.args in
-    let pr = c.requires in
-    let b =
-    lifted-bad
-    a.scale a.n a.rational a.work.now (let q = pr.n_bound in let x = q.0 in let y = q.1 in omega arith) _ c.lift_in-lifted.ensures.value c.if-lifted-ne0.true in
-    form-19
-    a.a a.spot.p a.n a.spot.k a.spot.s a.spot.t a.rational a.work.now
-    (subst (λ (m : Float). all_below (λ i. is_lifted (controls m a.n a.rational a.work.now i)) a.n ≡ false) pr.scale_value b.1) _ b.0 _
-
-pub returns-then-late-ne0 : goal.returns-then-late-ne0
-returns-then-late-ne0 c = let b = c.lift_in-lifted in
+pub returns-in_err-lift_in : goal.returns-in_err-lift_in
+returns-in_err-lift_in c = let p = err_from_is_err_and c.from_residual.result c.from_residual.ensures.1 in
     let a = c.args in
     let pr = c.requires in
-    form-late
+    let s = stopped_by _ c.in_err-lift_in.ensures.value in
+    let b = lifted-bad a.scale a.n a.rational a.work.now (let q = pr.n_bound in let x = q.0 in let y = q.1 in omega arith) s.1 in
+    rw
+    (p.1, p.2)
+    (form-19
+    a.a a.spot.p a.n a.spot.k a.spot.s a.spot.t a.rational a.work.now
+    (subst (λ (m : Float). all_below (λ i. is_lifted (controls m a.n a.rational a.work.now i)) a.n ≡ false) pr.scale_value b.1) _ (s.0 ∙ b.0) _)
+
+pub returns-in_err-lower_rows : goal.returns-in_err-lower_rows
+returns-in_err-lower_rows c = let p = err_from_is_err_and c.from_residual-in_err-lower_rows.result c.from_residual-in_err-lower_rows.ensures.1 in
+    let a = c.args in
+    let pr = c.requires in
+    rw
+    (p.1, p.2)
+    (form-late
     a.a a.spot.p a.n a.spot.k a.spot.s a.spot.t a.rational a.work.now pr.s_le_p.2 _
     (c.vector_of-o.ensures
     ∙ ap vector_of c.row_at.ensures)
     _
     (subst
-    (λ (m : Float). LiftDone a.rational (controls m a.n a.rational a.work.now) a.n a.work.now b.new.work true)
+    (λ (m : Float). LiftDone a.rational (controls m a.n a.rational a.work.now) a.n a.work.now c.lift_in.new.work true)
     pr.scale_value
     (lifted-done
-    a.scale a.n a.rational a.work.now (let q = pr.n_bound in let x = q.0 in let y = q.1 in omega arith) _
-    b.ensures.value c.if-lifted-ne0.false _
-    b.ensures.work_after))
+    a.scale a.n a.rational a.work.now (let q = pr.n_bound in let x = q.0 in let y = q.1 in omega arith)
+    (let_by _ c.in_ok-lift_in.ensures.value) _
+    c.in_ok-lift_in.ensures.work_after))
     pr.s_le_p.0 pr.s_le_p.1 pr.n_bound.0 pr.n_bound.1 c.work-1.given pr.valid_knots _ _
-    c.lower_rows-late.ensures c.if-late-ne0.true
+    c.in_err-lower_rows.ensures (λ z. cc))
 
 pub overflow_add-at : goal.overflow_add-at
 overflow_add-at c = let pr = c.requires in
@@ -77,8 +83,7 @@ put_knot-requires c = let pr = c.requires in
     let v = c.work-2-1.given in (omega arith, omega arith)
 
 pub returns : goal.returns
-returns c = let b = c.lift_in-lifted in
-    let a = c.args in
+returns c = let a = c.args in
     let pr = c.requires in
     form-end
     a.a a.spot.p a.n a.spot.k a.spot.s a.spot.t a.rational a.work.now pr.s_le_p.2 _
@@ -86,13 +91,12 @@ returns c = let b = c.lift_in-lifted in
     ∙ ap vector_of c.row_at.ensures)
     _
     (subst
-    (λ (m : Float). LiftDone a.rational (controls m a.n a.rational a.work.now) a.n a.work.now b.new.work true)
+    (λ (m : Float). LiftDone a.rational (controls m a.n a.rational a.work.now) a.n a.work.now c.lift_in.new.work true)
     pr.scale_value
     (lifted-done
-    a.scale a.n a.rational a.work.now (let q = pr.n_bound in let x = q.0 in let y = q.1 in omega arith) _
-    b.ensures.value
-    c.if-lifted-ne0.false _
-    b.ensures.work_after))
+    a.scale a.n a.rational a.work.now (let q = pr.n_bound in let x = q.0 in let y = q.1 in omega arith)
+    (let_by _ c.in_ok-lift_in.ensures.value) _
+    c.in_ok-lift_in.ensures.work_after))
     pr.s_le_p.0 pr.s_le_p.1 pr.n_bound.0 pr.n_bound.1 c.work-1.given
-    pr.valid_knots _ _ c.lower_rows-late.ensures
+    pr.valid_knots _ _ c.in_ok-lower_rows.ensures
     c.work-2-1.given _ c.work-3-1.given c.put_knot.ensures

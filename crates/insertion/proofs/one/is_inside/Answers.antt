@@ -1,18 +1,20 @@
 -- `insertion::one::is_inside` meets its contract.
 -- Assumes nothing.
-use mathlib.Core.Path.{sym, ◌∙◌}
-use borrow.Author.Tests.{not-true, not-false}
+use Rattle.std.proofs.Common.{sym, ◌∙◌}
 use Rattle.insertion.specs.Insert.{inside}
+use Rattle.insertion.proofs.one.is_inside.Goals.{then-is_finite, else-is_finite}
 use Rattle.insertion.proofs.one.is_inside.Goals as goal
 
-pub returns-then-not-is_finite : goal.returns-then-not-is_finite
+pub returns-then-not-t-lo : goal.returns-then-not-t-lo
 unfolding inside
-returns-then-not-is_finite c = simp (sym c.is_finite.ensures ∙ c.if-not-is_finite.true)
+returns-then-not-t-lo c = elim c.if-is_finite.branch [
+  | then-is_finite w ↦ simp (sym c.is_finite.ensures ∙ w.if-is_finite.true, sym w.value-is ∙ c.if-not-t-lo.true)
+  | else-is_finite w ↦ let no = sym w.value-is ∙ c.if-not-t-lo.true in cc
+]
 
-pub returns-then-t-lo : goal.returns-then-t-lo
+pub returns-else-not-t-lo : goal.returns-else-not-t-lo
 unfolding inside
-returns-then-t-lo c = simp (sym c.is_finite.ensures ∙ c.if-not-is_finite.false, c.if-t-lo.true)
-
-pub returns : goal.returns
-unfolding inside
-returns c = simp (sym c.is_finite.ensures ∙ c.if-not-is_finite.false, c.if-t-lo.false)
+returns-else-not-t-lo c = elim c.if-is_finite.branch [
+  | then-is_finite w ↦ simp (sym c.is_finite.ensures ∙ w.if-is_finite.true, sym w.value-is ∙ c.if-not-t-lo.false) c.if-not-t-lo.false
+  | else-is_finite w ↦ simp (sym c.is_finite.ensures ∙ w.if-is_finite.false) c.if-not-t-lo.false
+]

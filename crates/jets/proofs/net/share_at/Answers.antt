@@ -1,39 +1,22 @@
 use lib.Ieee.{of_bits}
-use Rattle.jets.specs.Net.{share_of}
+use Rattle.std.proofs.Common.{ap}
+use Rattle.std.proofs.lemmas.Result.{err_from_is_err_and}
+use Rattle.jets.specs.Net.{share_of, share_by}
 use Rattle.jets.proofs.net.share_at.Goals as goal
 
-pub returns-in-Is : goal.returns-in-Is
+pub returns-in_err-q : goal.returns-in_err-q
 unfolding share_of of_bits
-returns-in-Is c = rw (
+returns-in_err-q c = let p = err_from_is_err_and c.from_residual.result c.from_residual.ensures.1 in
+    rw (p.1, p.2, ← c.point-l.ensures, ← c.point.ensures, ← c.sub-d.ensures, ← c.point-2.ensures) (ap (share_by c.args.t c.point-l.result) c.in_err-q.ensures)
+
+pub returns : goal.returns
+unfolding share_of of_bits
+returns c = rw (
   ← c.point-l.ensures,
   ← c.point.ensures,
   ← c.sub-d.ensures,
   ← c.point-2.ensures,
-  ← c.divide.ensures,
-  c.in-Is.is,
   c.scale.ensures,
   c.sub.ensures,
   c.constant.ensures,
-)
-
-pub returns-in-HoldsZero : goal.returns-in-HoldsZero
-unfolding share_of of_bits
-returns-in-HoldsZero c = rw (
-  ← c.point-l.ensures,
-  ← c.point.ensures,
-  ← c.sub-d.ensures,
-  ← c.point-2.ensures,
-  ← c.divide.ensures,
-  c.in-HoldsZero.is,
-)
-
-pub returns-in-Unbounded : goal.returns-in-Unbounded
-unfolding share_of of_bits
-returns-in-Unbounded c = rw (
-  ← c.point-l.ensures,
-  ← c.point.ensures,
-  ← c.sub-d.ensures,
-  ← c.point-2.ensures,
-  ← c.divide.ensures,
-  c.in-Unbounded.is,
-)
+) (ap (share_by c.args.t c.point-l.result) c.in_ok-q.ensures)

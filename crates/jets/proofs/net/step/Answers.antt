@@ -1,7 +1,8 @@
+use Rattle.std.proofs.lemmas.Result.{err_from_is_err_and}
 use Rattle.jets.proofs.net.step.Goals as goal
 
-pub returns-in-Is : goal.returns-in-Is
-returns-in-Is c = rw (← c.share_at.ensures, c.in-Is.is, c.mix.ensures)
+pub returns-in_err-alpha : goal.returns-in_err-alpha
+returns-in_err-alpha c = let p = err_from_is_err_and c.from_residual.result c.from_residual.ensures.1 in rw (p.1, p.2, ← c.in_err-alpha.ensures)
 
-pub returns-in-Refused : goal.returns-in-Refused
-returns-in-Refused c = rw (← c.share_at.ensures, c.in-Refused.is)
+pub returns : goal.returns
+returns c = rw (← c.in_ok-alpha.ensures, c.mix.ensures)

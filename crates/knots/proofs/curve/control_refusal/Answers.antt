@@ -1,17 +1,26 @@
--- `knots::curve::control_refusal` meets its contract.
--- Assumes nothing.
-use mathlib.Core.Path.{sym, ◌∙◌}
-use Rattle.knots.proofs.Curves.{valid-controls, controls-not-refused}
-use Rattle.knots.proofs.ByNumber.{control-told}
+use Rattle.std.proofs.Common.{◌≡◌, ℕ, ◌/◌, sym, ap, ◌∙◌}
+use Rattle.std.specs.Prelude.{Err}
+use borrow.Author.Tests.{eq-eqb, ne_eqb, le-leb, lt-leb, lt-ltb, le-ltb, eqb-true}
+use Rattle.knots.specs.Refusal.{refuse, placed, checked, PointNotFinite, WeightBad, KnotsUnordered, KnotRepeated}
+use Rattle.knots.specs.Curve.{control_refusal}
 use Rattle.knots.proofs.curve.control_refusal.Goals as goal
 
-pub returns-then-number-eq0 : goal.returns-then-number-eq0
-returns-then-number-eq0 c = let a = c.args in
-    let ps = a.points.now in
-    let ws = a.weights.now in
-    let none = sym c.control_number-number.ensures ∙ c.if-number-eq0.true in
-    c.refuse.ensures ∙ sym (controls-not-refused a.count ps a.rational ws (valid-controls a.count ps a.rational ws none))
+pub returns-then-not-all_finite : goal.returns-then-not-all_finite
+unfolding control_refusal checked
+returns-then-not-all_finite c = simp (sym c.all_finite.ensures ∙ c.if-not-all_finite.true) (ap Err (c.refuse_at.ensures ∙ ap (λ (k : ℕ). placed (k / 3) (refuse PointNotFinite)) c.non_finite_at.ensures))
+
+pub returns-then-not-rational : goal.returns-then-not-rational
+unfolding control_refusal checked
+returns-then-not-rational c = simp (sym c.all_finite.ensures ∙ c.if-not-all_finite.false, c.if-not-rational.true)
+
+pub returns-then-weights-count : goal.returns-then-weights-count
+unfolding control_refusal checked
+returns-then-weights-count c = simp (sym c.all_finite.ensures ∙ c.if-not-all_finite.false, c.if-not-rational.false, ne_eqb _ _ c.if-weights-count.true) (ap Err c.refuse.ensures)
+
+pub returns-then-not-all_weights : goal.returns-then-not-all_weights
+unfolding control_refusal checked
+returns-then-not-all_weights c = simp (sym c.all_finite.ensures ∙ c.if-not-all_finite.false, c.if-not-rational.false, eq-eqb _ _ c.if-weights-count.false, sym c.all_weights.ensures ∙ c.if-not-all_weights.true) (ap Err (c.refuse_at-then-not-all_weights.ensures ∙ ap (λ (k : ℕ). placed k (refuse WeightBad)) c.bad_weight_at.ensures))
 
 pub returns : goal.returns
-returns c = let a = c.args in
-    c.control_placed.ensures ∙ control-told a.count a.points.now a.rational a.weights.now c.control_number-number.ensures
+unfolding control_refusal checked
+returns c = simp (sym c.all_finite.ensures ∙ c.if-not-all_finite.false, c.if-not-rational.false, eq-eqb _ _ c.if-weights-count.false, sym c.all_weights.ensures ∙ c.if-not-all_weights.false)

@@ -1,9 +1,25 @@
--- `knots::knots::knot_refusal` meets its contract.
--- Assumes nothing.
-use mathlib.Core.Path.{◌∙◌}
-use Rattle.knots.proofs.ByNumber.{knot-told}
+use Rattle.std.proofs.Common.{◌≡◌, ℕ, ◌/◌, sym, ap, ◌∙◌}
+use Rattle.std.specs.Prelude.{Err}
+use borrow.Author.Tests.{eq-eqb, ne_eqb, le-leb, lt-leb, lt-ltb, le-ltb, eqb-true}
+use Rattle.knots.specs.Refusal.{refuse, placed, checked, PointNotFinite, WeightBad, KnotsUnordered, KnotRepeated}
+use Rattle.knots.specs.Knots.{knot_refusal}
 use Rattle.knots.proofs.knots.knot_refusal.Goals as goal
 
+pub returns-then-degree-eq0 : goal.returns-then-degree-eq0
+unfolding knot_refusal checked
+returns-then-degree-eq0 c = simp (eq-eqb _ 0 c.if-degree-eq0.true) (ap Err c.refuse.ensures)
+
+pub returns-then-count-degree : goal.returns-then-count-degree
+unfolding knot_refusal checked
+returns-then-count-degree c = simp (ne_eqb _ 0 c.if-degree-eq0.false, le-leb _ _ c.if-count-degree.true) (ap Err c.refuse-then-count-degree.ensures)
+
+pub returns-then-not-is_sum : goal.returns-then-not-is_sum
+unfolding knot_refusal checked
+returns-then-not-is_sum c = simp (ne_eqb _ 0 c.if-degree-eq0.false, lt-leb _ _ c.if-count-degree.false, sym c.is_sum.ensures ∙ c.if-not-is_sum.true) (ap Err c.refuse-then-not-is_sum.ensures)
+
+pub order_refusal-requires : goal.order_refusal-requires
+order_refusal-requires c = eqb-true _ _ (sym c.is_sum.ensures ∙ c.if-not-is_sum.false)
+
 pub returns : goal.returns
-returns c = let a = c.args in
-    c.knot_placed.ensures ∙ knot-told a.degree a.count a.knots.now c.knot_number.ensures
+unfolding knot_refusal
+returns c = simp (ne_eqb _ 0 c.if-degree-eq0.false, lt-leb _ _ c.if-count-degree.false, sym c.is_sum.ensures ∙ c.if-not-is_sum.false) c.order_refusal.ensures

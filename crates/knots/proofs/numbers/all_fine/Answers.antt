@@ -25,18 +25,16 @@ all-fine false xs = ap (λ (b : Bool). all_below (λ k. finite (at xs k)) (lengt
     and_one true = refl
     and_one false = refl
 
-pub loop-i-init : goal.loop-i-init
+pub loop-x-init : goal.loop-x-init
 unfolding all_below
-loop-i-init c = (omega arith, refl, refl)
+loop-x-init c = record { finite = refl; above = refl }
 
-pub loop-i-preserved : goal.loop-i-preserved
-loop-i-preserved c = let a = c.args in let l = c.loop-i in (
-  omega arith,
-  all-step (λ k. finite (at a.xs.now k)) l.i _ _ l.invariant.1 c.is_finite-finite.ensures,
-  all-step (λ k. above_of a.weight (at a.xs.now k)) l.i _ _
-      l.invariant.2 c.is_above-above.ensures,
-)
+pub loop-x-preserved : goal.loop-x-preserved
+loop-x-preserved c = let a = c.args in let l = c.loop-x in record {
+  finite = all-step (λ k. finite (at a.xs.now k)) l.x-index _ _ l.invariant.finite c.is_finite-finite.ensures;
+  above = all-step (λ k. above_of a.weight (at a.xs.now k)) l.x-index _ _ l.invariant.above c.is_above-above.ensures;
+}
 
 pub returns : goal.returns
-returns c = let a = c.args in let l = c.loop-i in let e : l.i ≡ length a.xs.now = omega arith in
-    ap₂ ◌&&◌ (l.invariant.1 ∙ ap (all_below (λ k. finite (at a.xs.now k))) e) (l.invariant.2 ∙ ap (all_below (λ k. above_of a.weight (at a.xs.now k))) e) ∙ all-fine a.weight a.xs.now
+returns c = let a = c.args in let l = c.loop-x in let e : l.x-index ≡ length a.xs.now = omega arith in
+    ap₂ ◌&&◌ (l.invariant.finite ∙ ap (all_below (λ k. finite (at a.xs.now k))) e) (l.invariant.above ∙ ap (all_below (λ k. above_of a.weight (at a.xs.now k))) e) ∙ all-fine a.weight a.xs.now

@@ -1,16 +1,12 @@
 -- `knots::places::first_pair` meets its contract: all numbers before the place reached stand before those a gap further on.
 -- Assumes nothing.
-use Prim.Native.Nat.{◌+◌, ◌-◌, ◌≤◌}
+use Prim.Native.Nat.{◌+◌}
 use mathlib.Core.Path.{◌≡◌}
 use mathlib.Core.Bool.{true}
-use lib.ListN.{length}
 use Rattle.doubles.specs.Run.{at}
 use Rattle.knots.specs.Below.{all_below}
 use Rattle.knots.specs.Fine.{before as before_of}
 use Rattle.knots.proofs.places.first_pair.Given as goal
 
 abbrev pub invariant-loop-k : goal.invariant-loop-k
-invariant-loop-k l = (l.k ≤ l.end) × (l.end ≡ length l.xs - l.gap) × (all_below (λ i. before_of l.strict (at l.xs i) (at l.xs (i + l.gap))) l.k ≡ true)
-
-abbrev pub decreases-loop-k : goal.decreases-loop-k
-decreases-loop-k l = l.end - l.k
+invariant-loop-k l = all_below (λ i. before_of l.strict (at l.xs i) (at l.xs (i + l.gap))) l.k ≡ true

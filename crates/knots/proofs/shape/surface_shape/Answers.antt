@@ -1,45 +1,28 @@
--- `knots::shape::surface_shape` meets its contract.
--- Assumes nothing.
-use mathlib.Core.Path.{sym, ◌∙◌, ap}
-use borrow.Author.Tests.{eq-eqb, ne_eqb}
-use Rattle.knots.proofs.Refusals.{stop, skip}
-use Rattle.knots.specs.Refusal.{along}
+use Rattle.std.proofs.Common.{◌≡◌, ℕ, ◌/◌, sym, ap, ◌∙◌}
+use Rattle.std.specs.Prelude.{Err}
+use borrow.Author.Tests.{eq-eqb, ne_eqb, le-leb, lt-leb, lt-ltb, le-ltb, eqb-true}
+use Rattle.knots.specs.Refusal.{refuse, placed, checked, PointNotFinite, WeightBad, KnotsUnordered, KnotRepeated}
+use Rattle.std.proofs.lemmas.Result.{err_from_is_err_and}
 use Rattle.knots.specs.Shape.{surface_shape}
+use Rattle.knots.proofs.Refusals.{skip, refused-first}
 use Rattle.knots.proofs.shape.surface_shape.Goals as goal
 
 pub returns-then-points-ne0 : goal.returns-then-points-ne0
-unfolding surface_shape
-returns-then-points-ne0 c = simp (ne_eqb _ 0 c.if-points-ne0.true) c.refuse.ensures
+unfolding surface_shape checked
+returns-then-points-ne0 c = simp (ne_eqb _ 0 c.if-points-ne0.true) (ap Err c.refuse.ensures)
 
 pub returns-then-not-is_product : goal.returns-then-not-is_product
-unfolding surface_shape
-returns-then-not-is_product c = simp (eq-eqb _ 0 c.if-points-ne0.false, sym c.is_product.ensures ∙ c.if-not-is_product.true) c.refuse-then-not-is_product.ensures
+unfolding surface_shape checked
+returns-then-not-is_product c = simp (eq-eqb _ 0 c.if-points-ne0.false, sym c.is_product.ensures ∙ c.if-not-is_product.true) (ap Err c.refuse-then-not-is_product.ensures)
 
-pub returns-then-u-ne0 : goal.returns-then-u-ne0
+pub returns-in_err-along : goal.returns-in_err-along
 unfolding surface_shape
-returns-then-u-ne0 c = simp (
-  eq-eqb _ 0 c.if-points-ne0.false,
-  sym c.is_product.ensures ∙ c.if-not-is_product.false,
-  stop c.knot_shape-u.ensures c.if-u-ne0.true,
-)
-    (c.refuse_along.ensures ∙ ap (along 0) c.knot_shape-u.ensures)
+returns-in_err-along c = let p = err_from_is_err_and c.from_residual.result c.from_residual.ensures.1 in rw (p.1, p.2) (simp (eq-eqb _ 0 c.if-points-ne0.false, sym c.is_product.ensures ∙ c.if-not-is_product.false) (refused-first _ _ (c.in_err-along.ensures _ c.knot_shape-u.ensures)))
 
-pub returns-then-v-ne0 : goal.returns-then-v-ne0
+pub returns-in_err-along-2 : goal.returns-in_err-along-2
 unfolding surface_shape
-returns-then-v-ne0 c = simp (
-  eq-eqb _ 0 c.if-points-ne0.false,
-  sym c.is_product.ensures ∙ c.if-not-is_product.false,
-  skip c.knot_shape-u.ensures c.if-u-ne0.false,
-  stop c.knot_shape-v.ensures c.if-v-ne0.true,
-)
-    (c.refuse_along-then-v-ne0.ensures ∙ ap (along 1) c.knot_shape-v.ensures)
+returns-in_err-along-2 c = let p = err_from_is_err_and c.from_residual-in_err-along-2.result c.from_residual-in_err-along-2.ensures.1 in rw (p.1, p.2) (simp (eq-eqb _ 0 c.if-points-ne0.false, sym c.is_product.ensures ∙ c.if-not-is_product.false, skip _ (c.in_ok-along.ensures _ c.knot_shape-u.ensures)) (refused-first _ _ (c.in_err-along-2.ensures _ c.knot_shape-v.ensures)))
 
 pub returns : goal.returns
 unfolding surface_shape
-returns c = simp (
-  eq-eqb _ 0 c.if-points-ne0.false,
-  sym c.is_product.ensures ∙ c.if-not-is_product.false,
-  skip c.knot_shape-u.ensures c.if-u-ne0.false,
-  skip c.knot_shape-v.ensures c.if-v-ne0.false,
-)
-    c.weight_shape.ensures
+returns c = simp (eq-eqb _ 0 c.if-points-ne0.false, sym c.is_product.ensures ∙ c.if-not-is_product.false, skip _ (c.in_ok-along.ensures _ c.knot_shape-u.ensures), skip _ (c.in_ok-along-2.ensures _ c.knot_shape-v.ensures)) c.weight_shape.ensures

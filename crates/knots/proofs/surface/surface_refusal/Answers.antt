@@ -1,38 +1,24 @@
--- `knots::surface::surface_refusal` meets its contract: the first number that is not 0 is handed on with its place, or the next asked.
--- Assumes nothing.
-use mathlib.Core.Path.{◌∙◌, ap}
-use Rattle.knots.specs.Refusal.{along}
+use Rattle.std.proofs.Common.{◌≡◌, ℕ, ◌/◌, sym, ap, ◌∙◌}
+use Rattle.std.specs.Prelude.{Err}
+use borrow.Author.Tests.{eq-eqb, ne_eqb, le-leb, lt-leb, lt-ltb, le-ltb, eqb-true}
+use Rattle.knots.specs.Refusal.{refuse, placed, checked, PointNotFinite, WeightBad, KnotsUnordered, KnotRepeated}
+use Rattle.std.proofs.lemmas.Result.{err_from_is_err_and}
 use Rattle.knots.specs.Surface.{surface_refusal}
-use Rattle.knots.proofs.Refusals.{number-stop, number-skip}
-use Rattle.knots.proofs.ByNumber.{net-told, knot-told}
+use Rattle.knots.proofs.Refusals.{skip, refused-first}
 use Rattle.knots.proofs.surface.surface_refusal.Goals as goal
 
-pub returns-then-net-ne0 : goal.returns-then-net-ne0
+pub returns-in_err-net_refusal : goal.returns-in_err-net_refusal
 unfolding surface_refusal
-returns-then-net-ne0 c = let net = c.net_number-net.ensures in
-    simp (number-stop net c.if-net-ne0.true) (c.refuse.ensures ∙ net-told _ _ _ _ _ _ _ net)
+returns-in_err-net_refusal c = let p = err_from_is_err_and c.from_residual.result c.from_residual.ensures.1 in rw (p.1, p.2) (refused-first _ _ c.in_err-net_refusal.ensures)
 
-pub returns-then-u-ne0 : goal.returns-then-u-ne0
+pub returns-in_err-along : goal.returns-in_err-along
 unfolding surface_refusal
-returns-then-u-ne0 c = let a = c.args in
-    let u = c.knot_number-u.ensures in
-    simp (number-skip c.net_number-net.ensures c.if-net-ne0.false, number-stop u c.if-u-ne0.true)
-    (c.refuse_along.ensures ∙ ap (along 0) (c.knot_placed.ensures ∙ knot-told a.u_degree a.u_count a.u_knots.now u))
+returns-in_err-along c = let p = err_from_is_err_and c.from_residual-in_err-along.result c.from_residual-in_err-along.ensures.1 in rw (p.1, p.2) (simp (skip _ c.in_ok-net_refusal.ensures) (refused-first _ _ (c.in_err-along.ensures _ c.knot_refusal-u.ensures)))
 
-pub returns-then-v-ne0 : goal.returns-then-v-ne0
+pub returns-in_err-along-2 : goal.returns-in_err-along-2
 unfolding surface_refusal
-returns-then-v-ne0 c = let a = c.args in
-    let v = c.knot_number-v.ensures in
-    simp (
-      number-skip c.net_number-net.ensures c.if-net-ne0.false,
-      number-skip c.knot_number-u.ensures c.if-u-ne0.false,
-      number-stop v c.if-v-ne0.true,
-    ) (c.refuse_along-then-v-ne0.ensures ∙ ap (along 1) (c.knot_placed-then-v-ne0.ensures ∙ knot-told a.v_degree a.v_count a.v_knots.now v))
+returns-in_err-along-2 c = let p = err_from_is_err_and c.from_residual-in_err-along-2.result c.from_residual-in_err-along-2.ensures.1 in rw (p.1, p.2) (simp (skip _ c.in_ok-net_refusal.ensures, skip _ (c.in_ok-along.ensures _ c.knot_refusal-u.ensures)) (refused-first _ _ (c.in_err-along-2.ensures _ c.knot_refusal-v.ensures)))
 
 pub returns : goal.returns
 unfolding surface_refusal
-returns c = simp (
-  number-skip c.net_number-net.ensures c.if-net-ne0.false,
-  number-skip c.knot_number-u.ensures c.if-u-ne0.false,
-  number-skip c.knot_number-v.ensures c.if-v-ne0.false,
-) c.control_refusal.ensures
+returns c = simp (skip _ c.in_ok-net_refusal.ensures, skip _ (c.in_ok-along.ensures _ c.knot_refusal-u.ensures), skip _ (c.in_ok-along-2.ensures _ c.knot_refusal-v.ensures)) c.control_refusal.ensures

@@ -1,12 +1,9 @@
 -- `knots::walk::next_from` meets its contract: what is left to search starts at the place reached.
 -- Assumes nothing.
-use mathlib.Core.Path.{refl, sym, ◌∙◌}
+use mathlib.Core.Path.{sym, ◌∙◌}
 use native.Mathlib.Omega.{arith}
 use Rattle.knots.proofs.Walks.{walk_here, walk-on, walk_end, walk-past}
 use Rattle.knots.proofs.walk.next_from.Goals as goal
-
-pub loop-span-init : goal.loop-span-init
-loop-span-init c = refl
 
 pub returns-then-knots-span : goal.returns-then-knots-span
 returns-then-knots-span c = walk-past _ _ _ (omega arith) ∙ sym c.loop-span.invariant

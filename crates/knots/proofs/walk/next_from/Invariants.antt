@@ -1,12 +1,8 @@
 -- `knots::walk::next_from` meets its contract: what is left to search starts at the place reached.
 -- Assumes nothing.
-use Prim.Native.Nat.{◌-◌}
 use mathlib.Core.Path.{◌≡◌}
 use Rattle.knots.specs.Walk.{first_from}
 use Rattle.knots.proofs.walk.next_from.Given as goal
 
 abbrev pub invariant-loop-span : goal.invariant-loop-span
 invariant-loop-span l = first_from l.count l.knots l.«from» ≡ first_from l.count l.knots l.span
-
-abbrev pub decreases-loop-span : goal.decreases-loop-span
-decreases-loop-span l = l.count - l.span

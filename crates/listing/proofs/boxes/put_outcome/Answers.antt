@@ -15,20 +15,20 @@ pub put_all_ends-requires : goal.put_all_ends-requires
 unfolding ends_room
 put_all_ends-requires c = search rules
 
-pub returns-in-Are : goal.returns-in-Are
+pub returns-in-Ok : goal.returns-in-Ok
 unfolding outcome ends_room
-returns-in-Are c = let a = c.put_all_ends-next.ensures in
+returns-in-Ok c = let a = c.put_all_ends-next.ensures in
     let b = c.put_all_ends.ensures in
-    rw c.in-Are.is
+    rw c.in-Ok.is
     (record {
       stored = rw c.shown_of-t.ensures at (both_stored a.stored b.stored);
       upper_bound = omega arith;
     })
 
-pub returns-in-Refused : goal.returns-in-Refused
+pub returns-in-Err : goal.returns-in-Err
 unfolding outcome
-returns-in-Refused c = let a = c.put_label.ensures in
-    rw c.in-Refused.is (record {
+returns-in-Err c = let a = c.put_label.ensures in
+    rw c.in-Err.is (record {
       stored = a.roomy (search rules);
       upper_bound = omega arith;
     })

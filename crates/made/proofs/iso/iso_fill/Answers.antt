@@ -1,9 +1,8 @@
 -- `made::iso::iso_fill` meets its contract.
 -- Assumes nothing.
 use mathlib.Core.Path.{sym, ◌∙◌, ap}
-use Prim.Native.Nat.{◌+◌, ◌-◌}
+use Prim.Native.Nat.{◌+◌}
 use native.Mathlib.Omega.{arith}
-use borrow.Author.Tests.{not-true, not-false}
 use Rattle.basis.specs.Basis.{cell}
 use Rattle.made.specs.Iso.{iso_sums}
 use Rattle.runs.specs.Point.{point_put}
@@ -16,22 +15,6 @@ loop-k-init c = let a = c.args in
     (iso_sums a.points.now a.rational a.weights.now a.strip.constant_u a.strip.columns a.strip.first (cell a.ders.now 0) (a.strip.p + 1)) a.count
     a.out_points.now a.out_weights.now
 
-pub iso_sums-h-requires : goal.iso_sums-h-requires
-iso_sums-h-requires c = let l = c.loop-k in
-    let q = c.requires in
-    record {
-      p_bound = q.p_bound;
-      p_bound_2 = q.p_bound_2;
-      iso_reach = q.by_index l.k c.loop-k-test.true;
-      iso_reach_2 = (λ g. q.iso_reach g l.k c.loop-k-test.true);
-    }
-
-pub shape_of-out_points-then-not-is_weight : goal.shape_of-out_points-then-not-is_weight
-shape_of-out_points-then-not-is_weight c = c.loop-k.invariant.long-points
-
-pub shape_of-out_weights-then-not-is_weight : goal.shape_of-out_weights-then-not-is_weight
-shape_of-out_weights-then-not-is_weight c = c.loop-k.invariant.long-weights
-
 pub returns-then-not-is_weight : goal.returns-then-not-is_weight
 returns-then-not-is_weight c = let a = c.args in
     let l = c.loop-k in
@@ -40,20 +23,6 @@ returns-then-not-is_weight c = let a = c.args in
     (iso_sums a.points.now a.rational a.weights.now a.strip.constant_u a.strip.columns a.strip.first (cell a.ders.now 0) (a.strip.p + 1)) a.count
     a.out_points.now a.out_weights.now l.out_points l.out_weights l.k l.invariant c.loop-k-test.true q.count_in_bounds q.count_in_bounds_2 _
     c.iso_sums-h.ensures (sym c.is_weight.ensures ∙ c.if-not-is_weight.true)
-
-pub offset_bounds-out_weights-k : goal.offset_bounds-out_weights-k
-offset_bounds-out_weights-k c = let l = c.loop-k in
-    let e = l.invariant.long-weights in
-    let q = c.requires.count_bound in
-    let b = c.loop-k-test.true in
-    omega arith
-
-pub bounds-out_weights-k : goal.bounds-out_weights-k
-bounds-out_weights-k c = let l = c.loop-k in
-    let e = l.invariant.long-weights in
-    let q = c.requires.count_in_bounds_2 in
-    let b = c.loop-k-test.true in
-    omega arith
 
 pub loop-k-preserved : goal.loop-k-preserved
 loop-k-preserved c = let a = c.args in
@@ -77,15 +46,9 @@ loop-k-preserved c = let a = c.args in
     _
     (c.put_point.ensures ∙ ap (point_put l.out_points l.k) c.lowered.ensures)
 
-pub shape_of-out_points : goal.shape_of-out_points
-shape_of-out_points c = c.loop-k.invariant.long-points
-
-pub shape_of-out_weights : goal.shape_of-out_weights
-shape_of-out_weights c = c.loop-k.invariant.long-weights
-
 pub returns : goal.returns
 returns c = let a = c.args in
     let l = c.loop-k in
     iso-end
     (iso_sums a.points.now a.rational a.weights.now a.strip.constant_u a.strip.columns a.strip.first (cell a.ders.now 0) (a.strip.p + 1)) a.count
-    a.out_points.now a.out_weights.now l.out_points l.out_weights l.k l.invariant c.loop-k-test.false
+    a.out_points.now a.out_weights.now l.out_points l.out_weights l.k l.invariant (omega arith)

@@ -3,7 +3,6 @@
 use Prim.Native.Nat.{◌/◌}
 use mathlib.Core.Path.{refl}
 use native.Mathlib.Omega.{arith}
-use borrow.Author.Tests.{not-true, not-false}
 use lib.ListN.{length}
 use Rattle.basis.proofs.Whole.{Reach}
 use Rattle.made.specs.IsoCurve.{side_from}

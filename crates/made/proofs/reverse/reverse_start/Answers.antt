@@ -1,36 +1,31 @@
 -- `made::reverse::reverse_start` meets its contract.
 -- Assumes nothing.
-use mathlib.Core.Path.{◌∙◌, ap}
-use Rattle.knots.proofs.Refusals.{stop, skip}
+use Rattle.std.proofs.Common.{◌∙◌, ap}
+use Rattle.std.proofs.lemmas.Result.{err_from_is_err_and}
+use Rattle.knots.specs.Refusal.{checked}
 use Rattle.knots.specs.Shape.{room_refusal}
+use Rattle.knots.proofs.Refusals.{skip, refused-first}
 use Rattle.made.specs.Reverse.{reverse_start}
 use Rattle.made.proofs.reverse.reverse_start.Goals as goal
 
-pub returns-then-curve-ne0 : goal.returns-then-curve-ne0
+pub returns-in_err-curve_refusal : goal.returns-in_err-curve_refusal
 unfolding reverse_start
-returns-then-curve-ne0 c = simp (stop c.curve_refusal-curve.ensures c.if-curve-ne0.true) c.curve_refusal-curve.ensures
+returns-in_err-curve_refusal c = let p = err_from_is_err_and c.from_residual.result c.from_residual.ensures.1 in rw (p.1, p.2) (refused-first _ _ c.in_err-curve_refusal.ensures)
 
-pub returns-then-first-ne0 : goal.returns-then-first-ne0
+pub returns-in_err-room_refusal : goal.returns-in_err-room_refusal
 unfolding reverse_start
-returns-then-first-ne0 c = simp
-    (skip c.curve_refusal-curve.ensures c.if-curve-ne0.false, stop c.room_refusal-first.ensures c.if-first-ne0.true)
-    c.room_refusal-first.ensures
+returns-in_err-room_refusal c =
+    let p = err_from_is_err_and c.from_residual-in_err-room_refusal.result c.from_residual-in_err-room_refusal.ensures.1 in rw (p.1, p.2)
+    (simp (skip _ c.in_ok-curve_refusal.ensures) (refused-first _ _ c.in_err-room_refusal.ensures))
 
-pub returns-then-second-ne0 : goal.returns-then-second-ne0
+pub returns-in_err-room_refusal-2 : goal.returns-in_err-room_refusal-2
 unfolding reverse_start
-returns-then-second-ne0 c = simp (
-  skip c.curve_refusal-curve.ensures c.if-curve-ne0.false,
-  skip c.room_refusal-first.ensures c.if-first-ne0.false,
-  stop c.room_refusal-second.ensures c.if-second-ne0.true,
-)
-    c.room_refusal-second.ensures
+returns-in_err-room_refusal-2 c =
+    let p = err_from_is_err_and c.from_residual-in_err-room_refusal-2.result c.from_residual-in_err-room_refusal-2.ensures.1 in rw (p.1, p.2)
+    (simp (skip _ c.in_ok-curve_refusal.ensures, skip _ c.in_ok-room_refusal.ensures) (refused-first _ _ c.in_err-room_refusal-2.ensures))
 
 pub returns : goal.returns
 unfolding reverse_start
-returns c = simp (
-  skip c.curve_refusal-curve.ensures c.if-curve-ne0.false,
-  skip c.room_refusal-first.ensures c.if-first-ne0.false,
-  skip c.room_refusal-second.ensures c.if-second-ne0.false,
-)
-    (c.room_refusal.ensures
-    ∙ ap (room_refusal c.args.c) c.given_len.ensures)
+returns c = simp
+    (skip _ c.in_ok-curve_refusal.ensures, skip _ c.in_ok-room_refusal.ensures, skip _ c.in_ok-room_refusal-2.ensures)
+    (c.room_refusal-3.ensures ∙ ap (λ k. checked (room_refusal c.args.c k)) c.given_len.ensures)

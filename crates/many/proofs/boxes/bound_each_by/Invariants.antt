@@ -1,6 +1,5 @@
 -- `many::boxes::bound_each_by` meets its contract.
 -- Assumes nothing.
-use Prim.Native.Nat.{◌-◌}
 use mathlib.Core.Path.{◌≡◌}
 use Rattle.knots.specs.Curve.{count_of}
 use Rattle.many.proofs.Bounded.{InSpans}
@@ -8,6 +7,3 @@ use Rattle.many.proofs.boxes.bound_each_by.Given as goal
 
 abbrev pub invariant-loop-s : goal.invariant-loop-s
 invariant-loop-s l = (l.count ≡ count_of l.points) × InSpans l.alone l.degree l.knots l.points l.rational l.weights l.initial.marks l.initial.boxes l.marks l.boxes l.i l.s
-
-abbrev pub decreases-loop-s : goal.decreases-loop-s
-decreases-loop-s l = l.count - l.s

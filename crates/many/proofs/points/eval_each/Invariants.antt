@@ -1,13 +1,8 @@
 -- `many::points::eval_each` meets its contract.
 -- Assumes nothing.
-use lib.ListN.{length}
-use Prim.Native.Nat.{◌-◌}
 use Rattle.many.specs.Points.{width, number_at, numbers_at}
 use Rattle.many.proofs.Evaluated.{InEach}
 use Rattle.many.proofs.points.eval_each.Given as goal
 
 abbrev pub invariant-loop-i : goal.invariant-loop-i
 invariant-loop-i l = InEach (number_at l.clamps l.degree l.knots l.points l.rational l.weights l.two) (numbers_at l.clamps l.degree l.knots l.points l.rational l.weights l.two) (width l.two) l.ts l.initial.numbers l.initial.rows l.numbers l.rows l.i
-
-abbrev pub decreases-loop-i : goal.decreases-loop-i
-decreases-loop-i l = length l.ts - l.i

@@ -1,13 +1,14 @@
 -- `many::start::rooms_refusal` meets its contract.
 -- Assumes nothing.
-use Rattle.knots.proofs.Refusals.{stop, skip}
+use Rattle.std.proofs.lemmas.Result.{err_from_is_err_and}
+use Rattle.knots.proofs.Refusals.{skip, refused-first}
 use Rattle.many.specs.Start.{rooms_refusal}
 use Rattle.many.proofs.start.rooms_refusal.Goals as goal
 
-pub returns-then-first-ne0 : goal.returns-then-first-ne0
+pub returns-in_err-room_refusal : goal.returns-in_err-room_refusal
 unfolding rooms_refusal
-returns-then-first-ne0 c = simp (stop c.room_refusal-first.ensures c.if-first-ne0.true) c.room_refusal-first.ensures
+returns-in_err-room_refusal c = let p = err_from_is_err_and c.from_residual.result c.from_residual.ensures.1 in rw (p.1, p.2) (refused-first _ _ c.in_err-room_refusal.ensures)
 
 pub returns : goal.returns
 unfolding rooms_refusal
-returns c = simp (skip c.room_refusal-first.ensures c.if-first-ne0.false) c.room_refusal.ensures
+returns c = simp (skip _ c.in_ok-room_refusal.ensures) c.room_refusal-2.ensures

@@ -1,13 +1,14 @@
 -- `many::start::table_refusal` meets its contract.
 -- Assumes nothing.
-use Rattle.knots.proofs.Refusals.{stop, skip}
+use Rattle.std.proofs.lemmas.Result.{err_from_is_err_and}
+use Rattle.knots.proofs.Refusals.{skip, refused-first}
 use Rattle.many.specs.Start.{table_refusal}
 use Rattle.many.proofs.start.table_refusal.Goals as goal
 
-pub returns-then-curve-ne0 : goal.returns-then-curve-ne0
+pub returns-in_err-curve_refusal : goal.returns-in_err-curve_refusal
 unfolding table_refusal
-returns-then-curve-ne0 c = simp (stop c.curve_refusal-curve.ensures c.if-curve-ne0.true) c.curve_refusal-curve.ensures
+returns-in_err-curve_refusal c = let p = err_from_is_err_and c.from_residual.result c.from_residual.ensures.1 in rw (p.1, p.2) (refused-first _ _ c.in_err-curve_refusal.ensures)
 
 pub returns : goal.returns
 unfolding table_refusal
-returns c = simp (skip c.curve_refusal-curve.ensures c.if-curve-ne0.false) c.degree_refusal.ensures
+returns c = simp (skip _ c.in_ok-curve_refusal.ensures) c.degree_refusal.ensures

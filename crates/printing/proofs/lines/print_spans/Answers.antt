@@ -7,10 +7,10 @@ use Rattle.printing.proofs.lines.print_spans.Goals as goal
 
 pub overflow_add-from : goal.overflow_add-from
 overflow_add-from c =
-    let next = next-at _ _ _ _ _ (sym c.next_span.ensures ∙ c.in-At.is) in
+    let next = next-at _ _ _ _ _ (sym c.next_span.ensures ∙ c.in-Some.is) in
     omega (arith, next.below)
 
 pub loop-from-smaller : goal.loop-from-smaller
 loop-from-smaller c =
-    let next = next-at _ _ _ _ _ (sym c.next_span.ensures ∙ c.in-At.is) in
+    let next = next-at _ _ _ _ _ (sym c.next_span.ensures ∙ c.in-Some.is) in
     omega (arith, next.from, next.below)

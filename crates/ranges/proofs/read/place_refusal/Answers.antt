@@ -1,26 +1,25 @@
 use Rattle.knots.specs.Curve.{count_of}
-use mathlib.Core.Path.{sym, ◌∙◌}
+use Rattle.std.proofs.lemmas.Result.{err_from_is_err_and}
+use mathlib.Core.Path.{sym}
 use native.Mathlib.Omega.{arith}
 use borrow.Author.Tests.{le-leb, lt-leb, lt-ltb, le-ltb}
-use Rattle.knots.proofs.Refusals.{stop, skip}
+use Rattle.knots.proofs.Refusals.{skip, refused-first}
 use Rattle.ranges.specs.Read.{place_refusal}
 use Rattle.ranges.proofs.read.place_refusal.Goals as goal
 
 pub returns-then-s-degree : goal.returns-then-s-degree
 unfolding place_refusal
-returns-then-s-degree c = c.range_refusal.ensures ∙ simp (lt-leb c.args.degree c.args.s c.if-s-degree.true)
+returns-then-s-degree c = simp (lt-leb c.args.degree c.args.s c.if-s-degree.true) c.range_refusal.ensures
 
 pub returns-then-s-count : goal.returns-then-s-count
 unfolding place_refusal
-returns-then-s-count c = c.range_refusal-then-s-count.ensures ∙ simp (
-  le-leb c.args.degree c.args.s
-      (let h = c.if-s-degree.false in omega arith),
-  le-ltb c.args.s
-      (count_of c.args.points.now) (let h = c.if-s-count.true in omega arith),
-)
+returns-then-s-count c = simp (
+  le-leb c.args.degree c.args.s c.if-s-degree.false,
+  le-ltb c.args.s (count_of c.args.points.now) c.if-s-count.true,
+) c.range_refusal-then-s-count.ensures
 
-pub read_refusal-refusal-requires : goal.read_refusal-refusal-requires
-read_refusal-refusal-requires c = let a = c.requires in
+pub read_refusal-requires : goal.read_refusal-requires
+read_refusal-requires c = let a = c.requires in
     let f = c.if-s-degree.false in
     let g = c.if-s-count.false in
     record {
@@ -31,26 +30,19 @@ read_refusal-refusal-requires c = let a = c.requires in
       s_in_bounds_2 = λ e. let w = a.weights_len e in omega arith;
     }
 
-pub returns-then-refusal-ne0 : goal.returns-then-refusal-ne0
+pub returns-in_err-read_refusal : goal.returns-in_err-read_refusal
 unfolding place_refusal
-returns-then-refusal-ne0 c = c.read_refusal-refusal.ensures ∙ sym (simp (
-  le-leb c.args.degree
-      c.args.s (let h = c.if-s-degree.false in omega arith),
-  lt-ltb
-      c.args.s (count_of c.args.points.now)
-      (let h = c.if-s-count.false in omega arith),
-  stop c.read_refusal-refusal.ensures c.if-refusal-ne0.true,
-))
+returns-in_err-read_refusal c = let p = err_from_is_err_and c.from_residual.result c.from_residual.ensures.1 in
+    rw (p.1, p.2) (simp (
+      le-leb c.args.degree c.args.s c.if-s-degree.false,
+      lt-ltb c.args.s (count_of c.args.points.now) c.if-s-count.false,
+    ) (refused-first _ _ c.in_err-read_refusal.ensures))
 
 pub returns : goal.returns
 unfolding place_refusal
-returns c = c.range_refusal-2.ensures ∙ simp c.taken_span-taken.ensures
-    (sym (simp (
-      le-leb c.args.degree
-          c.args.s (let h = c.if-s-degree.false in omega arith),
-      lt-ltb
-          c.args.s
-          (count_of c.args.points.now)
-          (let h = c.if-s-count.false in omega arith),
-      skip c.read_refusal-refusal.ensures c.if-refusal-ne0.false,
-    )))
+returns c = simp (
+  le-leb c.args.degree c.args.s c.if-s-degree.false,
+  lt-ltb c.args.s (count_of c.args.points.now) c.if-s-count.false,
+  skip _ c.in_ok-read_refusal.ensures,
+  sym c.taken_span-taken.ensures,
+) c.range_refusal-2.ensures

@@ -6,8 +6,9 @@ use mathlib.Core.List.{List}
 use native.Mathlib.Omega.{arith}
 use lib.ListN.{length, drop, length-take, length-drop}
 use lib.Ieee.{Float}
-use borrow.Author.Tests.{not-true, not-false}
-use Rattle.knots.specs.Refusal.{refuse, placed, knots-unordered, point-not-finite, weight-bad}
+use Rattle.std.specs.Prelude.{Err}
+use Rattle.knots.specs.Refusal.{refuse, placed, checked}
+use Rattle.knots.specs.declared.refusal.Reason.TheVariants.{KnotsUnordered, PointNotFinite, WeightBad}
 use Rattle.knots.proofs.FirstPlace.{unordered-below, bad-below}
 use Rattle.ranges.specs.Read.{part, read_knots, read_weights, read_refusal}
 use borrow.Author.Rules.{rules}
@@ -26,28 +27,26 @@ overflow_add-from-then-not-is_ordered c = let a = c.args in
     search rules
 
 pub returns-then-not-is_ordered : goal.returns-then-not-is_ordered
-unfolding read_refusal
+unfolding read_refusal checked
 returns-then-not-is_ordered c = let a = c.args in
-    c.refuse_at.ensures
-    ∙ (ap (λ (k : ℕ). placed (a.s - a.degree + 1 + k) (refuse knots-unordered)) c.unordered_at.ensures
-    ∙ simp (sym c.is_ordered.ensures ∙ c.if-not-is_ordered.true))
+    simp (sym c.is_ordered.ensures ∙ c.if-not-is_ordered.true)
+    (ap Err (c.refuse_at.ensures ∙ ap (λ (k : ℕ). placed (a.s - a.degree + 1 + k) (refuse KnotsUnordered)) c.unordered_at.ensures))
 
 pub returns-then-not-all_finite : goal.returns-then-not-all_finite
-unfolding read_refusal
+unfolding read_refusal checked
 returns-then-not-all_finite c = let a = c.args in
-    c.refuse_at-then-not-all_finite.ensures ∙ (ap (λ (k : ℕ). placed (a.s - a.degree + k / 3) (refuse point-not-finite)) c.non_finite_at.ensures ∙ simp (
+    simp (
       sym c.is_ordered.ensures ∙ c.if-not-is_ordered.false,
       sym c.all_finite.ensures ∙ c.if-not-all_finite.true,
-    ))
+    ) (ap Err (c.refuse_at-then-not-all_finite.ensures ∙ ap (λ (k : ℕ). placed (a.s - a.degree + k / 3) (refuse PointNotFinite)) c.non_finite_at.ensures))
 
 pub returns-then-not-rational : goal.returns-then-not-rational
-unfolding read_refusal
-returns-then-not-rational c = let a = c.args in
-    c.refuse.ensures ∙ simp (
-      sym c.is_ordered.ensures ∙ c.if-not-is_ordered.false,
-      sym c.all_finite.ensures ∙ c.if-not-all_finite.false,
-      c.if-not-rational.true,
-    )
+unfolding read_refusal checked
+returns-then-not-rational c = simp (
+  sym c.is_ordered.ensures ∙ c.if-not-is_ordered.false,
+  sym c.all_finite.ensures ∙ c.if-not-all_finite.false,
+  c.if-not-rational.true,
+)
 
 pub slice_bounds-ws-end : goal.slice_bounds-ws-end
 slice_bounds-ws-end c = let h = c.requires.s_in_bounds_2 c.if-not-rational.false in omega arith
@@ -60,21 +59,20 @@ overflow_add-first-then-not-all_weights c = let a = c.args in
     search rules
 
 pub returns-then-not-all_weights : goal.returns-then-not-all_weights
-unfolding read_refusal
+unfolding read_refusal checked
 returns-then-not-all_weights c = let a = c.args in
-    c.refuse_at-then-not-all_weights.ensures ∙ (ap (λ (k : ℕ). placed (a.s - a.degree + k) (refuse weight-bad)) c.bad_weight_at.ensures ∙ simp (
+    simp (
       sym c.is_ordered.ensures ∙ c.if-not-is_ordered.false,
       sym c.all_finite.ensures ∙ c.if-not-all_finite.false,
       c.if-not-rational.false,
       sym c.all_weights.ensures ∙ c.if-not-all_weights.true,
-    ))
+    ) (ap Err (c.refuse_at-then-not-all_weights.ensures ∙ ap (λ (k : ℕ). placed (a.s - a.degree + k) (refuse WeightBad)) c.bad_weight_at.ensures))
 
 pub returns : goal.returns
-unfolding read_refusal
-returns c = let a = c.args in
-    c.refuse-2.ensures ∙ simp (
-      sym c.is_ordered.ensures ∙ c.if-not-is_ordered.false,
-      sym c.all_finite.ensures ∙ c.if-not-all_finite.false,
-      c.if-not-rational.false,
-      sym c.all_weights.ensures ∙ c.if-not-all_weights.false,
-    )
+unfolding read_refusal checked
+returns c = simp (
+  sym c.is_ordered.ensures ∙ c.if-not-is_ordered.false,
+  sym c.all_finite.ensures ∙ c.if-not-all_finite.false,
+  c.if-not-rational.false,
+  sym c.all_weights.ensures ∙ c.if-not-all_weights.false,
+)

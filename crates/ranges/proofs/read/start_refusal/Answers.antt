@@ -1,27 +1,25 @@
+use Rattle.std.specs.Prelude.{Err}
+use Rattle.std.proofs.lemmas.Result.{err_from_is_err_and}
 use mathlib.Core.Path.{sym, ◌∙◌, ap}
-use Rattle.knots.specs.declared.refusal.Refusal.{Refusal}
+use Rattle.knots.specs.Refusal.{checked}
 use Rattle.knots.proofs.Curves.{short}
 use Rattle.knots.proofs.Shapes.{shaped}
-use Rattle.knots.proofs.Refusals.{stop, skip}
+use Rattle.knots.proofs.Refusals.{let_by, skip, refused-first}
 use Rattle.ranges.specs.Read.{start_refusal}
 use Rattle.ranges.proofs.read.start_refusal.Goals as goal
 
 pub returns-then-any_long : goal.returns-then-any_long
-unfolding start_refusal
-returns-then-any_long c = c.refuse.ensures ∙ sym (simp (sym c.any_long.ensures ∙ c.if-any_long.true))
+unfolding start_refusal checked
+returns-then-any_long c = simp (sym c.any_long.ensures ∙ c.if-any_long.true) (ap Err c.refuse.ensures)
 
-pub returns-then-shape-ne0 : goal.returns-then-shape-ne0
+pub returns-in_err-curve_shape : goal.returns-in_err-curve_shape
 unfolding start_refusal
-returns-then-shape-ne0 c = c.curve_shape-shape.ensures ∙ sym (simp (
-  sym c.any_long.ensures ∙ c.if-any_long.false,
-  stop
-      c.curve_shape-shape.ensures c.if-shape-ne0.true,
-))
+returns-in_err-curve_shape c = let p = err_from_is_err_and c.from_residual.result c.from_residual.ensures.1 in
+    rw (p.1, p.2) (simp (sym c.any_long.ensures ∙ c.if-any_long.false) (refused-first _ _ c.in_err-curve_shape.ensures))
 
 pub place_refusal-requires : goal.place_refusal-requires
 place_refusal-requires c = let a = c.args in
-    let k = shaped a.degree a.knots.now a.points.now a.rational a.weights.now
-    (ap (λ (r : Refusal). r.number) (sym c.curve_shape-shape.ensures) ∙ c.if-shape-ne0.false) in
+    let k = shaped a.degree a.knots.now a.points.now a.rational a.weights.now (let_by _ c.in_ok-curve_shape.ensures) in
     record {
       knots_len = k.knots.long;
       points_len_bound = (short a.knots.now a.points.now a.rational a.weights.now
@@ -31,8 +29,4 @@ place_refusal-requires c = let a = c.args in
 
 pub returns : goal.returns
 unfolding start_refusal
-returns c = c.place_refusal.ensures ∙ sym (simp (
-  sym c.any_long.ensures ∙ c.if-any_long.false,
-  skip
-      c.curve_shape-shape.ensures c.if-shape-ne0.false,
-))
+returns c = simp (sym c.any_long.ensures ∙ c.if-any_long.false, skip _ c.in_ok-curve_shape.ensures) c.place_refusal.ensures

@@ -1,9 +1,8 @@
--- Two bytes, the lower first.
+-- The lowest bytes, copied.
 -- Assumes nothing.
-use native.Mathlib.Numerals.{add-one}
-use Rattle.record.specs.Format.{little}
+use native.Mathlib.Omega.{arith}
+use Rattle.record.proofs.Stores.{little-copied}
 use Rattle.record.proofs.bytes.put_u16.Goals as goal
 
 pub returns : goal.returns
-unfolding little
-returns c = rw (c.lowest.ensures, c.lowest-2.ensures, add-one)
+returns c = little-copied 2 _ _ _ _ _ (rw c.to_le_bytes.ensures at c.copy_from_slice.ensures.after) (omega arith) (omega arith)

@@ -1,12 +1,8 @@
-use Rattle.record.proofs.Stores.{little-quarters}
+-- The lowest bytes, copied.
+-- Assumes nothing.
+use native.Mathlib.Omega.{arith}
+use Rattle.record.proofs.Stores.{little-copied}
 use Rattle.record.proofs.bytes.put_u64.Goals as goal
 
 pub returns : goal.returns
-returns c = let a = c.args in
-    rw (
-      c.put_u16-4.ensures,
-      c.put_u16-3.ensures,
-      c.put_u16-2.ensures,
-      c.put_u16.ensures,
-    )
-    (little-quarters a.i a.n a.out.now)
+returns c = little-copied 8 _ _ _ _ _ (rw c.to_le_bytes.ensures at c.copy_from_slice.ensures.after) (omega arith) (omega arith)

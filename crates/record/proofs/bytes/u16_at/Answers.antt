@@ -1,13 +1,9 @@
 -- The number of two bytes.
 -- Assumes nothing.
-use native.Mathlib.Omega.{arith}
-use Rattle.record.proofs.Little.{number-two}
+use mathlib.Core.Path.{◌∙◌}
+use Rattle.record.proofs.Little.{number-first}
 use Rattle.record.proofs.bytes.u16_at.Goals as goal
 
-pub returns : goal.returns
-returns c = let s = c.args.s.now in
-    let i = c.args.i in
-    record {
-      value = rw (number-two i s, c.wide-low.ensures.value, c.wide-high.ensures.value);
-      upper_bound = omega arith;
-    }
+pub returns-clause-value : goal.returns-clause-value
+returns-clause-value c = c.from.ensures
+    ∙ (c.from_le_bytes.ensures ∙ number-first 1 c.args.i c.args.s.now _ (rw c.unwrap.ensures at c.first_chunk.ensures.cases))

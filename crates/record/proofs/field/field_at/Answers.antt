@@ -1,5 +1,6 @@
 -- A field at a place: each return states the test that led there.
 -- Assumes nothing.
+use Rattle.std.specs.Prelude.{Some}
 use mathlib.Core.Path.{◌≡◌, ◌∙◌, ap}
 use native.Mathlib.Omega.{arith}
 use Prim.Native.Nat.{◌+◌, ◌-◌}
@@ -7,7 +8,6 @@ use borrow.Author.Tests.{lt-ltb, le-ltb, eq-eqb, ne_eqb}
 use lib.ListN.{length, drop, get_or}
 use Rattle.record.specs.Reading.{number}
 use Rattle.record.proofs.Fields.{field-tests}
-use Rattle.record.specs.declared.field.Count.TheVariants.{Is}
 use Rattle.record.proofs.field.field_at.Goals as goal
 
 pub returns-then-s-i : goal.returns-then-s-i
@@ -59,6 +59,6 @@ returns c = let a = c.args in
         eq-eqb (get_or a.s.now a.i 0) a.tag (omega arith),
         le-ltb (left - 3) (number 2 (drop (a.i + 1) a.s.now)) (omega arith),
       )
-          (ap Is n);
+          (ap Some n);
       below = omega arith;
     }

@@ -2,7 +2,7 @@
 -- Assumes nothing.
 use mathlib.Core.Path.{◌≡◌, ◌∙◌, ap}
 use native.Mathlib.Omega.{arith}
-use Prim.Native.Nat.{ℕ, ◌+◌, ◌-◌, ◌*◌}
+use Prim.Native.Nat.{ℕ, ◌+◌, ◌*◌}
 use mathlib.Core.List.{List}
 use borrow.Author.Rules.{rules}
 use lib.ListN.{length, take, length-map}
@@ -19,19 +19,11 @@ unfolding doubles
 loop-j-init c = search rules
 
 pub loop-j-preserved : goal.loop-j-preserved
-loop-j-preserved c = let xs = c.args.xs.now in
-    let out₀ = c.put_head.new.out in
+loop-j-preserved c = let a = c.args.i + 3 in
     let j = c.loop-j.j in
-    let a = c.args.i + 3 in (
-      search rules,
-      search rules,
-      c.put_u64.ensures
-          ∙ (ap (λ (l : List ℕ). sets l (a + 8 * j) (little 8 c.bits_of.result)) c.loop-j.invariant.2
-          ∙ rw c.bits_of.ensures (run_more j a xs out₀ (omega arith))),
-    )
-
-pub shape_of-out : goal.shape_of-out
-shape_of-out c = c.loop-j.invariant.1 ∙ c.put_head.auto.out
+    c.put_u64.ensures
+    ∙ (ap (λ (l : List ℕ). sets l (a + 8 * j) (little 8 c.bits_of.result)) c.loop-j.invariant
+    ∙ rw c.bits_of.ensures (run_more j a c.args.xs.now c.put_head.new.out (omega arith)))
 
 pub returns : goal.returns
 returns c = let xs = c.args.xs.now in
@@ -40,6 +32,6 @@ returns c = let xs = c.args.xs.now in
     let j = c.loop-j.j in
     let full : take j xs ≡ xs = take_all j xs (omega arith) in
     let long : length (doubles (bits xs)) ≡ 8 * length xs = length-doubles (bits xs) ∙ ap (λ (n : ℕ). 8 * n) (length-map xs (λ (x : Float). to_bits binary64 x)) in
-    rw full at c.loop-j.invariant.2
+    rw full at c.loop-j.invariant
     ∙ (ap (λ (l : List ℕ). sets l (i + 3) (doubles (bits xs))) c.put_head.ensures
     ∙ rw (← long) (field-whole i c.args.tag (doubles (bits xs)) out))

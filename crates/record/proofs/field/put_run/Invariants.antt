@@ -1,15 +1,11 @@
 -- A field of doubles, stored. The invariant: behind the head stand the bytes of the first j doubles.
 -- Assumes nothing.
 use mathlib.Core.Path.{◌≡◌}
-use Prim.Native.Nat.{◌-◌, ◌≤◌}
-use lib.ListN.{length, take}
+use lib.ListN.{take}
 use lib.Seq.{sets}
 use Rattle.record.specs.Format.{doubles}
 use Rattle.record.specs.Writing.{bits}
 use Rattle.record.proofs.field.put_run.Given as goal
 
 abbrev pub invariant-loop-j : goal.invariant-loop-j
-invariant-loop-j l = (l.j ≤ length l.xs) × (length l.out ≡ length l.initial.out) × (l.out ≡ sets l.initial.out l.start (doubles (bits (take l.j l.xs))))
-
-abbrev pub decreases-loop-j : goal.decreases-loop-j
-decreases-loop-j l = length l.xs - l.j
+invariant-loop-j l = l.out ≡ sets l.initial.out l.start (doubles (bits (take l.j l.xs)))

@@ -1,5 +1,6 @@
 -- What follows the points is the end, or weights up to the end.
 -- Assumes nothing.
+use Rattle.std.specs.Prelude.{Some, None}
 use mathlib.Core.Path.{◌≡◌, sym, ◌∙◌}
 use native.Mathlib.Omega.{arith}
 use Prim.Native.Nat.{◌+◌, ◌*◌}
@@ -8,7 +9,6 @@ use lib.ListN.{length, drop, length-drop}
 use Rattle.record.specs.Reading.{run_of, end_of}
 use Rattle.record.proofs.Tests.{is_below}
 use Rattle.record.proofs.Runs.{length-patterns}
-use Rattle.record.specs.declared.field.Count.TheVariants.{Is, Bad}
 use Rattle.record.proofs.read.end_at.Goals as goal
 
 pub returns-then-s-at : goal.returns-then-s-at
@@ -23,22 +23,22 @@ unfolding end_of
 returns-in_default c = let a = c.args in
     let l = drop (11 + 8 * a.knots + 8 * a.points) a.s.now in
     let long = length-drop (11 + 8 * a.knots + 8 * a.points) a.s.now in
-    let e : run_of l 4 ≡ Bad = sym c.run_at-got.ensures.value ∙ c.in_default.is in
+    let e : run_of l 4 ≡ None = sym c.run_at.ensures.value ∙ c.in_default.is in
     c.malformed.ensures ∙ rw (ne_eqb (length l) 0 (λ z. omega arith), e)
 
 pub overflow_mul-weights : goal.overflow_mul-weights
-overflow_mul-weights c = let small = is_below 8192 _ _ c.in-Is.is c.run_at-got.ensures.below in omega arith
+overflow_mul-weights c = let small = is_below 8192 _ _ c.in-Some.is c.run_at.ensures.below in omega arith
 
 pub overflow_add-weights : goal.overflow_add-weights
-overflow_add-weights c = let small = is_below 8192 _ _ c.in-Is.is c.run_at-got.ensures.below in omega arith
+overflow_add-weights c = let small = is_below 8192 _ _ c.in-Some.is c.run_at.ensures.below in omega arith
 
 pub returns-then-s-at-2 : goal.returns-then-s-at-2
 unfolding end_of
 returns-then-s-at-2 c = let a = c.args in
     let l = drop (11 + 8 * a.knots + 8 * a.points) a.s.now in
     let long = length-drop (11 + 8 * a.knots + 8 * a.points) a.s.now in
-    let w = c.in-Is.weights in
-    let e : run_of l 4 ≡ Is w = sym c.run_at-got.ensures.value ∙ c.in-Is.is in
+    let w = c.in-Some.weights in
+    let e : run_of l 4 ≡ Some w = sym c.run_at.ensures.value ∙ c.in-Some.is in
     c.malformed-then-s-at-2.ensures ∙ rw (ne_eqb (length l) 0 (λ z. omega arith), e, ne_eqb (length l) (3 + 8 * w) (λ z. omega arith))
 
 pub returns : goal.returns
@@ -46,6 +46,6 @@ unfolding end_of
 returns c = let a = c.args in
     let l = drop (11 + 8 * a.knots + 8 * a.points) a.s.now in
     let long = length-drop (11 + 8 * a.knots + 8 * a.points) a.s.now in
-    let w = c.in-Is.weights in
-    let e : run_of l 4 ≡ Is w = sym c.run_at-got.ensures.value ∙ c.in-Is.is in
+    let w = c.in-Some.weights in
+    let e : run_of l 4 ≡ Some w = sym c.run_at.ensures.value ∙ c.in-Some.is in
     rw (ne_eqb (length l) 0 (λ z. omega arith), e, eq-eqb (length l) (3 + 8 * w) (omega arith), length-patterns, length-patterns, length-patterns)

@@ -1,12 +1,13 @@
 -- The bytes are cleared first, so that each refusal is done; then the record is stored from the front.
 -- Assumes nothing.
-use Rattle.knots.specs.Refusal.{refuse, length-bad}
+use Rattle.std.specs.Prelude.{Some, Ok, Err}
+use Rattle.knots.specs.Refusal.{refuse}
+use Rattle.knots.specs.declared.refusal.Reason.TheVariants.{LengthBad}
 use Rattle.record.specs.Writing.{Writes, table_from}
 use Rattle.record.proofs.RoundTrip.{reads-back}
 use mathlib.Core.Path.{◌≡◌, sym, ◌∙◌}
 use native.Mathlib.Omega.{arith}
 use lib.ListN.{length}
-use Rattle.record.specs.declared.write.Write.TheVariants.{Written, Refused}
 use Rattle.record.proofs.Written.{length-table, size_none, size-some, writes-none, writes_short, writes-all}
 use Rattle.record.proofs.write.write_record.Goals as goal
 
@@ -17,16 +18,16 @@ returns-in_default c = let a = c.args in
     let ws = a.weights.now in
     let out = a.out.now in
     let t = table_from a.degree ks ps a.rational ws in
-    let none-held = size_none a.degree ks ps a.rational ws (sym c.record_size-size.ensures ∙ c.in_default.is) in
-    let w : Writes t out c.clear_bytes.new.bytes (Refused (refuse length-bad)) =
+    let none-held = size_none a.degree ks ps a.rational ws (sym c.record_size.ensures ∙ c.in_default.is) in
+    let w : Writes t out c.clear_bytes.new.bytes (Err (refuse LengthBad)) =
     rw c.clear_bytes.ensures (writes-none t out none-held) in
     rw
     c.refuse.ensures (record {
       writes = w;
       reads_back = reads-back
-          a.degree ks ps a.rational ws (λ i. c.shared_slice_known-1.given i)
-          (λ i. c.shared_slice_known-2-1.given i)
-          (λ i. c.shared_slice_known-3-1.given i) out _ _ w;
+          a.degree ks ps a.rational ws (λ i. c.type_inv.knots i)
+          (λ i. c.type_inv.points i)
+          (λ i. c.type_inv.weights i) out _ _ w;
     })
 
 pub returns-then-out-n : goal.returns-then-out-n
@@ -39,18 +40,18 @@ returns-then-out-n c = let b = c.clear_bytes in
     let t = table_from a.degree ks ps a.rational ws in
     let size =
     size-some
-    a.degree ks ps a.rational ws c.in-Is.n
-    (sym c.record_size-size.ensures ∙ c.in-Is.is) in
+    a.degree ks ps a.rational ws c.in-Some.n
+    (sym c.record_size.ensures ∙ c.in-Some.is) in
     let long : length b.new.bytes ≡ length out = b.auto.bytes in
-    let w : Writes t out b.new.bytes (Refused (refuse length-bad)) =
+    let w : Writes t out b.new.bytes (Err (refuse LengthBad)) =
     rw b.ensures (writes_short t out size.0 (omega arith)) in
     rw
     c.refuse-then-out-n.ensures (record {
       writes = w;
       reads_back = reads-back
-          a.degree ks ps a.rational ws (λ i. c.shared_slice_known-1.given i)
-          (λ i. c.shared_slice_known-2-1.given i)
-          (λ i. c.shared_slice_known-3-1.given i) out _ _ w;
+          a.degree ks ps a.rational ws (λ i. c.type_inv.knots i)
+          (λ i. c.type_inv.points i)
+          (λ i. c.type_inv.weights i) out _ _ w;
     })
 
 pub put_table-requires : goal.put_table-requires
@@ -61,8 +62,8 @@ put_table-requires c = let a = c.args in
     let out = a.out.now in
     let size =
     size-some
-    a.degree ks ps a.rational ws c.in-Is.n
-    (sym c.record_size-size.ensures ∙ c.in-Is.is) in
+    a.degree ks ps a.rational ws c.in-Some.n
+    (sym c.record_size.ensures ∙ c.in-Some.is) in
     let long : length c.clear_bytes.new.bytes ≡ length out =
     c.clear_bytes.auto.bytes in
     let table = length-table a.degree ks ps a.rational ws in
@@ -78,10 +79,10 @@ returns c = let b = c.clear_bytes in
     let t = table_from a.degree ks ps a.rational ws in
     let size =
     size-some
-    a.degree ks ps a.rational ws c.in-Is.n
-    (sym c.record_size-size.ensures ∙ c.in-Is.is) in
+    a.degree ks ps a.rational ws c.in-Some.n
+    (sym c.record_size.ensures ∙ c.in-Some.is) in
     let long : length b.new.bytes ≡ length out = b.auto.bytes in
-    let w : Writes t out c.put_table.new.out (Written c.in-Is.n) =
+    let w : Writes t out c.put_table.new.out (Ok c.in-Some.n) =
     rw
     (c.put_table.ensures, b.ensures, ← size.1)
     (writes-all t out size.0 (omega arith)) in
@@ -89,7 +90,7 @@ returns c = let b = c.clear_bytes in
       writes = w;
       reads_back = reads-back
           a.degree ks ps a.rational ws
-          (λ i. c.shared_slice_known-1.given i)
-          (λ i. c.shared_slice_known-2-1.given i)
-          (λ i. c.shared_slice_known-3-1.given i) out _ _ w;
+          (λ i. c.type_inv.knots i)
+          (λ i. c.type_inv.points i)
+          (λ i. c.type_inv.weights i) out _ _ w;
     }

@@ -1,6 +1,6 @@
 -- The number of sixteen digits: after i of them it is below 2 to the 4 i, so that no sum wraps.
 -- Assumes nothing.
-use Prim.Native.Nat.{ℕ, ◌+◌, ◌*◌, ◌-◌, ◌^◌, ◌≤◌, ◌<◌}
+use Prim.Native.Nat.{ℕ, ◌+◌, ◌*◌, ◌^◌, ◌≤◌, ◌<◌}
 use native.Mathlib.Numerals.{add-one}
 use native.Mathlib.Omega.{arith}
 use mathlib.Core.Path.{◌≡◌, ap, ◌∙◌}
@@ -24,22 +24,14 @@ unfolding hex
 loop-i-init c = search rules
 
 pub overflow_mul-v : goal.overflow_mul-v
-overflow_mul-v c = let l : c.loop-i.v < 2 ^ 60 = room _ _ c.loop-i-test.true c.loop-i.invariant.1.1 in omega arith
+overflow_mul-v c = let l : c.loop-i.v < 2 ^ 60 = room c.loop-i.i _ (omega arith) c.loop-i.invariant.1 in omega arith
 
 pub overflow_add-v : goal.overflow_add-v
-overflow_add-v c = let l : c.loop-i.v < 2 ^ 60 = room c.loop-i.i _ (omega arith) c.loop-i.invariant.1.1 in omega arith
+overflow_add-v c = let l : c.loop-i.v < 2 ^ 60 = room c.loop-i.i _ (omega arith) c.loop-i.invariant.1 in omega arith
 
 pub loop-i-preserved : goal.loop-i-preserved
 unfolding hex
-loop-i-preserved c = let i = c.loop-i.i in
-    let v = c.loop-i.v in (
-      search rules,
-      (
-        rw (c.digit.ensures.value, c.loop-i.invariant.1.0, add-one),
-        more i v c.digit.result c.loop-i.invariant.1.1 c.digit.ensures.upper_bound,
-      ),
-    )
-
-pub returns : goal.returns
-returns c = let e : c.loop-i.i ≡ 16 = omega arith in
-    rw e at c.loop-i.invariant.1.0
+loop-i-preserved c = (
+  rw (c.digit.ensures.value, c.loop-i.invariant.0, add-one),
+  more c.loop-i.i c.loop-i.v c.digit.result c.loop-i.invariant.1 c.digit.ensures.upper_bound,
+)

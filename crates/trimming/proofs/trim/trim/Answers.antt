@@ -1,86 +1,58 @@
-use mathlib.Core.Path.{sym, ◌∙◌, ap}
+-- `trimming::trim::trim` meets its contract.
+-- Assumes nothing.
+use Rattle.std.proofs.Common.{◌∙◌, ap}
 use native.Mathlib.Omega.{arith}
 use lib.ListN.{length}
 use Rattle.knots.specs.Clear.{zeros}
-use Rattle.knots.specs.declared.refusal.Refusal.{Refusal}
+use Rattle.knots.proofs.Refusals.{let_by}
 use Rattle.trimming.proofs.Ranges.{start-open, range-order}
-use Rattle.trimming.proofs.Cutting.{trim-early, trim-late, trim-formed}
+use Rattle.edits.proofs.Outcomes.{edit-early, edit-late, edit-formed}
+use Rattle.trimming.specs.Trim.{trim_outcome}
 use Rattle.trimming.proofs.trim.trim.Goals as goal
 
-pub shape_of-out_points-then-early-ne0 : goal.shape_of-out_points-then-early-ne0
-shape_of-out_points-then-early-ne0 c = c.out_points-1.given
+pub returns-in-Err : goal.returns-in-Err
+unfolding trim_outcome
+returns-in-Err c = let k = c.clear_all.ensures in edit-early _ _ _ _ _ _ _ _ _ k.3 _ c.in-Err.ensures _ _ _ k.0 k.1 k.2
 
-pub returns-then-early-ne0 : goal.returns-then-early-ne0
-returns-then-early-ne0 c = let a = c.args in
-    let k = c.clear_all.ensures in trim-early a.degree a.knots.now a.points.now a.rational a.weights.now a.lo
-    a.hi (length a.out_knots.now) (length a.out_points.now) (length a.out_weights.now) (length a.scratch.now) _ k.3 _
-    c.trim_start-early.ensures
-    c.if-early-ne0.true _ _ _ k.0 k.1 k.2
-
-pub trim_into-refusal-requires : goal.trim_into-refusal-requires
-trim_into-refusal-requires c = let a = c.args in
+pub trim_into-late-requires : goal.trim_into-late-requires
+trim_into-late-requires c = let a = c.args in
     let o =
     start-open
     a.degree a.knots.now a.points.now a.rational a.weights.now a.lo a.hi (length a.out_knots.now) (length a.out_points.now) (length a.out_weights.now)
-    (length a.scratch.now) (sym (ap (λ (r : Refusal). r.number) c.trim_start-early.ensures) ∙ c.if-early-ne0.false) in
-    let v = o.curve in
-    let l = v.knots.long in
-    let k = v.knots.count in
-    let s = v.short.knots in let b = range-order a.degree _ a.knots.now v.knots a.lo a.hi o.range in
+    (length a.scratch.now) (let_by _ c.in_default.ensures) in
     record {
-      valid_curve = v;
-      lo_bound = b;
+      valid_curve = o.curve;
+      lo_bound = range-order a.degree _ a.knots.now o.curve.knots a.lo a.hi o.range;
       degree_in_bounds = o.out.knots;
       hi_in_bounds = o.out.points;
       hi_in_bounds_2 = o.out.weights;
       degree_in_bounds_2 = o.scratch;
     }
 
-pub returns-then-refusal-ne0 : goal.returns-then-refusal-ne0
-returns-then-refusal-ne0 c = let a = c.args in
-    let k = c.clear_all-then-refusal-ne0.ensures in trim-late a.degree a.knots.now a.points.now a.rational a.weights.now a.lo
-    a.hi (length a.out_knots.now) (length a.out_points.now) (length a.out_weights.now) (length a.scratch.now) _
-    (k.3 ∙ ap zeros c.scratch-2-1.given) _
-    c.trim_start-early.ensures
-    c.if-early-ne0.false
-    _ _ _ _
-    c.trim_into-refusal.ensures
-    c.if-refusal-ne0.true _ _ _
-    (k.0
-    ∙ ap
-    zeros
-    c.out_knots-2-1.given)
-    (k.1
-    ∙ ap
-    zeros c.out_points-2-1.given)
-    (k.2 ∙ ap zeros c.out_weights-2-1.given)
+pub returns-in-Err-late : goal.returns-in-Err-late
+unfolding trim_outcome
+returns-in-Err-late c = let k = c.clear_all-in-Err-late.ensures in
+    let l = c.trim_into-late.auto in
+    edit-late
+    _ _ _ _ _ _ _ _ _ (k.3 ∙ ap zeros l.work) (let_by _ c.in_default.ensures) _ _ _ _ c.in-Err-late.ensures _ _ _
+    (k.0 ∙ ap zeros l.out_knots) (k.1 ∙ ap zeros l.out_points) (k.2 ∙ ap zeros l.out_weights)
 
 pub kept-count-requires : goal.kept-count-requires
 kept-count-requires c = let a = c.args in
     let o =
     start-open
     a.degree a.knots.now a.points.now a.rational a.weights.now a.lo a.hi (length a.out_knots.now) (length a.out_points.now) (length a.out_weights.now)
-    (length a.scratch.now)
-    (sym
-    (ap
-    (λ (r : Refusal). r.number)
-    c.trim_start-early.ensures)
-    ∙ c.if-early-ne0.false) in
+    (length a.scratch.now) (let_by _ c.in_default.ensures) in
     let v = o.curve in
-    let l = v.knots.long in let k = v.knots.count in let s = v.short.knots in let b = range-order a.degree _ a.knots.now v.knots a.lo a.hi o.range in
+    let l = v.knots.long in
+    let k = v.knots.count in
+    let s = v.short.knots in
     record {
       p_bound = omega arith;
       knots_len_bound = s;
-      lo_bound = b;
+      lo_bound = range-order a.degree _ a.knots.now v.knots a.lo a.hi o.range;
     }
 
 pub returns : goal.returns
-returns c = let cleared = c.clear.ensures in
-    let a = c.args in
-    trim-formed
-    a.degree a.knots.now a.points.now a.rational a.weights.now a.lo a.hi (length a.out_knots.now) (length a.out_points.now) (length a.out_weights.now)
-    (length a.scratch.now) _ (cleared ∙ ap zeros c.scratch-2-1.given) _
-    c.trim_start-early.ensures
-    c.if-early-ne0.false _ _ _ _
-    c.trim_into-refusal.ensures
-    c.if-refusal-ne0.false _ c.kept-count.ensures
+unfolding trim_outcome
+returns c = edit-formed _ _ _ _ _ _ _ _ _ (c.clear.ensures ∙ ap zeros c.trim_into-late.auto.work) (let_by _ c.in_default.ensures) _ _ _ c.in_default-late.ensures _ c.kept-count.ensures

@@ -1,3 +1,6 @@
+-- `trimming::trim::trim_into` meets its contract.
+-- Assumes nothing.
+use Rattle.std.proofs.lemmas.Result.{err_from_is_err_and}
 use Prim.Native.Nat.{◌+◌, ◌*◌, ◌/◌}
 use native.Mathlib.Omega.{arith}
 use lib.ListN.{length}
@@ -54,8 +57,8 @@ overflow_mul-a c = let pr = c.requires in
     let g = c.well_formed in
     let f = c.ranges in let x = c.missing-x.ensures in let y = c.missing-y.ensures in omega (arith, g, f)
 
-pub insert_ends-late-requires : goal.insert_ends-late-requires
-insert_ends-late-requires c = let pr = c.requires in
+pub insert_ends-requires : goal.insert_ends-requires
+insert_ends-requires c = let pr = c.requires in
     let v = pr.valid_curve in
     let l = v.knots.long in
     let k = v.knots.count in
@@ -69,15 +72,15 @@ insert_ends-late-requires c = let pr = c.requires in
       hi_bound = (omega arith, omega arith);
     }
 
-pub shape_of-work-then-late-ne0 : goal.shape_of-work-then-late-ne0
-shape_of-work-then-late-ne0 c = c.work-1.given
-
-pub returns-then-late-ne0 : goal.returns-then-late-ne0
-returns-then-late-ne0 c = let a = c.args in
-    into-refused
+pub returns-in_err-insert_ends : goal.returns-in_err-insert_ends
+returns-in_err-insert_ends c = let p = err_from_is_err_and c.from_residual.result c.from_residual.ensures.1 in
+    let a = c.args in
+    rw
+    (p.1, p.2)
+    (into-refused
     a.degree a.knots.now a.points.now a.rational a.weights.now
     c.requires.valid_curve a.lo a.hi (length a.out_knots.now)
-    (length a.out_points.now) (length a.out_weights.now) _ _ _ _ c.insert_ends-late.ensures.value c.if-late-ne0.true
+    (length a.out_points.now) (length a.out_weights.now) _ _ _ _ c.in_err-insert_ends.ensures.value)
 
 pub kept-m-requires : goal.kept-m-requires
 kept-m-requires c = let pr = c.requires in
@@ -122,18 +125,6 @@ cut-requires c = let a = c.args in
       m_in_bounds_2 = rw M pr.hi_in_bounds_2;
     }
 
-pub shape_of-out_knots : goal.shape_of-out_knots
-shape_of-out_knots c = c.out_knots-1.given
-
-pub shape_of-out_points : goal.shape_of-out_points
-shape_of-out_points c = c.out_points-1.given
-
-pub shape_of-out_weights : goal.shape_of-out_weights
-shape_of-out_weights c = c.out_weights-1.given
-
-pub shape_of-work : goal.shape_of-work
-shape_of-work c = c.work-1.given
-
 pub returns : goal.returns
 returns c = let b = c.missing-x in
     let d = c.missing-y in
@@ -157,7 +148,6 @@ returns c = let b = c.missing-x in
     (kept-fits
     a.degree (length a.points.now / 3) a.knots.now pr.valid_curve.knots a.lo a.hi pr.lo_bound
     (multiplicity-most a.degree (length a.points.now / 3) a.knots.now pr.valid_curve.knots a.hi))
-    (omega arith) (omega arith) _ c.insert_ends-late.ensures.value
-    c.if-late-ne0.false _
-    c.insert_ends-late.ensures.work_after _
+    (omega arith) (omega arith) c.in_ok-insert_ends.ensures.value _
+    c.in_ok-insert_ends.ensures.work_after _
     c.cut.ensures
