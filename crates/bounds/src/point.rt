@@ -3,6 +3,7 @@ ghost use Rattle.std.specs.Prelude.{◌≡◌, ◌+◌, ◌≤◌, ◌<◌, leng
 ghost use Rattle.bounds.specs.Curve.{bound_of, bound_at, span_bound};
 ghost use Rattle.bounds.specs.Point.{along_of, flat_cartesian, point_part, point_only};
 ghost use Rattle.knots.specs.Curve.{count_of};
+ghost use Rattle.knots.specs.Whole.{on};
 ghost use Rattle.runs.specs.Fraction.{coordinate_value};
 ghost use Rattle.bounds.specs.Numbers.{point_refusal};
 ghost use Rattle.bounds.specs.Holds.{PointHolds, PointHoldsOn, NotIdle};
@@ -14,7 +15,7 @@ use ends::ends::interval_of;
 use ends::flat::Flat;
 use interval::Interval;
 use interval::float::{max, min};
-use knots::curve::curve_refusal;
+use knots::curve::{Curve, curve_refusal};
 use knots::refusal::{Reason, Refusal, refuse};
 use ranges::range::{range_refusal, span_over};
 use ranges::read::start_refusal;
@@ -46,22 +47,20 @@ fn flat_cartesian(h: Flat, o: Vector, bound: Interval) -> Result<Triple, Refusal
 }
 
 // The intervals on span s.
-fn point_on(
-    degree: usize,
-    s: usize,
-    knots: &[f64],
-    points: &[f64],
-    weights: &[f64],
-    rational: bool,
-    lo: f64,
-    hi: f64,
-) -> Result<Triple, Refusal>
-    requires degree_bound { degree ≤ 64 }
-    requires degree_le_s { degree ≤ s }
-    requires degree_in_bounds { s + degree < length knots.now }
+fn point_on(curve: Curve, s: usize, lo: f64, hi: f64) -> Result<Triple, Refusal>
+    requires degree_bound { curve.degree ≤ 64 }
+    requires degree_le_s { curve.degree ≤ s }
+    requires degree_in_bounds { s + curve.degree < length curve.knots.now }
     requires s_bound { s < 1048576 }
-    ensures { result ≡ point_part (span_bound degree s knots.now points.now weights.now rational lo hi) }
+    ensures { result ≡ point_part (on curve.entry (λ p ks ps g ws. span_bound p s ks ps ws g lo hi)) }
 {
+    let Curve {
+        degree,
+        knots,
+        points,
+        rational,
+        weights,
+    } = curve;
     let first = s - degree;
     let w = weights_of(rational, weights, first, degree + 1)?;
     let o = point_at(points, first);
@@ -74,41 +73,24 @@ fn point_on(
 }
 
 // The point's part of bound_curve, to the bit and with its refusals.
-pub fn bound_point(
-    degree: usize,
-    knots: &[f64],
-    points: &[f64],
-    rational: bool,
-    weights: &[f64],
-    lo: f64,
-    hi: f64,
-) -> Result<Triple, Refusal>
-    ensures value { result ≡ point_only (bound_of degree knots.now points.now rational weights.now lo hi) }
-    ensures point_holds { PointHolds degree knots.now points.now rational weights.now lo hi result }
+pub fn bound_point(curve: Curve, lo: f64, hi: f64) -> Result<Triple, Refusal>
+    ensures value { result ≡ point_only (on curve.entry bound_of lo hi) }
+    ensures point_holds { on curve.entry PointHolds lo hi result }
     ensures not_idle { NotIdle (point_refusal result).number }
 {
-    curve_refusal(degree, knots, points, rational, weights)?;
-    let count = points.len() / 3;
-    let s = span_over(degree, count, knots, lo, hi);
-    range_refusal(degree, count, s, lo, hi)?;
-    point_on(degree, s, knots, points, weights, rational, lo, hi)
+    curve_refusal(curve)?;
+    let count = curve.points.len() / 3;
+    let s = span_over(curve.degree, count, curve.knots, lo, hi);
+    range_refusal(curve.degree, count, s, lo, hi)?;
+    point_on(curve, s, lo, hi)
 }
 
 // The point's part of bound_span: no number but the span's own is read.
-pub fn point_span(
-    degree: usize,
-    span: usize,
-    knots: &[f64],
-    points: &[f64],
-    rational: bool,
-    weights: &[f64],
-    lo: f64,
-    hi: f64,
-) -> Result<Triple, Refusal>
-    ensures value { result ≡ point_only (bound_at degree span knots.now points.now rational weights.now lo hi) }
-    ensures point_holds_on { PointHoldsOn degree span knots.now (count_of points.now) rational weights.now lo hi (coordinate_value points.now) result }
+pub fn point_span(curve: Curve, span: usize, lo: f64, hi: f64) -> Result<Triple, Refusal>
+    ensures value { result ≡ point_only (on curve.entry (λ p. bound_at p span) lo hi) }
+    ensures point_holds_on { on curve.entry (λ p ks ps g ws. PointHoldsOn p span ks (count_of ps) g ws lo hi (coordinate_value ps) result) }
     ensures not_idle { NotIdle (point_refusal result).number }
 {
-    start_refusal(degree, span, knots, points, rational, weights, lo, hi)?;
-    point_on(degree, span, knots, points, weights, rational, lo, hi)
+    start_refusal(curve, span, lo, hi)?;
+    point_on(curve, span, lo, hi)
 }

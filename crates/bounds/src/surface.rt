@@ -2,6 +2,7 @@
 ghost use Rattle.std.specs.Prelude.{◌≡◌};
 ghost use Rattle.knots.specs.Refusal.{checked};
 ghost use Rattle.knots.specs.Surface.{surface_refusal};
+ghost use Rattle.knots.specs.Whole.{across};
 ghost use Rattle.ranges.specs.Range.{span_over};
 ghost use Rattle.bounds.specs.Surface.{ranges_refusal, bounded_by, surface_of};
 ghost use Rattle.bounds.specs.Numbers.{bounded_refusal};
@@ -10,7 +11,7 @@ ghost use Rattle.bounds.specs.Holds.{SurfaceHolds, NotIdle};
 use crate::answer::{NurbsBounds, bounds_of};
 use crate::rows::{Side, on_spans};
 use knots::refusal::{Reason, Refusal, refuse};
-use knots::surface::surface_refusal;
+use knots::surface::{Surface, surface_refusal};
 use ranges::range::{range_refusal, span_over};
 
 // Refusals 31, then 24 and 25 for u and for v.
@@ -46,38 +47,36 @@ fn bound_valid(
 
 // The bounds of a surface over a closed rectangle, which one rectangle of nonempty spans must contain. They hold the exact point and both its first derivatives at every pair of fractions. 28 and 29 are never given.
 pub fn bound_surface(
-    u_degree: usize,
-    v_degree: usize,
-    u_knots: &[f64],
-    v_knots: &[f64],
-    u_count: usize,
-    v_count: usize,
-    points: &[f64],
-    rational: bool,
-    weights: &[f64],
+    surface: Surface,
     u_lo: f64,
     u_hi: f64,
     v_lo: f64,
     v_hi: f64,
 ) -> Result<NurbsBounds, Refusal>
-    ensures value { result ≡ surface_of u_degree v_degree u_knots.now v_knots.now u_count v_count points.now rational weights.now u_lo u_hi v_lo v_hi }
-    ensures surface_holds { SurfaceHolds u_degree v_degree u_knots.now v_knots.now u_count v_count points.now rational weights.now u_lo u_hi v_lo v_hi result }
+    ensures value { result ≡ across surface.entry surface_of u_lo u_hi v_lo v_hi }
+    ensures surface_holds { across surface.entry SurfaceHolds u_lo u_hi v_lo v_hi result }
     ensures not_idle { NotIdle (bounded_refusal result).number }
 {
-    surface_refusal(
-        u_degree, v_degree, u_knots, v_knots, u_count, v_count, points, rational, weights,
-    )?;
+    surface_refusal(surface)?;
     let u = Side {
-        degree: u_degree,
-        count: u_count,
+        degree: surface.u_degree,
+        count: surface.u_count,
         lo: u_lo,
         hi: u_hi,
     };
     let v = Side {
-        degree: v_degree,
-        count: v_count,
+        degree: surface.v_degree,
+        count: surface.v_count,
         lo: v_lo,
         hi: v_hi,
     };
-    bound_valid(u, v, u_knots, v_knots, points, rational, weights)
+    bound_valid(
+        u,
+        v,
+        surface.u_knots,
+        surface.v_knots,
+        surface.points,
+        surface.rational,
+        surface.weights,
+    )
 }

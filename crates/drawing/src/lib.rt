@@ -11,11 +11,13 @@ ghost use Rattle.knots.specs.Walk.{next_span};
 ghost use Rattle.listing.specs.Text.{Shown};
 ghost use Rattle.listing.specs.Listing.{shown_of, answer_of};
 ghost use Rattle.drawing.specs.Drawing.{extent_of, view_of, head_text, point_text, middle_text, tail_text, box_text, parts_of, drawn_of};
+ghost use Rattle.knots.specs.Whole.{on};
 
 use bounds::answer::NurbsBounds;
 use decimals::pieces::{put_number, put_text};
 use extremes::extreme;
 use interval::float::{infinity, min, next_down};
+use knots::curve::Curve;
 use knots::refusal::Refusal;
 use listing::{Line, Range, next_range};
 use parts::{bound_part, part_in};
@@ -152,27 +154,22 @@ pub fn parts_of(count: usize) -> usize
 }
 
 // The line of a part of the first nonempty span from a place on, of a curve that was validated before; for any input. Where there is none, nothing but 0.
-pub fn next_path(
-    degree: usize,
-    knots: &[f64],
-    points: &[f64],
-    rational: bool,
-    weights: &[f64],
-    from: usize,
-    part: usize,
-    out: &mut [u8; 2304],
-) -> Option<Line>
-    ensures value { result ≡ answer_of (drawn_of degree knots.now points.now rational weights.now part) (next_span degree (count_of points.now) knots.now from) }
-    ensures shown { Shown 2304 (shown_of (drawn_of degree knots.now points.now rational weights.now part) (next_span degree (count_of points.now) knots.now from)) out.new (length (shown_of (drawn_of degree knots.now points.now rational weights.now part) (next_span degree (count_of points.now) knots.now from))) }
+pub fn next_path(curve: Curve, from: usize, part: usize, out: &mut [u8; 2304]) -> Option<Line>
+    ensures value { result ≡ answer_of (on curve.entry drawn_of part) (next_span curve.entry.degree (count_of curve.entry.points.now) curve.entry.knots.now from) }
+    ensures shown { Shown 2304 (shown_of (on curve.entry drawn_of part) (next_span curve.entry.degree (count_of curve.entry.points.now) curve.entry.knots.now from)) out.new (length (shown_of (on curve.entry drawn_of part) (next_span curve.entry.degree (count_of curve.entry.points.now) curve.entry.knots.now from))) }
 {
+    let Curve {
+        degree,
+        knots,
+        points,
+        ..
+    } = curve;
     let count = points.len() / 3;
     let parts = parts_of(count);
     let taken = part_in(parts, part);
     match next_range(degree, count, knots, from) {
         Some(Range { span, lower, upper }) => {
-            let answer = bound_part(
-                degree, span, knots, points, rational, weights, lower, upper, taken, parts,
-            );
+            let answer = bound_part(curve, span, lower, upper, taken, parts);
             let length = box_text(span, taken, answer, out);
             Some(Line { span, length })
         }

@@ -7,6 +7,7 @@ ghost use Rattle.drawing.specs.Drawing.{mark_of, part_of};
 
 use bounds::answer::NurbsBounds;
 use bounds::curve::bound_span;
+use knots::curve::Curve;
 use knots::refusal::Refusal;
 
 // A count as a double.
@@ -46,12 +47,8 @@ pub fn part_in(parts: usize, part: usize) -> usize
 
 // The bounds on a part of the span between two knots.
 pub fn bound_part(
-    degree: usize,
+    curve: Curve,
     span: usize,
-    knots: &[f64],
-    points: &[f64],
-    rational: bool,
-    weights: &[f64],
     lower: f64,
     upper: f64,
     part: usize,
@@ -59,9 +56,9 @@ pub fn bound_part(
 ) -> Result<NurbsBounds, Refusal>
     requires part_lt_parts { part < parts }
     requires parts_bound { parts ≤ 1024 }
-    ensures { result ≡ bound_at degree span knots.now points.now rational weights.now (mark_of lower upper part parts) (mark_of lower upper (part + 1) parts) }
+    ensures { result ≡ bound_at curve.entry.degree span curve.entry.knots.now curve.entry.points.now curve.entry.rational curve.entry.weights.now (mark_of lower upper part parts) (mark_of lower upper (part + 1) parts) }
 {
     let lo = mark(lower, upper, part, parts);
     let hi = mark(lower, upper, part + 1, parts);
-    bound_span(degree, span, knots, points, rational, weights, lo, hi)
+    bound_span(curve, span, lo, hi)
 }

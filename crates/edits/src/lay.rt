@@ -1,5 +1,6 @@
 // A curve goes into a lent run, and out of it.
 ghost use Rattle.std.specs.Prelude.{◌≡◌, true, ◌++◌, ◌+◌, ◌*◌, ◌/◌, ◌<◌, ◌≤◌, length, drop};
+ghost use Rattle.knots.specs.Whole.{on};
 ghost use Rattle.edits.specs.Rows.{given};
 ghost use Rattle.runs.specs.Lent.{padded};
 ghost use Rattle.edits.specs.Work.{knots_from, points_from, weights_from};
@@ -8,6 +9,7 @@ ghost use Rattle.edits.specs.Passes.{given_row, RowsLaid, KnotsLaid, CurveIn};
 use crate::counts::given_count;
 use crate::inside::{put_whole, whole_row};
 use crate::rows::{kept_row, vector_of};
+use knots::curve::Curve;
 use runs::copy::{clear_from, copy_run};
 use runs::points::{point_at, put_point};
 use runs::weights::{put_weight, weight_at};
@@ -33,20 +35,13 @@ pub fn lay_knots(knots: &[f64], a: usize, work: &mut [f64])
 }
 
 // A curve goes into a run, its knots to place a.
-pub fn lay_into(
-    knots: &[f64],
-    points: &[f64],
-    rational: bool,
-    weights: &[f64],
-    a: usize,
-    work: &mut [f64],
-)
-    requires points_in_bounds { rational ≡ true → length points.now / 3 ≤ length weights.now }
-    requires points_len_bound { (length points.now / 3 * 4 ≤ a) × (a + length knots.now ≤ length work.old) }
-    ensures { CurveIn a knots.now points.now rational weights.now work.old work.new }
+pub fn lay_into(curve: Curve, a: usize, work: &mut [f64])
+    requires points_in_bounds { curve.rational ≡ true → length curve.points.now / 3 ≤ length curve.weights.now }
+    requires points_len_bound { (length curve.points.now / 3 * 4 ≤ a) × (a + length curve.knots.now ≤ length work.old) }
+    ensures { on curve.entry (λ p ks ps g ws. CurveIn a ks ps g ws) work.old work.new }
 {
-    lay_rows(points, rational, weights, work);
-    lay_knots(knots, a, work);
+    lay_rows(curve.points, curve.rational, curve.weights, work);
+    lay_knots(curve.knots, a, work);
 }
 
 // The points and weights of n rows go to n points, and to the front of the weights. The test of the loop is the store's own.

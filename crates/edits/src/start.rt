@@ -1,10 +1,11 @@
 // The refusals of an edit before anything is formed.
 ghost use Rattle.std.specs.Prelude.{◌≡◌, ◌+◌, ◌<◌, length};
 ghost use Rattle.knots.specs.Refusal.{checked};
+ghost use Rattle.knots.specs.Whole.{on};
 ghost use Rattle.edits.specs.Start.{clamped_ends, edit_start, out_room, scratch_room};
 
 use crate::counts::{all_equal, given_count};
-use knots::curve::curve_refusal;
+use knots::curve::{Curve, curve_refusal};
 use knots::refusal::{Reason, Refusal, refuse};
 use knots::shape::room_refusal;
 
@@ -18,17 +19,11 @@ fn clamped_ends(p: usize, n: usize, knots: &[f64]) -> bool
 }
 
 // The curve's refusal, 17.
-pub fn edit_start(
-    degree: usize,
-    knots: &[f64],
-    points: &[f64],
-    rational: bool,
-    weights: &[f64],
-) -> Result<(), Refusal>
-    ensures { result ≡ checked (edit_start degree knots.now points.now rational weights.now) }
+pub fn edit_start(curve: Curve) -> Result<(), Refusal>
+    ensures { result ≡ checked (on curve.entry edit_start) }
 {
-    curve_refusal(degree, knots, points, rational, weights)?;
-    if !clamped_ends(degree, points.len() / 3, knots) {
+    curve_refusal(curve)?;
+    if !clamped_ends(curve.degree, curve.points.len() / 3, curve.knots) {
         return Err(refuse(Reason::EndsUnclamped));
     }
     Ok(())

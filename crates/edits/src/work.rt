@@ -2,6 +2,7 @@
 ghost use Rattle.std.specs.Prelude.{◌≡◌, ◌+◌, ◌*◌, length, drop};
 ghost use Rattle.knots.specs.Refusal.{checked};
 ghost use Rattle.knots.specs.Clear.{zeros};
+ghost use Rattle.knots.specs.Whole.{on};
 ghost use Rattle.runs.specs.Lent.{left_in};
 ghost use Rattle.edits.specs.Work.{knots_from, points_from, weights_from, work_room, lay_refusal, lay_outcome, refusal_of, work_in, take_refusal, front_refusal};
 
@@ -9,7 +10,7 @@ use crate::counts::given_count;
 use crate::lay::{lay_into, store_curve};
 use crate::start::out_room;
 use knots::clear::clear;
-use knots::curve::formed_refusal;
+use knots::curve::{Curve, formed_refusal};
 use knots::refusal::{Reason, Refusal, refuse};
 use knots::shape::room_refusal;
 
@@ -40,38 +41,24 @@ pub fn work_room(n: usize, m: usize, a: usize, l: usize) -> Result<(), Refusal>
 }
 
 // 30 for the weights, and for the run.
-fn lay_refusal(
-    knots: &[f64],
-    points: &[f64],
-    rational: bool,
-    weights: &[f64],
-    a: usize,
-    l: usize,
-) -> Result<(), Refusal>
-    ensures { result ≡ checked (lay_refusal knots.now points.now rational weights.now a l) }
+fn lay_refusal(curve: Curve, a: usize, l: usize) -> Result<(), Refusal>
+    ensures { result ≡ checked (on curve.entry (λ p. lay_refusal) a l) }
 {
-    let n = points.len() / 3;
-    room_refusal(weights.len(), given_count(rational, n))?;
-    work_room(n, knots.len(), a, l)
+    let n = curve.points.len() / 3;
+    room_refusal(curve.weights.len(), given_count(curve.rational, n))?;
+    work_room(n, curve.knots.len(), a, l)
 }
 
 // A curve goes into a run, its knots to place a. Beside it the run stays as it was.
-pub fn lay_curve(
-    knots: &[f64],
-    points: &[f64],
-    rational: bool,
-    weights: &[f64],
-    a: usize,
-    work: &mut [f64],
-) -> Result<(), Refusal>
-    ensures value { result ≡ checked (refusal_of (lay_outcome knots.now points.now rational weights.now a (length work.old))) }
-    ensures work_after { work.new ≡ work_in a rational work.old (lay_outcome knots.now points.now rational weights.now a (length work.old)) }
+pub fn lay_curve(curve: Curve, a: usize, work: &mut [f64]) -> Result<(), Refusal>
+    ensures value { result ≡ checked (refusal_of (on curve.entry (λ p. lay_outcome) a (length work.old))) }
+    ensures work_after { work.new ≡ work_in a curve.entry.rational work.old (on curve.entry (λ p. lay_outcome) a (length work.old)) }
 {
-    if let Err(r) = lay_refusal(knots, points, rational, weights, a, work.len()) {
+    if let Err(r) = lay_refusal(curve, a, work.len()) {
         clear(work);
         return Err(r);
     }
-    lay_into(knots, points, rational, weights, a, work);
+    lay_into(curve, a, work);
     Ok(())
 }
 

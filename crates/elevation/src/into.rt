@@ -1,6 +1,7 @@
 // The raised curve goes to the outputs.
 ghost use Rattle.std.specs.Prelude.{◌≡◌, ◌+◌, ◌*◌, ◌/◌, ◌<◌, ◌≤◌, length};
 ghost use Rattle.knots.specs.Clear.{zeros};
+ghost use Rattle.knots.specs.Whole.{on};
 ghost use Rattle.edits.specs.Rows.{given};
 ghost use Rattle.edits.specs.Whole.{given_of};
 ghost use Rattle.edits.specs.Passes.{OutMeets};
@@ -16,6 +17,7 @@ use crate::start::elevated_count;
 use crate::walk::count_breaks;
 use edits::rows::{lift_in, row_at, scale_in, vector_of};
 use edits::work::lay_curve;
+use knots::curve::Curve;
 use knots::refusal::Refusal;
 
 // The extracted curve of m points, which stands in a run, is raised: 19, 20, and 1 to 10 of the curve that is formed.
@@ -59,27 +61,29 @@ fn raise_extracted(
 
 // The curve goes into scratch, its breaks are made full there, and what is raised of it goes to the outputs, which are +0.0.
 pub fn raise_into(
-    degree: usize,
+    curve: Curve,
     raised: usize,
-    knots: &[f64],
-    points: &[f64],
-    rational: bool,
-    weights: &[f64],
     out_knots: &mut [f64],
     out_points: &mut [f64],
     out_weights: &mut [f64],
     work: &mut [f64],
 ) -> Result<(), Refusal>
-    requires work_value { (elevate_start degree knots.now points.now rational weights.now raised (length out_knots.old) (length out_points.old) (length out_weights.old) (length work.old)).number ≡ 0 }
-    requires fact { raised ≡ degree → ⊥ }
+    requires work_value { (on curve elevate_start raised (length out_knots.old) (length out_points.old) (length out_weights.old) (length work.old)).number ≡ 0 }
+    requires fact { raised ≡ curve.degree → ⊥ }
     requires out_knots_value { (out_knots.old ≡ zeros (length out_knots.old)) × (out_points.old ≡ zeros (length out_points.old)) × (out_weights.old ≡ zeros (length out_weights.old)) }
-    ensures { OutMeets (length out_knots.old) (length out_points.old) (length out_weights.old) (raise_all degree raised (length points.now / 3) knots.now points.now rational (given_of rational weights.now) (breaks_of degree (length points.now / 3) knots.now)) out_knots.new out_points.new out_weights.new result }
+    ensures { OutMeets (length out_knots.old) (length out_points.old) (length out_weights.old) (on curve.entry (λ p ks ps g ws. raise_all p raised (length ps / 3) ks ps g (given_of g ws) (breaks_of p (length ps / 3) ks))) out_knots.new out_points.new out_weights.new result }
 {
-    let n = points.len() / 3;
+    let Curve {
+        degree,
+        knots,
+        rational,
+        ..
+    } = curve;
+    let n = curve.points.len() / 3;
     let met = count_breaks(degree, n, knots);
     let m = (degree + 1) * (met.breaks + 1);
     let a = m * 4;
-    lay_curve(knots, points, rational, weights, a, work)?;
+    lay_curve(curve, a, work)?;
     extract(degree, n, knots, rational, a, work)?;
     raise_extracted(
         degree,

@@ -1,10 +1,12 @@
 // The refusals of an elevation before anything is formed.
 ghost use Rattle.std.specs.Prelude.{◌≡◌, not, ◌&&◌, ◌+◌, ◌-◌, ◌*◌, ◌<◌, ◌≤◌, length, eqb, ltb};
 ghost use Rattle.knots.specs.Refusal.{checked};
+ghost use Rattle.knots.specs.Whole.{on};
 ghost use Rattle.elevation.specs.Whole.{elevated_count, raise_start, elevate_start};
 
 use crate::walk::count_breaks;
 use edits::start::{edit_start, out_room, scratch_room};
+use knots::curve::Curve;
 use knots::refusal::{Reason, Refusal, refuse};
 
 // The points of a raised curve with so many breaks, of which so many are full.
@@ -65,26 +67,22 @@ fn raise_start(
 
 // The curve's refusal, 17, then 16, 18, 30 for the lent runs.
 pub fn elevate_start(
-    degree: usize,
-    knots: &[f64],
-    points: &[f64],
-    rational: bool,
-    weights: &[f64],
+    curve: Curve,
     raised: usize,
     a: usize,
     b: usize,
     c: usize,
     d: usize,
 ) -> Result<(), Refusal>
-    ensures { result ≡ checked (elevate_start degree knots.now points.now rational weights.now raised a b c d) }
+    ensures { result ≡ checked (on curve.entry elevate_start raised a b c d) }
 {
-    edit_start(degree, knots, points, rational, weights)?;
+    edit_start(curve)?;
     raise_start(
-        degree,
+        curve.degree,
         raised,
-        points.len() / 3,
-        knots,
-        rational,
+        curve.points.len() / 3,
+        curve.knots,
+        curve.rational,
         a,
         b,
         c,

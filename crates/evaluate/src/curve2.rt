@@ -2,12 +2,14 @@
 ghost use Rattle.std.specs.Prelude.{◌≡◌, true, ◌+◌, ◌*◌, ◌<◌, ◌≤◌, length};
 ghost use Rattle.knots.specs.Span.{refusing, clamping};
 ghost use Rattle.knots.specs.Shape.{curve_shape};
+ghost use Rattle.knots.specs.Whole.{on};
 ghost use Rattle.evaluate.specs.Curve2.{quotient2, curve2_of, finite2, told2, found2_of, eval2_at_of, eval2_of};
 
 use crate::controls::{row_sums, scale_at};
 use crate::refusals::{eval_refusal, step_refusal};
 use crate::sums::Sums;
 use basis::ders::basis_derivatives;
+use knots::curve::Curve;
 use knots::refusal::{Reason, Refusal, refuse};
 use knots::span::{clamp, span_of};
 use runs::points::point_at;
@@ -50,25 +52,24 @@ fn quotient2_of(o: Vector, a: Sums, d: Sums, e: Sums) -> CurveDerivs2
 }
 
 // The point and two derivatives at u in a span.
-fn curve2_at(
-    span: usize,
-    u: f64,
-    p: usize,
-    knots: &[f64],
-    points: &[f64],
-    rational: bool,
-    weights: &[f64],
-) -> CurveDerivs2
-    requires p_nonzero { 0 < p }
-    requires p_bound { p ≤ 64 }
-    requires p_le_span { p ≤ span }
-    requires p_in_bounds { span + p < length knots.now }
-    requires span_in_bounds { span * 3 + 2 < length points.now }
-    requires span_in_bounds_2 { rational ≡ true → span < length weights.now }
-    ensures { result ≡ curve2_of p knots.now points.now rational weights.now span u }
+fn curve2_at(curve: Curve, span: usize, u: f64) -> CurveDerivs2
+    requires p_nonzero { 0 < curve.degree }
+    requires p_bound { curve.degree ≤ 64 }
+    requires p_le_span { curve.degree ≤ span }
+    requires p_in_bounds { span + curve.degree < length curve.knots.now }
+    requires span_in_bounds { span * 3 + 2 < length curve.points.now }
+    requires span_in_bounds_2 { curve.rational ≡ true → span < length curve.weights.now }
+    ensures { result ≡ on curve.entry curve2_of span u }
 {
+    let Curve {
+        points,
+        rational,
+        weights,
+        ..
+    } = curve;
+    let p = curve.degree;
     let mut ders = [0.0; 195];
-    basis_derivatives(span, u, p, 2, knots, &mut ders);
+    basis_derivatives(span, u, p, 2, curve.knots, &mut ders);
     let first = span - p;
     let o = point_at(points, first);
     let scale = scale_at(rational, weights, first, p + 1);
@@ -86,22 +87,16 @@ fn finite2_of(r: CurveDerivs2) -> bool
 }
 
 // The point and two derivatives at t of runs that fit each other, on the span that the search finds.
-fn found2_at(
-    degree: usize,
-    knots: &[f64],
-    points: &[f64],
-    rational: bool,
-    weights: &[f64],
-    t: f64,
-) -> CurveDerivs2
-    requires degree_bound { degree ≤ 64 }
-    requires weights_value { (curve_shape degree knots.now points.now rational weights.now).number ≡ 0 }
-    ensures { result ≡ found2_of degree knots.now points.now rational weights.now t }
+fn found2_at(curve: Curve, t: f64) -> CurveDerivs2
+    requires degree_bound { curve.degree ≤ 64 }
+    requires weights_value { (on curve curve_shape).number ≡ 0 }
+    ensures { result ≡ on curve.entry found2_of t }
 {
-    let count = points.len() / 3;
+    let Curve { degree, knots, .. } = curve;
+    let count = curve.points.len() / 3;
     let span = span_of(degree, count, t, knots);
     let u = clamp(degree, count, t, knots);
-    curve2_at(span, u, degree, knots, points, rational, weights)
+    curve2_at(curve, span, u)
 }
 
 // The answer of nine numbers: 21 where one is not finite.
@@ -115,61 +110,32 @@ fn told2_of(r: CurveDerivs2) -> Result<CurveDerivs2, Refusal>
 }
 
 // The step of eval2 in a mode, on a curve that was validated before: only lengths, the degree, t and the domain's ends are tested, so that many calls validate once.
-pub fn eval2_step(
-    clamps: bool,
-    degree: usize,
-    knots: &[f64],
-    points: &[f64],
-    rational: bool,
-    weights: &[f64],
-    t: f64,
-) -> Result<CurveDerivs2, Refusal>
-    ensures { result ≡ eval2_at_of clamps degree knots.now points.now rational weights.now t }
+pub fn eval2_step(clamps: bool, curve: Curve, t: f64) -> Result<CurveDerivs2, Refusal>
+    ensures { result ≡ on curve.entry (eval2_at_of clamps) t }
 {
-    step_refusal(clamps, degree, knots, points, rational, weights, t)?;
-    told2_of(found2_at(degree, knots, points, rational, weights, t))
+    step_refusal(clamps, curve, t)?;
+    told2_of(found2_at(curve, t))
 }
 
 // The same where a t outside the domain is refused.
-pub fn eval2_at(
-    degree: usize,
-    knots: &[f64],
-    points: &[f64],
-    rational: bool,
-    weights: &[f64],
-    t: f64,
-) -> Result<CurveDerivs2, Refusal>
-    ensures { result ≡ eval2_at_of refusing degree knots.now points.now rational weights.now t }
+pub fn eval2_at(curve: Curve, t: f64) -> Result<CurveDerivs2, Refusal>
+    ensures { result ≡ on curve.entry (eval2_at_of refusing) t }
 {
-    eval2_step(false, degree, knots, points, rational, weights, t)
+    eval2_step(false, curve, t)
 }
 
 // The point and two derivatives of a curve at t, or a refusal: 43 where t lies outside the domain, 21 where one of the numbers is not finite.
-pub fn eval2(
-    degree: usize,
-    knots: &[f64],
-    points: &[f64],
-    rational: bool,
-    weights: &[f64],
-    t: f64,
-) -> Result<CurveDerivs2, Refusal>
-    ensures { result ≡ eval2_of refusing degree knots.now points.now rational weights.now t }
+pub fn eval2(curve: Curve, t: f64) -> Result<CurveDerivs2, Refusal>
+    ensures { result ≡ on curve.entry (eval2_of refusing) t }
 {
-    eval_refusal(false, degree, knots, points, rational, weights, t)?;
-    told2_of(found2_at(degree, knots, points, rational, weights, t))
+    eval_refusal(false, curve, t)?;
+    told2_of(found2_at(curve, t))
 }
 
 // The same, where a finite t outside the domain becomes the nearer end.
-pub fn eval2_clamped(
-    degree: usize,
-    knots: &[f64],
-    points: &[f64],
-    rational: bool,
-    weights: &[f64],
-    t: f64,
-) -> Result<CurveDerivs2, Refusal>
-    ensures { result ≡ eval2_of clamping degree knots.now points.now rational weights.now t }
+pub fn eval2_clamped(curve: Curve, t: f64) -> Result<CurveDerivs2, Refusal>
+    ensures { result ≡ on curve.entry (eval2_of clamping) t }
 {
-    eval_refusal(true, degree, knots, points, rational, weights, t)?;
-    told2_of(found2_at(degree, knots, points, rational, weights, t))
+    eval_refusal(true, curve, t)?;
+    told2_of(found2_at(curve, t))
 }

@@ -2,6 +2,7 @@
 ghost use Rattle.std.specs.Prelude.{◌≡◌, true, ◌+◌, ◌-◌, ◌*◌, ◌/◌, ◌<◌, ◌≤◌, length};
 ghost use Rattle.knots.specs.Span.{refusing, clamping};
 ghost use Rattle.knots.specs.Shape.{surface_shape};
+ghost use Rattle.knots.specs.Whole.{across};
 ghost use Rattle.evaluate.specs.Surface.{NetReach, surface_quotient, surface_of, surface_found, surface_at_of, eval_surface_of};
 
 use crate::net::{Net, net_scale, net_sums};
@@ -10,6 +11,7 @@ use crate::sums::Sums;
 use basis::ders::basis_derivatives;
 use knots::refusal::Refusal;
 use knots::span::{clamp, span_of};
+use knots::surface::Surface;
 use runs::points::point_at;
 use runs::vector::Vector;
 
@@ -46,36 +48,32 @@ fn surface_quotient_of(o: Vector, a: Sums, d: Sums, e: Sums) -> SurfaceDerivs
 }
 
 // At u and v in spans of the two directions.
-fn surface_at(
-    s: usize,
-    t: usize,
-    u: f64,
-    v: f64,
-    p: usize,
-    q: usize,
-    u_knots: &[f64],
-    v_knots: &[f64],
-    columns: usize,
-    points: &[f64],
-    rational: bool,
-    weights: &[f64],
-) -> SurfaceDerivs
-    requires p_nonzero { 0 < p }
-    requires q_nonzero { 0 < q }
-    requires p_bound { p ≤ 64 }
-    requires q_bound { q ≤ 64 }
-    requires p_le_s { p ≤ s }
-    requires q_le_t { q ≤ t }
-    requires p_in_bounds { s + p < length u_knots.now }
-    requires q_in_bounds { t + q < length v_knots.now }
-    requires net_reach { NetReach (length points.now / 3) columns (s - p) p (t - q) q }
-    requires net_reach_2 { rational ≡ true → NetReach (length weights.now) columns (s - p) p (t - q) q }
-    ensures { result ≡ surface_of p q u_knots.now v_knots.now columns points.now rational weights.now s t u v }
+fn surface_at(surface: Surface, s: usize, t: usize, u: f64, v: f64) -> SurfaceDerivs
+    requires p_nonzero { 0 < surface.u_degree }
+    requires q_nonzero { 0 < surface.v_degree }
+    requires p_bound { surface.u_degree ≤ 64 }
+    requires q_bound { surface.v_degree ≤ 64 }
+    requires p_le_s { surface.u_degree ≤ s }
+    requires q_le_t { surface.v_degree ≤ t }
+    requires p_in_bounds { s + surface.u_degree < length surface.u_knots.now }
+    requires q_in_bounds { t + surface.v_degree < length surface.v_knots.now }
+    requires net_reach { NetReach (length surface.points.now / 3) surface.v_count (s - surface.u_degree) surface.u_degree (t - surface.v_degree) surface.v_degree }
+    requires net_reach_2 { surface.rational ≡ true → NetReach (length surface.weights.now) surface.v_count (s - surface.u_degree) surface.u_degree (t - surface.v_degree) surface.v_degree }
+    ensures { result ≡ across surface.entry (λ p q us vs m n ps g ws. surface_of p q us vs n ps g ws s t u v) }
 {
+    let Surface {
+        points,
+        rational,
+        weights,
+        ..
+    } = surface;
+    let p = surface.u_degree;
+    let q = surface.v_degree;
     let mut bu = [0.0; 195];
-    basis_derivatives(s, u, p, 1, u_knots, &mut bu);
+    basis_derivatives(s, u, p, 1, surface.u_knots, &mut bu);
     let mut bv = [0.0; 195];
-    basis_derivatives(t, v, q, 1, v_knots, &mut bv);
+    basis_derivatives(t, v, q, 1, surface.v_knots, &mut bv);
+    let columns = surface.v_count;
     let a = s - p;
     let b = t - q;
     let net = Net {
@@ -95,87 +93,39 @@ fn surface_at(
 }
 
 // The point and the first partial derivatives at u and v of runs that fit each other, on the spans that the search finds.
-fn surface_found(
-    p: usize,
-    q: usize,
-    uk: &[f64],
-    vk: &[f64],
-    m: usize,
-    n: usize,
-    points: &[f64],
-    rational: bool,
-    weights: &[f64],
-    u: f64,
-    v: f64,
-) -> SurfaceDerivs
-    requires p_bound { p ≤ 64 }
-    requires q_bound { q ≤ 64 }
-    requires weights_value { (surface_shape p q uk.now vk.now m n points.now rational weights.now).number ≡ 0 }
-    ensures { result ≡ surface_found p q uk.now vk.now m n points.now rational weights.now u v }
+fn surface_found(surface: Surface, u: f64, v: f64) -> SurfaceDerivs
+    requires p_bound { surface.u_degree ≤ 64 }
+    requires q_bound { surface.v_degree ≤ 64 }
+    requires weights_value { (across surface surface_shape).number ≡ 0 }
+    ensures { result ≡ across surface.entry surface_found u v }
 {
-    let s = span_of(p, m, u, uk);
-    let x = clamp(p, m, u, uk);
-    let t = span_of(q, n, v, vk);
-    let y = clamp(q, n, v, vk);
-    surface_at(s, t, x, y, p, q, uk, vk, n, points, rational, weights)
+    let s = span_of(surface.u_degree, surface.u_count, u, surface.u_knots);
+    let x = clamp(surface.u_degree, surface.u_count, u, surface.u_knots);
+    let t = span_of(surface.v_degree, surface.v_count, v, surface.v_knots);
+    let y = clamp(surface.v_degree, surface.v_count, v, surface.v_knots);
+    surface_at(surface, s, t, x, y)
 }
 
 // The step of eval_surface, on a surface that was validated before: only lengths, the degrees, u, v and the domains' ends are tested.
-pub fn eval_surface_at(
-    p: usize,
-    q: usize,
-    uk: &[f64],
-    vk: &[f64],
-    m: usize,
-    n: usize,
-    points: &[f64],
-    rational: bool,
-    weights: &[f64],
-    u: f64,
-    v: f64,
-) -> Result<SurfaceDerivs, Refusal>
-    ensures { result ≡ surface_at_of refusing p q uk.now vk.now m n points.now rational weights.now u v }
+pub fn eval_surface_at(surface: Surface, u: f64, v: f64) -> Result<SurfaceDerivs, Refusal>
+    ensures { result ≡ across surface.entry (surface_at_of refusing) u v }
 {
-    surface_step_refusal(false, p, q, uk, vk, m, n, points, rational, weights, u, v)?;
-    Ok(surface_found(p, q, uk, vk, m, n, points, rational, weights, u, v))
+    surface_step_refusal(false, surface, u, v)?;
+    Ok(surface_found(surface, u, v))
 }
 
-// The point and the first partial derivatives of a surface of degrees p and q, knots uk and vk, m · n points, or a refusal: 43 where u or v lies outside the domain.
-pub fn eval_surface(
-    p: usize,
-    q: usize,
-    uk: &[f64],
-    vk: &[f64],
-    m: usize,
-    n: usize,
-    points: &[f64],
-    rational: bool,
-    weights: &[f64],
-    u: f64,
-    v: f64,
-) -> Result<SurfaceDerivs, Refusal>
-    ensures { result ≡ eval_surface_of refusing p q uk.now vk.now m n points.now rational weights.now u v }
+// The point and the first partial derivatives of a surface, or a refusal: 43 where u or v lies outside the domain.
+pub fn eval_surface(surface: Surface, u: f64, v: f64) -> Result<SurfaceDerivs, Refusal>
+    ensures { result ≡ across surface.entry (eval_surface_of refusing) u v }
 {
-    surface_eval_refusal(false, p, q, uk, vk, m, n, points, rational, weights, u, v)?;
-    Ok(surface_found(p, q, uk, vk, m, n, points, rational, weights, u, v))
+    surface_eval_refusal(false, surface, u, v)?;
+    Ok(surface_found(surface, u, v))
 }
 
 // The same, where finite parameters outside the domain become the nearer ends.
-pub fn eval_surface_clamped(
-    p: usize,
-    q: usize,
-    uk: &[f64],
-    vk: &[f64],
-    m: usize,
-    n: usize,
-    points: &[f64],
-    rational: bool,
-    weights: &[f64],
-    u: f64,
-    v: f64,
-) -> Result<SurfaceDerivs, Refusal>
-    ensures { result ≡ eval_surface_of clamping p q uk.now vk.now m n points.now rational weights.now u v }
+pub fn eval_surface_clamped(surface: Surface, u: f64, v: f64) -> Result<SurfaceDerivs, Refusal>
+    ensures { result ≡ across surface.entry (eval_surface_of clamping) u v }
 {
-    surface_eval_refusal(true, p, q, uk, vk, m, n, points, rational, weights, u, v)?;
-    Ok(surface_found(p, q, uk, vk, m, n, points, rational, weights, u, v))
+    surface_eval_refusal(true, surface, u, v)?;
+    Ok(surface_found(surface, u, v))
 }

@@ -14,7 +14,9 @@ use bounds::point::bound_point;
 use bounds::store::store_triple;
 use bounds::surface::bound_surface;
 use knots::clear::clear;
+use knots::curve::Curve;
 use knots::refusal::Refusal;
+use knots::surface::Surface;
 
 // The box, then +0.0; 30 where the run has no room for it.
 fn put_box(out: &mut [f64], b: NurbsBounds) -> u64
@@ -77,7 +79,17 @@ pub fn tasulogi_bound_curve(
 {
     put_bounded(
         out,
-        bound_curve(degree, knots, points, rational, weights, lo, hi),
+        bound_curve(
+            Curve {
+                degree,
+                knots,
+                points,
+                rational,
+                weights,
+            },
+            lo,
+            hi,
+        ),
     )
 }
 
@@ -98,7 +110,17 @@ pub fn tasulogi_bound_point(
 {
     put_point(
         out,
-        bound_point(degree, knots, points, rational, weights, lo, hi),
+        bound_point(
+            Curve {
+                degree,
+                knots,
+                points,
+                rational,
+                weights,
+            },
+            lo,
+            hi,
+        ),
     )
 }
 
@@ -126,7 +148,21 @@ pub fn tasulogi_bound_surface(
     put_bounded(
         out,
         bound_surface(
-            p, q, uk, vk, un, vn, points, rational, weights, u_lo, u_hi, v_lo, v_hi,
+            Surface {
+                u_degree: p,
+                v_degree: q,
+                u_knots: uk,
+                v_knots: vk,
+                u_count: un,
+                v_count: vn,
+                points,
+                rational,
+                weights,
+            },
+            u_lo,
+            u_hi,
+            v_lo,
+            v_hi,
         ),
     )
 }

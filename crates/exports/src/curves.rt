@@ -6,6 +6,8 @@ ghost use Rattle.made.specs.IsoCurve.{iso_refusal, IsoMeets};
 ghost use Rattle.exports.specs.Tables.{packed_of};
 
 use crate::tables::packed_check;
+use knots::curve::Curve;
+use knots::surface::Surface;
 use made::iso_curve::iso_curve;
 use made::reverse::reversed;
 
@@ -24,11 +26,13 @@ pub fn tasulogi_reversed(
     ensures reverse_meets { ReverseMeets degree knots.now points.now rational weights.now (length out_knots.old) (length out_points.old) (length out_weights.old) out_knots.new out_points.new out_weights.new (checked (reverse_refusal degree knots.now points.now rational weights.now (length out_knots.old) (length out_points.old) (length out_weights.old))) }
 {
     packed_check(reversed(
-        degree,
-        knots,
-        points,
-        rational,
-        weights,
+        Curve {
+            degree,
+            knots,
+            points,
+            rational,
+            weights,
+        },
         out_knots,
         out_points,
         out_weights,
@@ -55,6 +59,20 @@ pub fn tasulogi_iso_curve(
     ensures iso_meets { IsoMeets p q uk.now vk.now un vn points.now rational weights.now constant_u t (length op.old) (length ow.old) op.new ow.new (checked (iso_refusal p q uk.now vk.now un vn points.now rational weights.now constant_u t (length op.old) (length ow.old))) }
 {
     packed_check(iso_curve(
-        p, q, uk, vk, un, vn, points, rational, weights, constant_u, t, op, ow,
+        Surface {
+            u_degree: p,
+            v_degree: q,
+            u_knots: uk,
+            v_knots: vk,
+            u_count: un,
+            v_count: vn,
+            points,
+            rational,
+            weights,
+        },
+        constant_u,
+        t,
+        op,
+        ow,
     ))
 }

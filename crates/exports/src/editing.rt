@@ -11,6 +11,7 @@ use crate::tables::packed;
 use edits::answer::FormedCurve;
 use elevation::elevate::elevate_degree;
 use insertion::insert::insert_knots;
+use knots::curve::Curve;
 use knots::refusal::Refusal;
 use trimming::trim::trim;
 
@@ -41,11 +42,13 @@ pub fn tasulogi_insert_knots(
     ensures insert_meets { InsertMeets degree knots.now points.now rational weights.now inserted.now (length out_knots.old) (length out_points.old) (length out_weights.old) (length scratch.old) out_knots.new out_points.new out_weights.new scratch.new (answer_of degree (count_of points.now + length inserted.now) (insert_outcome degree knots.now points.now rational weights.now inserted.now (length out_knots.old) (length out_points.old) (length out_weights.old) (length scratch.old))) }
 {
     edit_number(insert_knots(
-        degree,
-        knots,
-        points,
-        rational,
-        weights,
+        Curve {
+            degree,
+            knots,
+            points,
+            rational,
+            weights,
+        },
         inserted,
         out_knots,
         out_points,
@@ -72,11 +75,13 @@ pub fn tasulogi_trim(
     ensures trim_meets { TrimMeets degree knots.now points.now rational weights.now lo hi (length out_knots.old) (length out_points.old) (length out_weights.old) (length scratch.old) out_knots.new out_points.new out_weights.new scratch.new (answer_of degree (kept_of degree knots.now lo hi) (trim_outcome degree knots.now points.now rational weights.now lo hi (length out_knots.old) (length out_points.old) (length out_weights.old) (length scratch.old))) }
 {
     edit_number(trim(
-        degree,
-        knots,
-        points,
-        rational,
-        weights,
+        Curve {
+            degree,
+            knots,
+            points,
+            rational,
+            weights,
+        },
         lo,
         hi,
         out_knots,
@@ -103,11 +108,13 @@ pub fn tasulogi_elevate_degree(
     ensures elevate_meets { ElevateMeets degree knots.now points.now rational weights.now raised (length out_knots.old) (length out_points.old) (length out_weights.old) (length scratch.old) out_knots.new out_points.new out_weights.new scratch.new (answer_of raised (elevated_count degree raised (count_of points.now) knots.now) (elevate_outcome degree knots.now points.now rational weights.now raised (length out_knots.old) (length out_points.old) (length out_weights.old) (length scratch.old))) }
 {
     edit_number(elevate_degree(
-        degree,
-        knots,
-        points,
-        rational,
-        weights,
+        Curve {
+            degree,
+            knots,
+            points,
+            rational,
+            weights,
+        },
         raised,
         out_knots,
         out_points,

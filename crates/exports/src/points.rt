@@ -13,7 +13,9 @@ use evaluate::curve::{CurveDerivs, eval, eval_clamped};
 use evaluate::curve2::{CurveDerivs2, eval2, eval2_clamped};
 use evaluate::surface::{SurfaceDerivs, eval_surface, eval_surface_clamped};
 use knots::clear::clear;
+use knots::curve::Curve;
 use knots::refusal::Refusal;
+use knots::surface::Surface;
 use runs::store::store_vector;
 use runs::vector::Vector;
 
@@ -86,7 +88,19 @@ pub fn tasulogi_eval(
 ) -> u64
     ensures { Leaves (curve_answer (eval_of refusing degree knots.now points.now rational weights.now t)) out.old out.new result }
 {
-    put_curve(out, eval(degree, knots, points, rational, weights, t))
+    put_curve(
+        out,
+        eval(
+            Curve {
+                degree,
+                knots,
+                points,
+                rational,
+                weights,
+            },
+            t,
+        ),
+    )
 }
 
 // The same, where a finite parameter outside the domain becomes the nearer end.
@@ -103,7 +117,16 @@ pub fn tasulogi_eval_clamped(
 {
     put_curve(
         out,
-        eval_clamped(degree, knots, points, rational, weights, t),
+        eval_clamped(
+            Curve {
+                degree,
+                knots,
+                points,
+                rational,
+                weights,
+            },
+            t,
+        ),
     )
 }
 
@@ -119,7 +142,19 @@ pub fn tasulogi_eval2(
 ) -> u64
     ensures { Leaves (curve2_answer (eval2_of refusing degree knots.now points.now rational weights.now t)) out.old out.new result }
 {
-    put_curve2(out, eval2(degree, knots, points, rational, weights, t))
+    put_curve2(
+        out,
+        eval2(
+            Curve {
+                degree,
+                knots,
+                points,
+                rational,
+                weights,
+            },
+            t,
+        ),
+    )
 }
 
 // The same, where a finite parameter outside the domain becomes the nearer end.
@@ -136,7 +171,16 @@ pub fn tasulogi_eval2_clamped(
 {
     put_curve2(
         out,
-        eval2_clamped(degree, knots, points, rational, weights, t),
+        eval2_clamped(
+            Curve {
+                degree,
+                knots,
+                points,
+                rational,
+                weights,
+            },
+            t,
+        ),
     )
 }
 
@@ -159,7 +203,21 @@ pub fn tasulogi_eval_surface(
 {
     put_surface(
         out,
-        eval_surface(p, q, uk, vk, un, vn, points, rational, weights, u, v),
+        eval_surface(
+            Surface {
+                u_degree: p,
+                v_degree: q,
+                u_knots: uk,
+                v_knots: vk,
+                u_count: un,
+                v_count: vn,
+                points,
+                rational,
+                weights,
+            },
+            u,
+            v,
+        ),
     )
 }
 
@@ -182,6 +240,20 @@ pub fn tasulogi_eval_surface_clamped(
 {
     put_surface(
         out,
-        eval_surface_clamped(p, q, uk, vk, un, vn, points, rational, weights, u, v),
+        eval_surface_clamped(
+            Surface {
+                u_degree: p,
+                v_degree: q,
+                u_knots: uk,
+                v_knots: vk,
+                u_count: un,
+                v_count: vn,
+                points,
+                rational,
+                weights,
+            },
+            u,
+            v,
+        ),
     )
 }

@@ -8,6 +8,7 @@ ghost use Rattle.many.specs.RowsHold.{RowsHold, PointRowsHold};
 ghost use Rattle.exports.specs.Rows.{rows_number, rows_count};
 
 use crate::tables::{high, packed};
+use knots::curve::Curve;
 use knots::refusal::Refusal;
 use many::boxes::{bound_points, bound_spans};
 use many::points::{eval_many, eval_many_clamped, eval2_many, eval2_many_clamped};
@@ -46,7 +47,18 @@ pub fn tasulogi_eval_many(
     ensures value { result ≡ rows_number (answer (points_start degree knots.now points.now rational weights.now ts.now 6 (length numbers.old) (length rows.old)) (length ts.now)) }
     ensures points_meet { PointsMeet refusing degree knots.now points.now rational weights.now ts.now (length numbers.old) (length rows.old) numbers.new rows.new (answer (points_start degree knots.now points.now rational weights.now ts.now 6 (length numbers.old) (length rows.old)) (length ts.now)) }
 {
-    rows_number(eval_many(degree, knots, points, rational, weights, ts, numbers, rows))
+    rows_number(eval_many(
+        Curve {
+            degree,
+            knots,
+            points,
+            rational,
+            weights,
+        },
+        ts,
+        numbers,
+        rows,
+    ))
 }
 
 // The same, where a finite parameter outside the domain becomes the nearer end.
@@ -63,7 +75,18 @@ pub fn tasulogi_eval_many_clamped(
     ensures value { result ≡ rows_number (answer (points_start degree knots.now points.now rational weights.now ts.now 6 (length numbers.old) (length rows.old)) (length ts.now)) }
     ensures points_meet { PointsMeet clamping degree knots.now points.now rational weights.now ts.now (length numbers.old) (length rows.old) numbers.new rows.new (answer (points_start degree knots.now points.now rational weights.now ts.now 6 (length numbers.old) (length rows.old)) (length ts.now)) }
 {
-    rows_number(eval_many_clamped(degree, knots, points, rational, weights, ts, numbers, rows))
+    rows_number(eval_many_clamped(
+        Curve {
+            degree,
+            knots,
+            points,
+            rational,
+            weights,
+        },
+        ts,
+        numbers,
+        rows,
+    ))
 }
 
 // The point and two derivatives at each parameter.
@@ -80,7 +103,18 @@ pub fn tasulogi_eval2_many(
     ensures value { result ≡ rows_number (answer (points_start degree knots.now points.now rational weights.now ts.now 9 (length numbers.old) (length rows.old)) (length ts.now)) }
     ensures points2meet { Points2Meet refusing degree knots.now points.now rational weights.now ts.now (length numbers.old) (length rows.old) numbers.new rows.new (answer (points_start degree knots.now points.now rational weights.now ts.now 9 (length numbers.old) (length rows.old)) (length ts.now)) }
 {
-    rows_number(eval2_many(degree, knots, points, rational, weights, ts, numbers, rows))
+    rows_number(eval2_many(
+        Curve {
+            degree,
+            knots,
+            points,
+            rational,
+            weights,
+        },
+        ts,
+        numbers,
+        rows,
+    ))
 }
 
 // The same, where a finite parameter outside the domain becomes the nearer end.
@@ -97,7 +131,18 @@ pub fn tasulogi_eval2_many_clamped(
     ensures value { result ≡ rows_number (answer (points_start degree knots.now points.now rational weights.now ts.now 9 (length numbers.old) (length rows.old)) (length ts.now)) }
     ensures points2meet { Points2Meet clamping degree knots.now points.now rational weights.now ts.now (length numbers.old) (length rows.old) numbers.new rows.new (answer (points_start degree knots.now points.now rational weights.now ts.now 9 (length numbers.old) (length rows.old)) (length ts.now)) }
 {
-    rows_number(eval2_many_clamped(degree, knots, points, rational, weights, ts, numbers, rows))
+    rows_number(eval2_many_clamped(
+        Curve {
+            degree,
+            knots,
+            points,
+            rational,
+            weights,
+        },
+        ts,
+        numbers,
+        rows,
+    ))
 }
 
 // The bounds on each nonempty span: each row whose number is 0 holds the exact point and derivative; 28 and 29 are never given.
@@ -114,7 +159,17 @@ pub fn tasulogi_bound_spans(
     ensures spans_meet { SpansMeet degree knots.now points.now rational weights.now (length marks.old) (length boxes.old) marks.new boxes.new (answer (spans_start degree knots.now points.now rational weights.now (length marks.old) (length boxes.old)) (length (spans_of degree knots.now points.now))) }
     ensures rows_hold { RowsHold degree knots.now points.now rational weights.now marks.new boxes.new (answer (spans_start degree knots.now points.now rational weights.now (length marks.old) (length boxes.old)) (length (spans_of degree knots.now points.now))) }
 {
-    rows_count(bound_spans(degree, knots, points, rational, weights, marks, boxes))
+    rows_count(bound_spans(
+        Curve {
+            degree,
+            knots,
+            points,
+            rational,
+            weights,
+        },
+        marks,
+        boxes,
+    ))
 }
 
 // The same of the point alone, six numbers a row.
@@ -131,5 +186,15 @@ pub fn tasulogi_bound_points(
     ensures point_spans_meet { PointSpansMeet degree knots.now points.now rational weights.now (length marks.old) (length boxes.old) marks.new boxes.new (answer (spans_start_by degree knots.now points.now rational weights.now 6 (length marks.old) (length boxes.old)) (length (spans_of degree knots.now points.now))) }
     ensures point_rows_hold { PointRowsHold degree knots.now points.now rational weights.now marks.new boxes.new (answer (spans_start_by degree knots.now points.now rational weights.now 6 (length marks.old) (length boxes.old)) (length (spans_of degree knots.now points.now))) }
 {
-    rows_count(bound_points(degree, knots, points, rational, weights, marks, boxes))
+    rows_count(bound_points(
+        Curve {
+            degree,
+            knots,
+            points,
+            rational,
+            weights,
+        },
+        marks,
+        boxes,
+    ))
 }

@@ -6,9 +6,9 @@ ghost use Rattle.knots.specs.Curve.{curve_refusal};
 ghost use Rattle.knots.specs.Surface.{surface_refusal};
 ghost use Rattle.exports.specs.Tables.{directed_of, half_of, packed_of, high_of};
 
-use knots::curve::curve_refusal;
+use knots::curve::{Curve, curve_refusal};
 use knots::refusal::{Refusal, class_of};
-use knots::surface::surface_refusal;
+use knots::surface::{Surface, surface_refusal};
 
 // The number alone, but for 1 to 7 of a surface: 100 more along u, 200 more along v.
 fn directed(r: Refusal) -> u32
@@ -79,7 +79,13 @@ pub fn tasulogi_curve_refusal(
 ) -> u64
     ensures { result ≡ packed_of (curve_refusal degree knots.now points.now rational weights.now) }
 {
-    packed_check(curve_refusal(degree, knots, points, rational, weights))
+    packed_check(curve_refusal(Curve {
+        degree,
+        knots,
+        points,
+        rational,
+        weights,
+    }))
 }
 
 // 0 for a valid surface, else its refusal, packed.
@@ -96,5 +102,15 @@ pub fn tasulogi_surface_refusal(
 ) -> u64
     ensures { result ≡ packed_of (surface_refusal p q uk.now vk.now un vn points.now rational weights.now) }
 {
-    packed_check(surface_refusal(p, q, uk, vk, un, vn, points, rational, weights))
+    packed_check(surface_refusal(Surface {
+        u_degree: p,
+        v_degree: q,
+        u_knots: uk,
+        v_knots: vk,
+        u_count: un,
+        v_count: vn,
+        points,
+        rational,
+        weights,
+    }))
 }

@@ -13,7 +13,7 @@ ghost use Rattle.bounds.specs.Holds.{Holds, NotIdle};
 use bounds::answer::NurbsBounds;
 use bounds::curve::bound_curve;
 use evaluate::curve::{CurveDerivs, eval, eval_clamped};
-use knots::curve::curve_refusal;
+use knots::curve::{Curve as Runs, curve_refusal};
 use knots::refusal::Refusal;
 use knots::span::{find_span, find_span_clamped};
 
@@ -32,13 +32,20 @@ impl<'a> Curve<'a> {
     pub fn refusal(self) -> Result<(), Refusal>
         ensures { result ≡ checked (curve_refusal self.entry.degree self.entry.knots.now self.entry.points.now self.entry.rational self.entry.weights.now) }
     {
-        curve_refusal(
-            self.degree,
-            self.knots,
-            self.points,
-            self.rational,
-            self.weights,
-        )
+        let Curve {
+            degree,
+            knots,
+            points,
+            rational,
+            weights,
+        } = self;
+        curve_refusal(Runs {
+            degree,
+            knots,
+            points,
+            rational,
+            weights,
+        })
     }
 
     // The span of u. Of the points only their count matters.
@@ -59,12 +66,21 @@ impl<'a> Curve<'a> {
     pub fn eval(self, t: f64) -> Result<CurveDerivs, Refusal>
         ensures { result ≡ eval_of refusing self.entry.degree self.entry.knots.now self.entry.points.now self.entry.rational self.entry.weights.now t }
     {
+        let Curve {
+            degree,
+            knots,
+            points,
+            rational,
+            weights,
+        } = self;
         eval(
-            self.degree,
-            self.knots,
-            self.points,
-            self.rational,
-            self.weights,
+            Runs {
+                degree,
+                knots,
+                points,
+                rational,
+                weights,
+            },
             t,
         )
     }
@@ -73,12 +89,21 @@ impl<'a> Curve<'a> {
     pub fn eval_clamped(self, t: f64) -> Result<CurveDerivs, Refusal>
         ensures { result ≡ eval_of clamping self.entry.degree self.entry.knots.now self.entry.points.now self.entry.rational self.entry.weights.now t }
     {
+        let Curve {
+            degree,
+            knots,
+            points,
+            rational,
+            weights,
+        } = self;
         eval_clamped(
-            self.degree,
-            self.knots,
-            self.points,
-            self.rational,
-            self.weights,
+            Runs {
+                degree,
+                knots,
+                points,
+                rational,
+                weights,
+            },
             t,
         )
     }
@@ -89,12 +114,21 @@ impl<'a> Curve<'a> {
         ensures holds { Holds self.entry.degree self.entry.knots.now self.entry.points.now self.entry.rational self.entry.weights.now lo hi result }
         ensures not_idle { NotIdle (bounded_refusal result).number }
     {
+        let Curve {
+            degree,
+            knots,
+            points,
+            rational,
+            weights,
+        } = self;
         bound_curve(
-            self.degree,
-            self.knots,
-            self.points,
-            self.rational,
-            self.weights,
+            Runs {
+                degree,
+                knots,
+                points,
+                rational,
+                weights,
+            },
             lo,
             hi,
         )

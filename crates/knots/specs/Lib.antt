@@ -9,3 +9,4 @@ pub mod Shape
 pub mod Span
 pub mod Numbers
 pub mod Walk
+pub mod Whole

@@ -2,12 +2,23 @@
 ghost use Rattle.std.specs.Prelude.{◌≡◌};
 ghost use Rattle.knots.specs.Curve.{is_weight, all_weights, control_refusal, formed_refusal, any_long, curve_refusal};
 ghost use Rattle.knots.specs.Refusal.{checked};
+ghost use Rattle.knots.specs.Whole.{on};
 
 use crate::knots::{all_finite, knot_refusal};
 use crate::limits::over_long;
 use crate::numbers::{all_fine, is_fine};
 use crate::places::{bad_weight_at, non_finite_at};
 use crate::refusal::{Reason, Refusal, refuse, refuse_at};
+
+// A curve by its runs: the knots, the coordinates of the points (x, y, z of each) and, where it is rational, the weights. Nothing is asked of them. Weights count only where rational is true.
+#[derive(Clone, Copy)]
+pub struct Curve<'a> {
+    pub degree: usize,
+    pub knots: &'a [f64],
+    pub points: &'a [f64],
+    pub rational: bool,
+    pub weights: &'a [f64],
+}
 
 // A weight is finite and above 0. NaN and both zeros are none.
 pub fn is_weight(x: f64) -> bool
@@ -76,15 +87,16 @@ pub fn any_long(knots: &[f64], points: &[f64], rational: bool, weights: &[f64]) 
 }
 
 // The refusal of a curve.
-pub fn curve_refusal(
-    degree: usize,
-    knots: &[f64],
-    points: &[f64],
-    rational: bool,
-    weights: &[f64],
-) -> Result<(), Refusal>
-    ensures { result ≡ checked (curve_refusal degree knots.now points.now rational weights.now) }
+pub fn curve_refusal(curve: Curve) -> Result<(), Refusal>
+    ensures { result ≡ checked (on curve.entry curve_refusal) }
 {
+    let Curve {
+        degree,
+        knots,
+        points,
+        rational,
+        weights,
+    } = curve;
     if any_long(knots, points, rational, weights) {
         return Err(refuse(Reason::LengthBad));
     }

@@ -2,9 +2,12 @@
 ghost use Rattle.std.specs.Prelude.{◌≡◌};
 ghost use Rattle.knots.specs.Refusal.{checked};
 ghost use Rattle.knots.specs.Shape.{degree_refusal, room_refusal, weight_shape, knot_shape, curve_shape, surface_shape};
+ghost use Rattle.knots.specs.Whole.{on, across};
 
+use crate::curve::Curve;
 use crate::limits::{is_product, is_sum};
 use crate::refusal::{Reason, Refusal, along, refuse};
+use crate::surface::Surface;
 
 // 31
 pub fn degree_refusal(degree: usize) -> Result<(), Refusal>
@@ -56,47 +59,31 @@ pub fn knot_shape(degree: usize, count: usize, knots: &[f64]) -> Result<(), Refu
 }
 
 // 32, then 1, 2, 3, then 9
-pub fn curve_shape(
-    degree: usize,
-    knots: &[f64],
-    points: &[f64],
-    rational: bool,
-    weights: &[f64],
-) -> Result<(), Refusal>
-    ensures { result ≡ checked (curve_shape degree knots.now points.now rational weights.now) }
+pub fn curve_shape(curve: Curve) -> Result<(), Refusal>
+    ensures { result ≡ checked (on curve.entry curve_shape) }
 {
-    if points.len() % 3 != 0 {
+    if curve.points.len() % 3 != 0 {
         return Err(refuse(Reason::PointsUneven));
     }
-    let count = points.len() / 3;
-    knot_shape(degree, count, knots)?;
-    weight_shape(count, rational, weights)
+    let count = curve.points.len() / 3;
+    knot_shape(curve.degree, count, curve.knots)?;
+    weight_shape(count, curve.rational, curve.weights)
 }
 
 // 32, 11, then 1, 2, 3 of u and of v, then 9
-pub fn surface_shape(
-    u_degree: usize,
-    v_degree: usize,
-    u_knots: &[f64],
-    v_knots: &[f64],
-    u_count: usize,
-    v_count: usize,
-    points: &[f64],
-    rational: bool,
-    weights: &[f64],
-) -> Result<(), Refusal>
-    ensures { result ≡ checked (surface_shape u_degree v_degree u_knots.now v_knots.now u_count v_count points.now rational weights.now) }
+pub fn surface_shape(surface: Surface) -> Result<(), Refusal>
+    ensures { result ≡ checked (across surface.entry surface_shape) }
 {
-    if points.len() % 3 != 0 {
+    if surface.points.len() % 3 != 0 {
         return Err(refuse(Reason::PointsUneven));
     }
-    let count = points.len() / 3;
-    if !is_product(count, u_count, v_count) {
+    let count = surface.points.len() / 3;
+    if !is_product(count, surface.u_count, surface.v_count) {
         return Err(refuse(Reason::NetSize));
     }
-    let u = knot_shape(u_degree, u_count, u_knots);
+    let u = knot_shape(surface.u_degree, surface.u_count, surface.u_knots);
     along(0, u)?;
-    let v = knot_shape(v_degree, v_count, v_knots);
+    let v = knot_shape(surface.v_degree, surface.v_count, surface.v_knots);
     along(1, v)?;
-    weight_shape(count, rational, weights)
+    weight_shape(count, surface.rational, surface.weights)
 }

@@ -10,6 +10,7 @@ ghost use Rattle.listing.specs.Text.{Shown};
 ghost use Rattle.listing.specs.Listing.{shown_of, answer_of};
 ghost use Rattle.listing.specs.Boxes.{each, outcome, box_line, box_of};
 ghost use Rattle.listing.specs.Ends.{ends_text, ends_room};
+ghost use Rattle.knots.specs.Whole.{on};
 
 use crate::starts::put_start;
 use crate::{Line, Range, next_range};
@@ -17,6 +18,7 @@ use bounds::answer::{NurbsBounds, Triple};
 use bounds::curve::bound_span;
 use decimals::pieces::{put_bits, put_label, put_number};
 use interval::Interval;
+use knots::curve::Curve;
 use knots::refusal::Refusal;
 use record::clear::clear_bytes;
 
@@ -93,22 +95,19 @@ pub fn box_line(
 }
 
 // The line of the first nonempty span from a place on, bounded over its own closed range, of a curve that was validated before; for any input. Where there is none, nothing but 0.
-pub fn next_box(
-    speeds: bool,
-    degree: usize,
-    knots: &[f64],
-    points: &[f64],
-    rational: bool,
-    weights: &[f64],
-    from: usize,
-    out: &mut [u8; 2304],
-) -> Option<Line>
-    ensures value { result ≡ answer_of (box_of speeds degree knots.now points.now rational weights.now) (next_span degree (count_of points.now) knots.now from) }
-    ensures shown { Shown 2304 (shown_of (box_of speeds degree knots.now points.now rational weights.now) (next_span degree (count_of points.now) knots.now from)) out.new (length (shown_of (box_of speeds degree knots.now points.now rational weights.now) (next_span degree (count_of points.now) knots.now from))) }
+pub fn next_box(speeds: bool, curve: Curve, from: usize, out: &mut [u8; 2304]) -> Option<Line>
+    ensures value { result ≡ answer_of (on curve.entry (box_of speeds)) (next_span curve.entry.degree (count_of curve.entry.points.now) curve.entry.knots.now from) }
+    ensures shown { Shown 2304 (shown_of (on curve.entry (box_of speeds)) (next_span curve.entry.degree (count_of curve.entry.points.now) curve.entry.knots.now from)) out.new (length (shown_of (on curve.entry (box_of speeds)) (next_span curve.entry.degree (count_of curve.entry.points.now) curve.entry.knots.now from))) }
 {
+    let Curve {
+        degree,
+        knots,
+        points,
+        ..
+    } = curve;
     match next_range(degree, points.len() / 3, knots, from) {
         Some(Range { span, lower, upper }) => {
-            let answer = bound_span(degree, span, knots, points, rational, weights, lower, upper);
+            let answer = bound_span(curve, span, lower, upper);
             let length = box_line(speeds, span, lower, upper, answer, out);
             Some(Line { span, length })
         }

@@ -3,34 +3,26 @@ ghost use Rattle.std.specs.Prelude.{◌≡◌, true, false, cond, ℕ, ◌*◌, 
 ghost use Rattle.knots.specs.Clear.{zeros};
 ghost use Rattle.knots.specs.Knots.{ValidKnots};
 ghost use Rattle.knots.specs.Refusal.{checked};
+ghost use Rattle.knots.specs.Whole.{across};
 ghost use Rattle.made.specs.Iso.{place_of};
-ghost use Rattle.made.specs.IsoCurve.{side_from, side_of, hull_of, iso_outside, along_start, iso_start, AlongDone, IsoMeets};
+ghost use Rattle.made.specs.IsoCurve.{side_from, hull_of, iso_side, iso_hull, iso_outside, along_start, iso_start, AlongDone, IsoMeets};
 
 use crate::front::{clear_two, made_refusal};
 use crate::iso::{Strip, iso_fill};
 use basis::ders::basis_derivatives;
 use evaluate::refusals::degrees_refusal;
 use interval::float::is_finite;
+use knots::curve::Curve;
 use knots::refusal::{Reason, Refusal, refuse};
 use knots::shape::room_refusal;
 use knots::span::{is_outside, span_of};
-use knots::surface::surface_refusal;
+use knots::surface::{Surface, surface_refusal};
 
 // The knots of the isocurve: the caller's own run of the other direction.
 pub fn iso_knots<'a>(constant_u: bool, u_knots: &'a [f64], v_knots: &'a [f64]) -> &'a [f64]
     ensures { result ≡ cond constant_u v_knots.entry u_knots.entry }
 {
     if constant_u { v_knots } else { u_knots }
-}
-
-// The numbers of a surface beside its runs.
-#[derive(Clone, Copy, Debug, PartialEq, Eq)]
-struct Form {
-    u_degree: usize,
-    v_degree: usize,
-    u_count: usize,
-    v_count: usize,
-    rational: bool,
 }
 
 // The direction that t fixes, and the other, which is the isocurve's.
@@ -73,39 +65,26 @@ fn along_start(
 }
 
 // The refusal before anything is formed: the surface's, 31, 22, 30 for outputs of a and b numbers.
-fn iso_start(
-    form: Form,
-    u_knots: &[f64],
-    v_knots: &[f64],
-    points: &[f64],
-    weights: &[f64],
-    constant_u: bool,
-    t: f64,
-    a: usize,
-    b: usize,
-) -> Result<(), Refusal>
-    ensures { result ≡ checked (iso_start form.u_degree form.v_degree u_knots.now v_knots.now form.u_count form.v_count points.now form.rational weights.now constant_u t a b) }
+fn iso_start(surface: Surface, constant_u: bool, t: f64, a: usize, b: usize) -> Result<(), Refusal>
+    ensures { result ≡ checked (across surface.entry iso_start constant_u t a b) }
 {
-    let p = form.u_degree;
-    let q = form.v_degree;
-    let m = form.u_count;
-    let n = form.v_count;
-    let rational = form.rational;
-    surface_refusal(p, q, u_knots, v_knots, m, n, points, rational, weights)?;
+    let p = surface.u_degree;
+    let q = surface.v_degree;
+    let m = surface.u_count;
+    let n = surface.v_count;
+    surface_refusal(surface)?;
     degrees_refusal(p, q)?;
     if constant_u {
-        return along_start(p, m, u_knots, t, n, a, b);
+        return along_start(p, m, surface.u_knots, t, n, a, b);
     }
-    along_start(q, n, v_knots, t, m, a, b)
+    along_start(q, n, surface.v_knots, t, m, a, b)
 }
 
 // The isocurve along one direction of a valid surface into cleared runs, with 23 for the first point that has no weight, or its refusal by 1 to 10.
 fn iso_along(
+    surface: Surface,
     held: Held,
     fixed: &[f64],
-    points: &[f64],
-    rational: bool,
-    weights: &[f64],
     other: &[f64],
     out_points: &mut [f64],
     out_weights: &mut [f64],
@@ -113,14 +92,14 @@ fn iso_along(
     requires degree_bound { held.degree ≤ 64 }
     requires valid_knots { ValidKnots held.degree held.count fixed.now }
     requires t_value { iso_outside held.degree held.count fixed.now held.t ≡ false }
-    requires by_index { (i : ℕ) → i < held.count → (k : ℕ) → k < held.other_count → place_of held.constant_u held.columns i k < length points.now / 3 }
-    requires k_in_bounds { rational ≡ true → (i : ℕ) → i < held.count → (k : ℕ) → k < held.other_count → place_of held.constant_u held.columns i k < length weights.now }
+    requires by_index { (i : ℕ) → i < held.count → (k : ℕ) → k < held.other_count → place_of held.constant_u held.columns i k < length surface.points.now / 3 }
+    requires k_in_bounds { surface.rational ≡ true → (i : ℕ) → i < held.count → (k : ℕ) → k < held.other_count → place_of held.constant_u held.columns i k < length surface.weights.now }
     requires other_count_in_bounds { held.other_count * 3 ≤ length out_points.old }
     requires other_count_in_bounds_2 { held.other_count ≤ length out_weights.old }
     requires other_count_bound { held.other_count ≤ 1048576 }
     requires out_points_value { out_points.old ≡ zeros (length out_points.old) }
     requires out_weights_value { out_weights.old ≡ zeros (length out_weights.old) }
-    ensures { AlongDone (hull_of points.now rational weights.now held.columns held.constant_u (side_from held.degree held.count fixed.now held.other_degree held.other_count other.now) held.t) (side_from held.degree held.count fixed.now held.other_degree held.other_count other.now) (length out_points.old) (length out_weights.old) out_points.new out_weights.new result }
+    ensures { AlongDone (hull_of surface.entry.points.now surface.entry.rational surface.entry.weights.now held.columns held.constant_u (side_from held.degree held.count fixed.now held.other_degree held.other_count other.now) held.t) (side_from held.degree held.count fixed.now held.other_degree held.other_count other.now) (length out_points.old) (length out_weights.old) out_points.new out_weights.new result }
 {
     let p = held.degree;
     let count = held.other_count;
@@ -136,9 +115,9 @@ fn iso_along(
     let good = iso_fill(
         count,
         strip,
-        points,
-        rational,
-        weights,
+        surface.points,
+        surface.rational,
+        surface.weights,
         &ders,
         out_points,
         out_weights,
@@ -146,103 +125,70 @@ fn iso_along(
     if !good {
         return Err(refuse(Reason::IsoWeightBad));
     }
-    let q = held.other_degree;
-    let a = other.len();
-    made_refusal(
-        q,
-        count,
-        other,
-        a,
-        out_points,
-        count * 3,
-        true,
-        out_weights,
-        count,
-    )
+    let formed = Curve {
+        degree: held.other_degree,
+        knots: other,
+        points: out_points,
+        rational: true,
+        weights: out_weights,
+    };
+    made_refusal(formed, count, other.len(), count * 3, count)
 }
 
 // The isocurve along u or along v, where nothing was refused before.
 fn iso_into(
-    form: Form,
-    us: &[f64],
-    vs: &[f64],
-    points: &[f64],
-    weights: &[f64],
+    surface: Surface,
     constant_u: bool,
     t: f64,
     out_points: &mut [f64],
     out_weights: &mut [f64],
 ) -> Result<(), Refusal>
-    requires out_weights_value { (iso_start form.u_degree form.v_degree us.now vs.now form.u_count form.v_count points.now form.rational weights.now constant_u t (length out_points.old) (length out_weights.old)).number ≡ 0 }
+    requires out_weights_value { (across surface iso_start constant_u t (length out_points.old) (length out_weights.old)).number ≡ 0 }
     requires out_points_value { out_points.old ≡ zeros (length out_points.old) }
     requires out_weights_value_2 { out_weights.old ≡ zeros (length out_weights.old) }
-    ensures { AlongDone (hull_of points.now form.rational weights.now form.v_count constant_u (side_of constant_u form.u_degree form.v_degree us.now vs.now form.u_count form.v_count) t) (side_of constant_u form.u_degree form.v_degree us.now vs.now form.u_count form.v_count) (length out_points.old) (length out_weights.old) out_points.new out_weights.new result }
+    ensures { AlongDone (across surface.entry iso_hull constant_u t) (across surface.entry iso_side constant_u t) (length out_points.old) (length out_weights.old) out_points.new out_weights.new result }
 {
-    let g = form.rational;
+    let us = surface.u_knots;
+    let vs = surface.v_knots;
     if constant_u {
         let held = Held {
             constant_u: true,
             t,
-            degree: form.u_degree,
-            count: form.u_count,
-            columns: form.v_count,
-            other_degree: form.v_degree,
-            other_count: form.v_count,
+            degree: surface.u_degree,
+            count: surface.u_count,
+            columns: surface.v_count,
+            other_degree: surface.v_degree,
+            other_count: surface.v_count,
         };
-        return iso_along(held, us, points, g, weights, vs, out_points, out_weights);
+        return iso_along(surface, held, us, vs, out_points, out_weights);
     }
     let held = Held {
         constant_u: false,
         t,
-        degree: form.v_degree,
-        count: form.v_count,
-        columns: form.v_count,
-        other_degree: form.u_degree,
-        other_count: form.u_count,
+        degree: surface.v_degree,
+        count: surface.v_count,
+        columns: surface.v_count,
+        other_degree: surface.u_degree,
+        other_count: surface.u_count,
     };
-    iso_along(held, vs, points, g, weights, us, out_points, out_weights)
+    iso_along(surface, held, vs, us, out_points, out_weights)
 }
 
 // The isocurve of a surface at t of u, or of v, in lent runs: its points and weights. Its knots are those that `iso_knots` hands back.
 pub fn iso_curve(
-    u_degree: usize,
-    v_degree: usize,
-    u_knots: &[f64],
-    v_knots: &[f64],
-    u_count: usize,
-    v_count: usize,
-    points: &[f64],
-    rational: bool,
-    weights: &[f64],
+    surface: Surface,
     constant_u: bool,
     t: f64,
     out_points: &mut [f64],
     out_weights: &mut [f64],
 ) -> Result<(), Refusal>
-    ensures { IsoMeets u_degree v_degree u_knots.now v_knots.now u_count v_count points.now rational weights.now constant_u t (length out_points.old) (length out_weights.old) out_points.new out_weights.new result }
+    ensures { across surface.entry IsoMeets constant_u t (length out_points.old) (length out_weights.old) out_points.new out_weights.new result }
 {
     let a = out_points.len();
     let b = out_weights.len();
-    let f = Form {
-        u_degree,
-        v_degree,
-        u_count,
-        v_count,
-        rational,
-    };
     clear_two(out_points, out_weights);
-    iso_start(f, u_knots, v_knots, points, weights, constant_u, t, a, b)?;
-    let formed = iso_into(
-        f,
-        u_knots,
-        v_knots,
-        points,
-        weights,
-        constant_u,
-        t,
-        out_points,
-        out_weights,
-    );
+    iso_start(surface, constant_u, t, a, b)?;
+    let formed = iso_into(surface, constant_u, t, out_points, out_weights);
     if formed.is_err() {
         clear_two(out_points, out_weights);
     }

@@ -3,11 +3,12 @@ ghost use Rattle.std.specs.Prelude.{◌≡◌, ◌++◌, true, ◌*◌, ◌/◌,
 ghost use Rattle.knots.specs.Clear.{zeros};
 ghost use Rattle.knots.specs.Curve.{ValidCurve};
 ghost use Rattle.knots.specs.Refusal.{checked};
+ghost use Rattle.knots.specs.Whole.{on};
 ghost use Rattle.runs.specs.Tabulate.{tabulate};
 ghost use Rattle.made.specs.Reverse.{given_length, back_place, back_number, back_at, reverse_start, ReverseFormed, ReverseMeets};
 
 use crate::front::{clear_three, made_refusal};
-use knots::curve::curve_refusal;
+use knots::curve::{Curve, curve_refusal};
 use knots::refusal::Refusal;
 use knots::shape::room_refusal;
 
@@ -55,44 +56,38 @@ fn given_len(rational: bool, weights: &[f64]) -> usize
 }
 
 // The refusal before anything is formed: the curve's, 30 for outputs of a, b, c numbers.
-fn reverse_start(
-    degree: usize,
-    knots: &[f64],
-    points: &[f64],
-    rational: bool,
-    weights: &[f64],
-    a: usize,
-    b: usize,
-    c: usize,
-) -> Result<(), Refusal>
-    ensures { result ≡ checked (reverse_start degree knots.now points.now rational weights.now a b c) }
+fn reverse_start(curve: Curve, a: usize, b: usize, c: usize) -> Result<(), Refusal>
+    ensures { result ≡ checked (on curve.entry reverse_start a b c) }
 {
-    curve_refusal(degree, knots, points, rational, weights)?;
-    room_refusal(a, knots.len())?;
-    room_refusal(b, points.len())?;
-    room_refusal(c, given_len(rational, weights))
+    curve_refusal(curve)?;
+    room_refusal(a, curve.knots.len())?;
+    room_refusal(b, curve.points.len())?;
+    room_refusal(c, given_len(curve.rational, curve.weights))
 }
 
 // The curve run backwards into cleared runs, and its refusal by 1 to 10.
 fn reverse_into(
-    degree: usize,
-    knots: &[f64],
-    points: &[f64],
-    rational: bool,
-    weights: &[f64],
+    curve: Curve,
     out_knots: &mut [f64],
     out_points: &mut [f64],
     out_weights: &mut [f64],
 ) -> Result<(), Refusal>
-    requires valid_curve { ValidCurve degree knots.now points.now rational weights.now }
-    requires knots_in_bounds { length knots.now ≤ length out_knots.old }
-    requires points_in_bounds { length points.now ≤ length out_points.old }
-    requires weights_in_bounds { given_length rational weights.now ≤ length out_weights.old }
+    requires valid_curve { on curve ValidCurve }
+    requires knots_in_bounds { length curve.knots.now ≤ length out_knots.old }
+    requires points_in_bounds { length curve.points.now ≤ length out_points.old }
+    requires weights_in_bounds { given_length curve.rational curve.weights.now ≤ length out_weights.old }
     requires out_knots_value { out_knots.old ≡ zeros (length out_knots.old) }
     requires out_points_value { out_points.old ≡ zeros (length out_points.old) }
     requires out_weights_value { out_weights.old ≡ zeros (length out_weights.old) }
-    ensures { ReverseFormed degree knots.now points.now rational weights.now (length out_knots.old) (length out_points.old) (length out_weights.old) out_knots.new out_points.new out_weights.new result }
+    ensures { on curve.entry ReverseFormed (length out_knots.old) (length out_points.old) (length out_weights.old) out_knots.new out_points.new out_weights.new result }
 {
+    let Curve {
+        degree,
+        knots,
+        points,
+        rational,
+        weights,
+    } = curve;
     let n = knots.len();
     let m = points.len();
     let w = given_len(rational, weights);
@@ -102,47 +97,31 @@ fn reverse_into(
     run_back(true, false, lo, hi, n, knots, out_knots);
     run_back(false, true, lo, hi, m, points, out_points);
     run_back(false, false, lo, hi, w, weights, out_weights);
-    made_refusal(
+    let formed = Curve {
         degree,
-        count,
-        out_knots,
-        n,
-        out_points,
-        m,
+        knots: out_knots,
+        points: out_points,
         rational,
-        out_weights,
-        w,
-    )
+        weights: out_weights,
+    };
+    made_refusal(formed, count, n, m, w)
 }
 
 // The curve run backwards over the same domain, in lent runs. Rounding can merge knots or put them out of order, so that the curve that is formed is refused by 4 or 7.
 pub fn reversed(
-    degree: usize,
-    knots: &[f64],
-    points: &[f64],
-    rational: bool,
-    weights: &[f64],
+    curve: Curve,
     out_knots: &mut [f64],
     out_points: &mut [f64],
     out_weights: &mut [f64],
 ) -> Result<(), Refusal>
-    ensures { ReverseMeets degree knots.now points.now rational weights.now (length out_knots.old) (length out_points.old) (length out_weights.old) out_knots.new out_points.new out_weights.new result }
+    ensures { on curve.entry ReverseMeets (length out_knots.old) (length out_points.old) (length out_weights.old) out_knots.new out_points.new out_weights.new result }
 {
     let a = out_knots.len();
     let b = out_points.len();
     let c = out_weights.len();
     clear_three(out_knots, out_points, out_weights);
-    reverse_start(degree, knots, points, rational, weights, a, b, c)?;
-    let formed = reverse_into(
-        degree,
-        knots,
-        points,
-        rational,
-        weights,
-        out_knots,
-        out_points,
-        out_weights,
-    );
+    reverse_start(curve, a, b, c)?;
+    let formed = reverse_into(curve, out_knots, out_points, out_weights);
     if formed.is_err() {
         clear_three(out_knots, out_points, out_weights);
     }

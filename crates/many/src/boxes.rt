@@ -6,6 +6,7 @@ ghost use Rattle.knots.specs.Curve.{ValidCurve};
 ghost use Rattle.many.specs.Rows.{rows_by};
 ghost use Rattle.many.specs.Spans.{spans_from, spans_of, box_width, no_triple, no_bounds, point_bounds, box_row, point_box_row, row_by, marks_of, box_of, box_of_by, mark_at, box_at, box_at_by, BoxesMeet, SpansMeet, PointSpansMeet};
 ghost use Rattle.many.specs.RowsHold.{RowsHold, PointRowsHold};
+ghost use Rattle.knots.specs.Whole.{on};
 
 use crate::start::{rooms_refusal, table_refusal};
 use bounds::answer::{NurbsBounds, Triple};
@@ -14,6 +15,7 @@ use bounds::point::point_span;
 use bounds::store::store_triple;
 use interval::Interval;
 use knots::clear::clear;
+use knots::curve::Curve;
 use knots::refusal::Refusal;
 
 // What is stored of one answer: the number of its refusal or 0, then the box. Where the point alone is asked for, du and dv are not stored.
@@ -85,23 +87,13 @@ fn point_row_of(a: Result<Triple, Refusal>) -> BoxRow
 }
 
 // The row of span s on the range from lo to hi.
-fn row_on(
-    alone: bool,
-    degree: usize,
-    s: usize,
-    knots: &[f64],
-    points: &[f64],
-    rational: bool,
-    weights: &[f64],
-    lo: f64,
-    hi: f64,
-) -> BoxRow
-    ensures { result ≡ row_by alone (bound_at degree s knots.now points.now rational weights.now lo hi) }
+fn row_on(alone: bool, curve: Curve, s: usize, lo: f64, hi: f64) -> BoxRow
+    ensures { result ≡ row_by alone (bound_at curve.entry.degree s curve.entry.knots.now curve.entry.points.now curve.entry.rational curve.entry.weights.now lo hi) }
 {
     if alone {
-        return point_row_of(point_span(degree, s, knots, points, rational, weights, lo, hi));
+        return point_row_of(point_span(curve, s, lo, hi));
     }
-    row_of(bound_span(degree, s, knots, points, rational, weights, lo, hi))
+    row_of(bound_span(curve, s, lo, hi))
 }
 
 // Row i of both runs, for span s.
@@ -167,29 +159,26 @@ fn span_count(degree: usize, count: usize, knots: &[f64]) -> usize
 }
 
 // A row for each nonempty span, on a curve that was validated.
-fn bound_each_by(
-    alone: bool,
-    degree: usize,
-    knots: &[f64],
-    points: &[f64],
-    rational: bool,
-    weights: &[f64],
-    marks: &mut [u32],
-    boxes: &mut [f64],
-)
-    requires valid_curve { ValidCurve degree knots.now points.now rational weights.now }
-    requires points_in_bounds { length (spans_of degree knots.now points.now) * 2 ≤ length marks.old }
-    requires alone_in_bounds { length (spans_of degree knots.now points.now) * box_width alone ≤ length boxes.old }
-    ensures marks_after { marks.new ≡ rows_by (mark_at degree knots.now points.now rational weights.now) (spans_of degree knots.now points.now) ++ drop (length (spans_of degree knots.now points.now) * 2) marks.old }
-    ensures boxes_after { boxes.new ≡ rows_by (box_at_by degree knots.now points.now rational weights.now alone) (spans_of degree knots.now points.now) ++ drop (length (spans_of degree knots.now points.now) * box_width alone) boxes.old }
+fn bound_each_by(alone: bool, curve: Curve, marks: &mut [u32], boxes: &mut [f64])
+    requires valid_curve { on curve ValidCurve }
+    requires points_in_bounds { length (spans_of curve.degree curve.knots.now curve.points.now) * 2 ≤ length marks.old }
+    requires alone_in_bounds { length (spans_of curve.degree curve.knots.now curve.points.now) * box_width alone ≤ length boxes.old }
+    ensures marks_after { marks.new ≡ rows_by (on curve.entry mark_at) (spans_of curve.entry.degree curve.entry.knots.now curve.entry.points.now) ++ drop (length (spans_of curve.entry.degree curve.entry.knots.now curve.entry.points.now) * 2) marks.old }
+    ensures boxes_after { boxes.new ≡ rows_by (on curve.entry box_at_by alone) (spans_of curve.entry.degree curve.entry.knots.now curve.entry.points.now) ++ drop (length (spans_of curve.entry.degree curve.entry.knots.now curve.entry.points.now) * box_width alone) boxes.old }
 {
+    let Curve {
+        degree,
+        knots,
+        points,
+        ..
+    } = curve;
     let count = points.len() / 3;
     let mut i = 0usize;
     for s in degree..count {
         let lo = knots[s];
         let hi = knots[s + 1];
         if lo < hi {
-            let row = row_on(alone, degree, s, knots, points, rational, weights, lo, hi);
+            let row = row_on(alone, curve, s, lo, hi);
             put_row_by(alone, marks, boxes, i, s, row);
             i += 1;
         }
@@ -197,83 +186,57 @@ fn bound_each_by(
 }
 
 // The same of whole boxes.
-fn bound_each(
-    degree: usize,
-    knots: &[f64],
-    points: &[f64],
-    rational: bool,
-    weights: &[f64],
-    marks: &mut [u32],
-    boxes: &mut [f64],
-)
-    requires valid_curve { ValidCurve degree knots.now points.now rational weights.now }
-    requires marks_in_bounds { length (spans_of degree knots.now points.now) * 2 ≤ length marks.old }
-    requires boxes_in_bounds { length (spans_of degree knots.now points.now) * 18 ≤ length boxes.old }
-    ensures marks_after { marks.new ≡ rows_by (mark_at degree knots.now points.now rational weights.now) (spans_of degree knots.now points.now) ++ drop (length (spans_of degree knots.now points.now) * 2) marks.old }
-    ensures boxes_after { boxes.new ≡ rows_by (box_at degree knots.now points.now rational weights.now) (spans_of degree knots.now points.now) ++ drop (length (spans_of degree knots.now points.now) * 18) boxes.old }
+fn bound_each(curve: Curve, marks: &mut [u32], boxes: &mut [f64])
+    requires valid_curve { on curve ValidCurve }
+    requires marks_in_bounds { length (spans_of curve.degree curve.knots.now curve.points.now) * 2 ≤ length marks.old }
+    requires boxes_in_bounds { length (spans_of curve.degree curve.knots.now curve.points.now) * 18 ≤ length boxes.old }
+    ensures marks_after { marks.new ≡ rows_by (on curve.entry mark_at) (spans_of curve.entry.degree curve.entry.knots.now curve.entry.points.now) ++ drop (length (spans_of curve.entry.degree curve.entry.knots.now curve.entry.points.now) * 2) marks.old }
+    ensures boxes_after { boxes.new ≡ rows_by (on curve.entry box_at) (spans_of curve.entry.degree curve.entry.knots.now curve.entry.points.now) ++ drop (length (spans_of curve.entry.degree curve.entry.knots.now curve.entry.points.now) * 18) boxes.old }
 {
-    bound_each_by(
-        false, degree, knots, points, rational, weights, marks, boxes,
-    );
+    bound_each_by(false, curve, marks, boxes);
 }
 
 // A row for each nonempty span, one validation for all.
 fn bound_all(
     alone: bool,
-    degree: usize,
-    knots: &[f64],
-    points: &[f64],
-    rational: bool,
-    weights: &[f64],
+    curve: Curve,
     marks: &mut [u32],
     boxes: &mut [f64],
 ) -> Result<usize, Refusal>
-    ensures { BoxesMeet degree knots.now points.now rational weights.now alone (length marks.old) (length boxes.old) marks.new boxes.new result }
+    ensures { on curve.entry BoxesMeet alone (length marks.old) (length boxes.old) marks.new boxes.new result }
 {
+    let Curve {
+        degree,
+        knots,
+        points,
+        ..
+    } = curve;
     marks.fill(0);
     clear(boxes);
-    table_refusal(degree, knots, points, rational, weights)?;
+    table_refusal(curve)?;
     let n = span_count(degree, points.len() / 3, knots);
     let w = box_width(alone);
     rooms_refusal(marks.len(), n * 2, boxes.len(), n * w)?;
     if alone {
-        bound_each_by(true, degree, knots, points, rational, weights, marks, boxes);
+        bound_each_by(true, curve, marks, boxes);
         return Ok(n);
     }
-    bound_each(degree, knots, points, rational, weights, marks, boxes);
+    bound_each(curve, marks, boxes);
     Ok(n)
 }
 
 // The bounds on each nonempty span over its own closed range, one validation for all: the span and the number of its own refusal or 0, and eighteen numbers. Where that number is 0 they hold the exact point and derivative at every fraction of that range; else they are +0.0. 28 and 29 are never given.
-pub fn bound_spans(
-    degree: usize,
-    knots: &[f64],
-    points: &[f64],
-    rational: bool,
-    weights: &[f64],
-    marks: &mut [u32],
-    boxes: &mut [f64],
-) -> Result<usize, Refusal>
-    ensures spans_meet { SpansMeet degree knots.now points.now rational weights.now (length marks.old) (length boxes.old) marks.new boxes.new result }
-    ensures rows_hold { RowsHold degree knots.now points.now rational weights.now marks.new boxes.new result }
+pub fn bound_spans(curve: Curve, marks: &mut [u32], boxes: &mut [f64]) -> Result<usize, Refusal>
+    ensures spans_meet { on curve.entry SpansMeet (length marks.old) (length boxes.old) marks.new boxes.new result }
+    ensures rows_hold { on curve.entry RowsHold marks.new boxes.new result }
 {
-    bound_all(
-        false, degree, knots, points, rational, weights, marks, boxes,
-    )
+    bound_all(false, curve, marks, boxes)
 }
 
 // The same of the point alone, as bound_point answers: six numbers a row.
-pub fn bound_points(
-    degree: usize,
-    knots: &[f64],
-    points: &[f64],
-    rational: bool,
-    weights: &[f64],
-    marks: &mut [u32],
-    boxes: &mut [f64],
-) -> Result<usize, Refusal>
-    ensures point_spans_meet { PointSpansMeet degree knots.now points.now rational weights.now (length marks.old) (length boxes.old) marks.new boxes.new result }
-    ensures point_rows_hold { PointRowsHold degree knots.now points.now rational weights.now marks.new boxes.new result }
+pub fn bound_points(curve: Curve, marks: &mut [u32], boxes: &mut [f64]) -> Result<usize, Refusal>
+    ensures point_spans_meet { on curve.entry PointSpansMeet (length marks.old) (length boxes.old) marks.new boxes.new result }
+    ensures point_rows_hold { on curve.entry PointRowsHold marks.new boxes.new result }
 {
-    bound_all(true, degree, knots, points, rational, weights, marks, boxes)
+    bound_all(true, curve, marks, boxes)
 }

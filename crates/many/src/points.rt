@@ -5,33 +5,26 @@ ghost use Rattle.knots.specs.Curve.{ValidCurve};
 ghost use Rattle.knots.specs.Span.{refusing, clamping};
 ghost use Rattle.many.specs.Rows.{rows_by};
 ghost use Rattle.many.specs.Points.{width as width_of, row_at, numbers_of, number_at, numbers_at, EachMeets, PointsMeet, Points2Meet};
+ghost use Rattle.knots.specs.Whole.{on};
 
 use crate::row::{PointRow, row_of, row2_of, width};
 use crate::start::points_start;
 use evaluate::curve::eval_step;
 use evaluate::curve2::eval2_step;
 use knots::clear::clear;
+use knots::curve::Curve;
 use knots::refusal::Refusal;
 use runs::store::store_vector;
 
 // The row of one parameter, by the mode, on a curve that was validated.
-fn row_at(
-    clamps: bool,
-    two: bool,
-    degree: usize,
-    knots: &[f64],
-    points: &[f64],
-    rational: bool,
-    weights: &[f64],
-    t: f64,
-) -> PointRow
-    requires { ValidCurve degree knots.now points.now rational weights.now }
-    ensures { result ≡ row_at clamps degree knots.now points.now rational weights.now two t }
+fn row_at(clamps: bool, two: bool, curve: Curve, t: f64) -> PointRow
+    requires { on curve ValidCurve }
+    ensures { result ≡ on curve.entry (row_at clamps) two t }
 {
     if two {
-        return row2_of(eval2_step(clamps, degree, knots, points, rational, weights, t));
+        return row2_of(eval2_step(clamps, curve, t));
     }
-    row_of(eval_step(clamps, degree, knots, points, rational, weights, t))
+    row_of(eval_step(clamps, curve, t))
 }
 
 // Row i of both runs.
@@ -54,24 +47,20 @@ fn put_row(two: bool, numbers: &mut [u32], rows: &mut [f64], i: usize, row: Poin
 fn eval_each(
     clamps: bool,
     two: bool,
-    degree: usize,
-    knots: &[f64],
-    points: &[f64],
-    rational: bool,
-    weights: &[f64],
+    curve: Curve,
     ts: &[f64],
     numbers: &mut [u32],
     rows: &mut [f64],
 )
-    requires valid_curve { ValidCurve degree knots.now points.now rational weights.now }
+    requires valid_curve { on curve ValidCurve }
     requires ts_len_bound { length ts.now ≤ 1048576 }
     requires ts_in_bounds { length ts.now ≤ length numbers.old }
     requires two_in_bounds { length ts.now * width_of two ≤ length rows.old }
-    ensures numbers_after { numbers.new ≡ rows_by (number_at clamps degree knots.now points.now rational weights.now two) ts.now ++ drop (length ts.now) numbers.old }
-    ensures rows_after { rows.new ≡ rows_by (numbers_at clamps degree knots.now points.now rational weights.now two) ts.now ++ drop (length ts.now * width_of two) rows.old }
+    ensures numbers_after { numbers.new ≡ rows_by (on curve.entry (number_at clamps) two) ts.now ++ drop (length ts.now) numbers.old }
+    ensures rows_after { rows.new ≡ rows_by (on curve.entry (numbers_at clamps) two) ts.now ++ drop (length ts.now * width_of two) rows.old }
 {
     for (i, t) in ts.iter().enumerate() {
-        let row = row_at(clamps, two, degree, knots, points, rational, weights, *t);
+        let row = row_at(clamps, two, curve, *t);
         put_row(two, numbers, rows, i, row);
     }
 }
@@ -80,97 +69,67 @@ fn eval_each(
 fn eval_all(
     clamps: bool,
     two: bool,
-    degree: usize,
-    knots: &[f64],
-    points: &[f64],
-    rational: bool,
-    weights: &[f64],
+    curve: Curve,
     ts: &[f64],
     numbers: &mut [u32],
     rows: &mut [f64],
 ) -> Result<usize, Refusal>
-    ensures { EachMeets clamps degree knots.now points.now rational weights.now two ts.now (length numbers.old) (length rows.old) numbers.new rows.new result }
+    ensures { on curve.entry (EachMeets clamps) two ts.now (length numbers.old) (length rows.old) numbers.new rows.new result }
 {
     numbers.fill(0);
     clear(rows);
     let a = numbers.len();
     let b = rows.len();
     let w = width(two);
-    points_start(degree, knots, points, rational, weights, ts, w, a, b)?;
-    eval_each(
-        clamps, two, degree, knots, points, rational, weights, ts, numbers, rows,
-    );
+    points_start(curve, ts, w, a, b)?;
+    eval_each(clamps, two, curve, ts, numbers, rows);
     Ok(ts.len())
 }
 
 // The point and the first derivative at each parameter: six numbers a row. One outside the domain is refused in its row.
 pub fn eval_many(
-    degree: usize,
-    knots: &[f64],
-    points: &[f64],
-    rational: bool,
-    weights: &[f64],
+    curve: Curve,
     ts: &[f64],
     numbers: &mut [u32],
     rows: &mut [f64],
 ) -> Result<usize, Refusal>
-    ensures { PointsMeet refusing degree knots.now points.now rational weights.now ts.now (length numbers.old) (length rows.old) numbers.new rows.new result }
+    ensures { on curve.entry (PointsMeet refusing) ts.now (length numbers.old) (length rows.old) numbers.new rows.new result }
 {
-    eval_all(
-        false, false, degree, knots, points, rational, weights, ts, numbers, rows,
-    )
+    eval_all(false, false, curve, ts, numbers, rows)
 }
 
 // The same, where a finite parameter outside the domain becomes the nearer end.
 pub fn eval_many_clamped(
-    degree: usize,
-    knots: &[f64],
-    points: &[f64],
-    rational: bool,
-    weights: &[f64],
+    curve: Curve,
     ts: &[f64],
     numbers: &mut [u32],
     rows: &mut [f64],
 ) -> Result<usize, Refusal>
-    ensures { PointsMeet clamping degree knots.now points.now rational weights.now ts.now (length numbers.old) (length rows.old) numbers.new rows.new result }
+    ensures { on curve.entry (PointsMeet clamping) ts.now (length numbers.old) (length rows.old) numbers.new rows.new result }
 {
-    eval_all(
-        true, false, degree, knots, points, rational, weights, ts, numbers, rows,
-    )
+    eval_all(true, false, curve, ts, numbers, rows)
 }
 
 // The point and two derivatives at each parameter: nine numbers a row. One outside the domain is refused in its row.
 pub fn eval2_many(
-    degree: usize,
-    knots: &[f64],
-    points: &[f64],
-    rational: bool,
-    weights: &[f64],
+    curve: Curve,
     ts: &[f64],
     numbers: &mut [u32],
     rows: &mut [f64],
 ) -> Result<usize, Refusal>
-    ensures { Points2Meet refusing degree knots.now points.now rational weights.now ts.now (length numbers.old) (length rows.old) numbers.new rows.new result }
+    ensures { on curve.entry (Points2Meet refusing) ts.now (length numbers.old) (length rows.old) numbers.new rows.new result }
 {
-    eval_all(
-        false, true, degree, knots, points, rational, weights, ts, numbers, rows,
-    )
+    eval_all(false, true, curve, ts, numbers, rows)
 }
 
 // The same, where a finite parameter outside the domain becomes the nearer end.
 pub fn eval2_many_clamped(
-    degree: usize,
-    knots: &[f64],
-    points: &[f64],
-    rational: bool,
-    weights: &[f64],
+    curve: Curve,
     ts: &[f64],
     numbers: &mut [u32],
     rows: &mut [f64],
 ) -> Result<usize, Refusal>
-    ensures { Points2Meet clamping degree knots.now points.now rational weights.now ts.now (length numbers.old) (length rows.old) numbers.new rows.new result }
+    ensures { on curve.entry (Points2Meet clamping) ts.now (length numbers.old) (length rows.old) numbers.new rows.new result }
 {
-    eval_all(
-        true, true, degree, knots, points, rational, weights, ts, numbers, rows,
-    )
+    eval_all(true, true, curve, ts, numbers, rows)
 }

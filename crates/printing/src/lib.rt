@@ -5,9 +5,11 @@ mod lines;
 mod pieces;
 
 use drawing::view_of;
+use knots::curve::Curve;
 use lines::print_spans;
 use pieces::{Piece, print_piece, print_points};
-use record::table::{Curve, read_table};
+use record::table;
+use record::table::read_table;
 
 // The nonempty spans, those with intervals that hold the point or its derivative, or the drawing.
 #[derive(Clone, Copy, Debug, PartialEq, Eq)]
@@ -18,25 +20,19 @@ pub enum Kind {
     Drawing,
 }
 
-fn print_drawing(degree: usize, knots: &[f64], points: &[f64], rational: bool, weights: &[f64]) {
+fn print_drawing(curve: Curve) {
+    let Curve { points, .. } = curve;
     print_piece(Piece::Head(view_of(points)));
     print_points(points);
     print_piece(Piece::Middle);
-    print_spans(Kind::Drawing, degree, knots, points, rational, weights);
+    print_spans(Kind::Drawing, curve);
     print_piece(Piece::Tail);
 }
 
-fn print_curve(
-    kind: Kind,
-    degree: usize,
-    knots: &[f64],
-    points: &[f64],
-    rational: bool,
-    weights: &[f64],
-) {
+fn print_curve(kind: Kind, curve: Curve) {
     match kind {
-        Kind::Drawing => print_drawing(degree, knots, points, rational, weights),
-        _ => print_spans(kind, degree, knots, points, rational, weights),
+        Kind::Drawing => print_drawing(curve),
+        _ => print_spans(kind, curve),
     }
 }
 
@@ -47,17 +43,19 @@ pub fn print_table(kind: Kind, s: &[u8]) {
     let mut weights = [0.0f64; 8192];
     match read_table(s, &mut knots, &mut points, &mut weights) {
         Err(refusal) => print_piece(Piece::Refusal(refusal)),
-        Ok(Curve { layout, rational }) => {
+        Ok(table::Curve { layout, rational }) => {
             let k = layout.knots;
             let n = layout.points;
             let w = layout.weights;
             print_curve(
                 kind,
-                layout.degree,
-                &knots[..k],
-                &points[..n],
-                rational,
-                &weights[..w],
+                Curve {
+                    degree: layout.degree,
+                    knots: &knots[..k],
+                    points: &points[..n],
+                    rational,
+                    weights: &weights[..w],
+                },
             );
         }
     }

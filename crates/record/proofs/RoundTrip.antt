@@ -17,7 +17,7 @@ use Rattle.knots.specs.declared.refusal.Reason.TheVariants.{LengthBad}
 use Rattle.knots.specs.declared.refusal.Refusal.{Refusal}
 use Rattle.record.specs.Format.{Patterns, IsRecordOf, encode, given}
 use Rattle.record.specs.Reading.{numbers}
-use Rattle.record.specs.Writing.{bits, chosen, table_from, holdable, writable, Writes, ReadsBack}
+use Rattle.record.specs.Writing.{bits, Kept, chosen, table_from, holdable, writable, Writes, ReadsBack}
 use Rattle.record.proofs.Tests.{both, held}
 use Rattle.record.proofs.Tables.{complete}
 
@@ -25,22 +25,25 @@ use Rattle.record.proofs.Tables.{complete}
 abbrev pub Doubles : List Float → Type 0
 Doubles xs = (i : ℕ) → T (fits binary64 (get_or xs i nan))
 
-pub bits-patterns : (xs : List Float) → Doubles xs → Patterns (bits xs)
+bits-patterns : (xs : List Float) → Doubles xs → Patterns (bits xs)
 bits-patterns [] d = tt
 bits-patterns (x ∷ xs) d = (to_bits-lt binary64 x (d 0), bits-patterns xs (λ i. d (suc i)))
 
-pub numbers-bits : (xs : List Float) → Doubles xs → numbers (bits xs) ≡ xs
+numbers-bits : (xs : List Float) → Doubles xs → numbers (bits xs) ≡ xs
 numbers-bits [] d = refl
 numbers-bits (x ∷ xs) d = rw (of_bits-to_bits binary64 x (d 0), numbers-bits xs (λ i. d (suc i)))
 
-chosen-patterns : (rational : Bool) (ws : List Float) → Doubles ws → Patterns (given (chosen rational ws))
+pub kept : (xs : List Float) → Doubles xs → Kept xs
+kept xs d = (bits-patterns xs d, numbers-bits xs d)
+
+chosen-patterns : (rational : Bool) (ws : List Float) → Kept ws → Patterns (given (chosen rational ws))
 chosen-patterns false ws d = tt
-chosen-patterns true ws d = bits-patterns ws d
+chosen-patterns true ws d = d.0
 
 refused-written : {x : Refusal} {n : ℕ} → Err x ≡ Ok n → ⊥
 refused-written e = let z : ◌≡◌ {A = ℕ} 0 1 = cc in omega arith
 
-module _ (p : ℕ) (ks ps : List Float) (rational : Bool) (ws : List Float) (dk : Doubles ks) (dp : Doubles ps) (dw : Doubles ws) where
+module _ (p : ℕ) (ks ps : List Float) (rational : Bool) (ws : List Float) (dk : Kept ks) (dp : Kept ps) (dw : Kept ws) where
   -- the record of a call's numbers holds their table
   pub holds-encode : holdable (table_from p ks ps rational ws) ≡ true → IsRecordOf (encode (table_from p ks ps rational ws)) (table_from p ks ps rational ws)
   holds-encode h =
@@ -49,8 +52,8 @@ module _ (p : ℕ) (ks ps : List Float) (rational : Bool) (ws : List Float) (dk 
         bytes = refl;
         short = leb-true _ _ ok.1;
         degree = ltb-true _ _ ok.0;
-        knots = bits-patterns ks dk;
-        points = bits-patterns ps dp;
+        knots = dk.0;
+        points = dp.0;
         weights = chosen-patterns rational ws dw;
       }
 
@@ -63,7 +66,7 @@ module _ (p : ℕ) (ks ps : List Float) (rational : Bool) (ws : List Float) (dk 
             let n-is : length (encode t) ≡ n = cc in
             let out : after ≡ encode t ++ replicate (length before - length (encode t)) 0 = w.left ∙ rw yes.0 in
             rw (out, take_at (encode t) (replicate (length before - length (encode t)) 0) n n-is) (complete (encode t) t (holds-encode (both _ _ yes.0).0));
-        knots = numbers-bits ks dk;
-        points = numbers-bits ps dp;
-        weights = numbers-bits ws dw;
+        knots = dk.1;
+        points = dp.1;
+        weights = dw.1;
       }

@@ -8,13 +8,17 @@ use Rattle.std.specs.Float.{binary64}
 use Rattle.std.specs.Float.Ieee.{to_bits}
 use Rattle.knots.specs.Refusal.{refuse}
 use Rattle.knots.specs.declared.refusal.Reason.TheVariants.{LengthBad}
-use Rattle.record.specs.Format.{Table, encode}
+use Rattle.record.specs.Format.{Table, Patterns, encode}
 use Rattle.record.specs.Reading.{table_of, layout, numbers}
 use Rattle.record.specs.declared.table.Curve.{Curve}
 
 -- the patterns of doubles: a NaN's is the quiet one with no sign and no payload
 abbrev pub bits : List Float → List ℕ
 bits xs = map (λ (x : Float). to_bits binary64 x) xs
+
+-- the numbers of a run are doubles: their patterns are such, and are read as these numbers
+abbrev pub Kept : List Float → Type 0
+Kept xs = Patterns (bits xs) × (numbers (bits xs) ≡ xs)
 
 -- weights that are not given are not looked at
 abbrev pub chosen : Bool → List Float → Option (List ℕ)

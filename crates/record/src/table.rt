@@ -27,13 +27,13 @@ fn layout_refusal(l: Layout, knots: &[f64], points: &[f64], weights: &[f64]) -> 
     let k = l.knots;
     let n = l.points;
     let w = l.weights;
-    curve_refusal(
-        l.degree,
-        &knots[..k],
-        &points[..n],
-        is_rational(l),
-        &weights[..w],
-    )
+    curve_refusal(knots::curve::Curve {
+        degree: l.degree,
+        knots: &knots[..k],
+        points: &points[..n],
+        rational: is_rational(l),
+        weights: &weights[..w],
+    })
 }
 
 // The curve of a record into three lent runs: 33 before all else, then 30 for a run with too little room, then the curve's own refusal.

@@ -2,7 +2,9 @@
 use bounds::answer::{NurbsBounds, Triple};
 use bounds::curve::bound_curve;
 use bounds::surface::bound_surface;
+use knots::curve::Curve;
 use knots::refusal::Refusal;
+use knots::surface::Surface;
 use replaying::answers::{accepted, ends, refused};
 use replaying::words::double;
 
@@ -28,35 +30,16 @@ fn judged(a: Result<NurbsBounds, Refusal>) -> bool {
     }
 }
 
-pub fn curve(
-    degree: usize,
-    knots: &[f64],
-    points: &[f64],
-    rational: bool,
-    weights: &[f64],
-) -> bool {
+pub fn curve(curve: Curve) -> bool {
     let lo = double();
     let hi = double();
-    judged(bound_curve(degree, knots, points, rational, weights, lo, hi))
+    judged(bound_curve(curve, lo, hi))
 }
 
-pub fn surface(
-    u_degree: usize,
-    v_degree: usize,
-    u_knots: &[f64],
-    v_knots: &[f64],
-    u_count: usize,
-    v_count: usize,
-    points: &[f64],
-    rational: bool,
-    weights: &[f64],
-) -> bool {
+pub fn surface(surface: Surface) -> bool {
     let u_lo = double();
     let u_hi = double();
     let v_lo = double();
     let v_hi = double();
-    judged(bound_surface(
-        u_degree, v_degree, u_knots, v_knots, u_count, v_count, points, rational, weights, u_lo,
-        u_hi, v_lo, v_hi,
-    ))
+    judged(bound_surface(surface, u_lo, u_hi, v_lo, v_hi))
 }

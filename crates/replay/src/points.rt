@@ -3,7 +3,9 @@ use crate::spans::checked;
 use evaluate::curve::{CurveDerivs, eval, eval_clamped};
 use evaluate::curve2::{CurveDerivs2, eval2, eval2_clamped};
 use evaluate::surface::{SurfaceDerivs, eval_surface, eval_surface_clamped};
+use knots::curve::Curve;
 use knots::refusal::Refusal;
+use knots::surface::Surface;
 use made::iso_curve::{iso_curve, iso_knots};
 use made::reverse::reversed;
 use replaying::answers::{accepted, refused, same};
@@ -52,19 +54,12 @@ fn curve_agrees(a: Result<CurveDerivs, Refusal>) -> bool {
     }
 }
 
-pub fn eval_agrees(
-    clamping: bool,
-    degree: usize,
-    knots: &[f64],
-    points: &[f64],
-    rational: bool,
-    weights: &[f64],
-) -> bool {
+pub fn eval_agrees(clamping: bool, curve: Curve) -> bool {
     let t = double();
     if clamping {
-        return curve_agrees(eval_clamped(degree, knots, points, rational, weights, t));
+        return curve_agrees(eval_clamped(curve, t));
     }
-    curve_agrees(eval(degree, knots, points, rational, weights, t))
+    curve_agrees(eval(curve, t))
 }
 
 // Reads what `eval2` answers, by either mode.
@@ -75,19 +70,12 @@ fn curve2_agrees(a: Result<CurveDerivs2, Refusal>) -> bool {
     }
 }
 
-pub fn eval2_agrees(
-    clamping: bool,
-    degree: usize,
-    knots: &[f64],
-    points: &[f64],
-    rational: bool,
-    weights: &[f64],
-) -> bool {
+pub fn eval2_agrees(clamping: bool, curve: Curve) -> bool {
     let t = double();
     if clamping {
-        return curve2_agrees(eval2_clamped(degree, knots, points, rational, weights, t));
+        return curve2_agrees(eval2_clamped(curve, t));
     }
-    curve2_agrees(eval2(degree, knots, points, rational, weights, t))
+    curve2_agrees(eval2(curve, t))
 }
 
 // Reads what `eval_surface` answers, by either mode.
@@ -98,48 +86,20 @@ fn surface_agrees(a: Result<SurfaceDerivs, Refusal>) -> bool {
     }
 }
 
-// Degrees p and q, knots uk and vk, counts m and n.
-pub fn surface(
-    clamping: bool,
-    p: usize,
-    q: usize,
-    uk: &[f64],
-    vk: &[f64],
-    m: usize,
-    n: usize,
-    points: &[f64],
-    rational: bool,
-    weights: &[f64],
-) -> bool {
+pub fn surface(clamping: bool, surface: Surface) -> bool {
     let u = double();
     let v = double();
     if clamping {
-        let a = eval_surface_clamped(p, q, uk, vk, m, n, points, rational, weights, u, v);
-        return surface_agrees(a);
+        return surface_agrees(eval_surface_clamped(surface, u, v));
     }
-    surface_agrees(eval_surface(p, q, uk, vk, m, n, points, rational, weights, u, v))
+    surface_agrees(eval_surface(surface, u, v))
 }
 
-pub fn reversal(
-    degree: usize,
-    knots: &[f64],
-    points: &[f64],
-    rational: bool,
-    weights: &[f64],
-) -> bool {
+pub fn reversal(curve: Curve) -> bool {
     let mut out_knots = [1.0; 512];
     let mut out_points = [1.0; 512];
     let mut out_weights = [1.0; 512];
-    let r = reversed(
-        degree,
-        knots,
-        points,
-        rational,
-        weights,
-        &mut out_knots,
-        &mut out_points,
-        &mut out_weights,
-    );
+    let r = reversed(curve, &mut out_knots, &mut out_points, &mut out_weights);
     let number = checked(r);
     let a = held(&out_knots);
     let b = held(&out_points);
@@ -148,39 +108,15 @@ pub fn reversal(
 }
 
 // The knots that are handed back are held against the Rust's whether the curve is refused or not.
-pub fn along<'a>(
-    u_degree: usize,
-    v_degree: usize,
-    u_knots: &'a [f64],
-    v_knots: &'a [f64],
-    u_count: usize,
-    v_count: usize,
-    points: &[f64],
-    rational: bool,
-    weights: &[f64],
-) -> bool {
+pub fn along(surface: Surface) -> bool {
     let mut out_points = [1.0; 512];
     let mut out_weights = [1.0; 512];
     let constant_u = flag();
     let t = double();
-    let r = iso_curve(
-        u_degree,
-        v_degree,
-        u_knots,
-        v_knots,
-        u_count,
-        v_count,
-        points,
-        rational,
-        weights,
-        constant_u,
-        t,
-        &mut out_points,
-        &mut out_weights,
-    );
+    let r = iso_curve(surface, constant_u, t, &mut out_points, &mut out_weights);
     let number = checked(r);
     let a = held(&out_points);
     let b = held(&out_weights);
-    let c = held(iso_knots(constant_u, u_knots, v_knots));
+    let c = held(iso_knots(constant_u, surface.u_knots, surface.v_knots));
     number && a && b && c
 }

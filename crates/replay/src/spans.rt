@@ -1,8 +1,8 @@
 // Validation, spans and classes: what is read behind a table, and what the Rust answers.
-use knots::curve::curve_refusal;
+use knots::curve::{Curve, curve_refusal};
 use knots::refusal::{Refusal, class_of};
 use knots::span::{clamp, find_span, find_span_clamped};
-use knots::surface::surface_refusal;
+use knots::surface::{Surface, surface_refusal};
 use knots::walk::next_span;
 use replaying::answers::{accepted, refused, same};
 use replaying::runs::size;
@@ -16,30 +16,12 @@ pub fn checked(a: Result<(), Refusal>) -> bool {
     }
 }
 
-pub fn curve(
-    degree: usize,
-    knots: &[f64],
-    points: &[f64],
-    rational: bool,
-    weights: &[f64],
-) -> bool {
-    checked(curve_refusal(degree, knots, points, rational, weights))
+pub fn curve(curve: Curve) -> bool {
+    checked(curve_refusal(curve))
 }
 
-pub fn surface(
-    u_degree: usize,
-    v_degree: usize,
-    u_knots: &[f64],
-    v_knots: &[f64],
-    u_count: usize,
-    v_count: usize,
-    points: &[f64],
-    rational: bool,
-    weights: &[f64],
-) -> bool {
-    checked(surface_refusal(
-        u_degree, v_degree, u_knots, v_knots, u_count, v_count, points, rational, weights,
-    ))
+pub fn surface(surface: Surface) -> bool {
+    checked(surface_refusal(surface))
 }
 
 // Reads the number of a refusal and its place, or 0 and the span.

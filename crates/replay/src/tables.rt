@@ -1,5 +1,7 @@
 // Tables of a list, read in once for all calls. A run has room for 512 numbers.
 use crate::{boxes, points, spans};
+use knots::curve::Curve;
+use knots::surface::Surface;
 use replaying::runs::{flag, run, size};
 
 fn knots_call(call: u32, degree: usize, count: usize, knots: &[f64]) -> bool {
@@ -19,20 +21,13 @@ pub fn on_knots(call: u32) -> bool {
     knots_call(call, degree, count, knots)
 }
 
-fn curve_call(
-    call: u32,
-    degree: usize,
-    knots: &[f64],
-    points: &[f64],
-    rational: bool,
-    weights: &[f64],
-) -> bool {
+fn curve_call(call: u32, curve: Curve) -> bool {
     match call {
-        19 => spans::curve(degree, knots, points, rational, weights),
-        26..=27 => points::eval_agrees(call == 27, degree, knots, points, rational, weights),
-        28..=29 => points::eval2_agrees(call == 29, degree, knots, points, rational, weights),
-        32 => points::reversal(degree, knots, points, rational, weights),
-        _ => boxes::curve(degree, knots, points, rational, weights),
+        19 => spans::curve(curve),
+        26..=27 => points::eval_agrees(call == 27, curve),
+        28..=29 => points::eval2_agrees(call == 29, curve),
+        32 => points::reversal(curve),
+        _ => boxes::curve(curve),
     }
 }
 
@@ -46,27 +41,24 @@ pub fn on_curve(call: u32) -> bool {
     let points = run(&mut point_room);
     let rational = flag();
     let weights = run(&mut weight_room);
-    curve_call(call, degree, knots, points, rational, weights)
+    curve_call(
+        call,
+        Curve {
+            degree,
+            knots,
+            points,
+            rational,
+            weights,
+        },
+    )
 }
 
-// Degrees p and q, knots u and v, counts m and n.
-fn surface_call<'a>(
-    call: u32,
-    p: usize,
-    q: usize,
-    u: &'a [f64],
-    v: &'a [f64],
-    m: usize,
-    n: usize,
-    points: &[f64],
-    rational: bool,
-    weights: &[f64],
-) -> bool {
+fn surface_call(call: u32, surface: Surface) -> bool {
     match call {
-        20 => spans::surface(p, q, u, v, m, n, points, rational, weights),
-        30..=31 => points::surface(call == 31, p, q, u, v, m, n, points, rational, weights),
-        33 => points::along(p, q, u, v, m, n, points, rational, weights),
-        _ => boxes::surface(p, q, u, v, m, n, points, rational, weights),
+        20 => spans::surface(surface),
+        30..=31 => points::surface(call == 31, surface),
+        33 => points::along(surface),
+        _ => boxes::surface(surface),
     }
 }
 
@@ -76,14 +68,27 @@ pub fn on_surface(call: u32) -> bool {
     let mut v_room = [0.0; 512];
     let mut point_room = [0.0; 512];
     let mut weight_room = [0.0; 512];
-    let p = size();
-    let q = size();
-    let u = run(&mut u_room);
-    let v = run(&mut v_room);
-    let m = size();
-    let n = size();
+    let u_degree = size();
+    let v_degree = size();
+    let u_knots = run(&mut u_room);
+    let v_knots = run(&mut v_room);
+    let u_count = size();
+    let v_count = size();
     let points = run(&mut point_room);
     let rational = flag();
     let weights = run(&mut weight_room);
-    surface_call(call, p, q, u, v, m, n, points, rational, weights)
+    surface_call(
+        call,
+        Surface {
+            u_degree,
+            v_degree,
+            u_knots,
+            v_knots,
+            u_count,
+            v_count,
+            points,
+            rational,
+            weights,
+        },
+    )
 }

@@ -11,6 +11,7 @@ ghost use Rattle.exports.specs.Points.{curve_answer};
 use basis::ders::basis_derivatives;
 use evaluate::curve::eval_at;
 use exports::points::put_curve;
+use knots::curve::Curve;
 use knots::span::span_of;
 
 // The search alone: the span of a parameter of the domain.
@@ -49,5 +50,17 @@ pub extern "C" fn tasulogi_step_eval_at(
 ) -> u64
     ensures { Leaves (curve_answer (eval_at_of refusing degree knots.now points.now rational weights.now t)) out.old out.new result }
 {
-    put_curve(out, eval_at(degree, knots, points, rational, weights, t))
+    put_curve(
+        out,
+        eval_at(
+            Curve {
+                degree,
+                knots,
+                points,
+                rational,
+                weights,
+            },
+            t,
+        ),
+    )
 }

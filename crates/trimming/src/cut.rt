@@ -2,6 +2,7 @@
 ghost use Rattle.std.specs.Prelude.{◌≡◌, ◌+◌, ◌*◌, ◌/◌, ◌≤◌, length, drop};
 ghost use Rattle.knots.specs.Refusal.{checked};
 ghost use Rattle.knots.specs.Curve.{ValidCurve};
+ghost use Rattle.knots.specs.Whole.{on};
 ghost use Rattle.edits.specs.Counts.{missing_of};
 ghost use Rattle.edits.specs.Rows.{given};
 ghost use Rattle.insertion.specs.Fold.{insert_all};
@@ -13,29 +14,32 @@ ghost use Rattle.trimming.specs.Passes.{CutDone};
 use edits::counts::missing;
 use edits::work::{front_refusal, lay_curve, take_curve};
 use insertion::times::insert_times;
+use knots::curve::Curve;
 use knots::refusal::Refusal;
 
 // The curve goes into scratch, its knots to place a, and both ends are inserted there.
 pub fn insert_ends(
-    degree: usize,
-    knots: &[f64],
-    points: &[f64],
-    rational: bool,
-    weights: &[f64],
+    curve: Curve,
     lo: f64,
     hi: f64,
     a: usize,
     work: &mut [f64],
 ) -> Result<(), Refusal>
-    requires valid_curve { ValidCurve degree knots.now points.now rational weights.now }
-    requires hi_bound { ((length points.now / 3 + (missing_of degree knots.now lo + missing_of degree knots.now hi)) * 4 ≤ a) × (a + (length points.now / 3 + (missing_of degree knots.now lo + missing_of degree knots.now hi) + degree + 1) ≤ length work.old) }
-    ensures value { result ≡ checked (refusal_of (insert_all degree rational (length points.now / 3) knots.now points.now (given_of rational weights.now) (ends_of degree knots.now lo hi))) }
-    ensures work_after { work.new ≡ work_in a rational work.old (insert_all degree rational (length points.now / 3) knots.now points.now (given_of rational weights.now) (ends_of degree knots.now lo hi)) }
+    requires valid_curve { on curve ValidCurve }
+    requires hi_bound { ((length curve.points.now / 3 + (missing_of curve.degree curve.knots.now lo + missing_of curve.degree curve.knots.now hi)) * 4 ≤ a) × (a + (length curve.points.now / 3 + (missing_of curve.degree curve.knots.now lo + missing_of curve.degree curve.knots.now hi) + curve.degree + 1) ≤ length work.old) }
+    ensures value { result ≡ checked (refusal_of (on curve.entry (λ p ks ps g ws. insert_all p g (length ps / 3) ks ps (given_of g ws) (ends_of p ks lo hi)))) }
+    ensures work_after { work.new ≡ work_in a curve.entry.rational work.old (on curve.entry (λ p ks ps g ws. insert_all p g (length ps / 3) ks ps (given_of g ws) (ends_of p ks lo hi))) }
 {
-    let n = points.len() / 3;
+    let Curve {
+        degree,
+        knots,
+        rational,
+        ..
+    } = curve;
+    let n = curve.points.len() / 3;
     let x = missing(degree + 1, knots, lo);
     let y = missing(degree + 1, knots, hi);
-    lay_curve(knots, points, rational, weights, a, work)?;
+    lay_curve(curve, a, work)?;
     insert_times(degree, n, rational, lo, x, a, work)?;
     insert_times(degree, n + x, rational, hi, y, a, work)
 }

@@ -2,12 +2,14 @@
 ghost use Rattle.std.specs.Prelude.{◌≡◌, ◌+◌, ◌≤◌, ◌<◌, length};
 ghost use Rattle.knots.specs.Refusal.{checked};
 ghost use Rattle.knots.specs.Knots.{ValidKnots};
+ghost use Rattle.knots.specs.Whole.{on};
 ghost use Rattle.edits.specs.Counts.{below_of};
 ghost use Rattle.trimming.specs.Trim.{in_range, kept_of, range_refusal, trim_start};
 
 use edits::counts::{below, missing};
 use edits::start::{edit_start, out_room, scratch_room};
 use interval::float::is_finite;
+use knots::curve::Curve;
 use knots::refusal::{Reason, Refusal, refuse};
 
 // Finite ends, lo below hi, and both in the domain from a to b.
@@ -69,11 +71,7 @@ fn range_refusal(
 
 // The curve's refusal, 17, 15, 30 for the lent runs.
 pub fn trim_start(
-    degree: usize,
-    knots: &[f64],
-    points: &[f64],
-    rational: bool,
-    weights: &[f64],
+    curve: Curve,
     lo: f64,
     hi: f64,
     a: usize,
@@ -81,14 +79,14 @@ pub fn trim_start(
     c: usize,
     d: usize,
 ) -> Result<(), Refusal>
-    ensures { result ≡ checked (trim_start degree knots.now points.now rational weights.now lo hi a b c d) }
+    ensures { result ≡ checked (on curve.entry trim_start lo hi a b c d) }
 {
-    edit_start(degree, knots, points, rational, weights)?;
+    edit_start(curve)?;
     range_refusal(
-        degree,
-        knots,
-        points.len() / 3,
-        rational,
+        curve.degree,
+        curve.knots,
+        curve.points.len() / 3,
+        curve.rational,
         lo,
         hi,
         a,

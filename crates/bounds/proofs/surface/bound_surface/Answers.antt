@@ -11,7 +11,7 @@ unfolding surface_of
 returns-in_err-surface_refusal c = let a = c.args in
     let p = err_from_is_err_and c.from_residual.result c.from_residual.ensures.1 in
     let h = c.in_err-surface_refusal.ensures in
-    let all = surface-promised a.u_degree a.v_degree a.u_knots.now a.v_knots.now a.u_count a.v_count a.points.now a.weights.now a.rational a.u_lo a.u_hi a.v_lo a.v_hi c.from_residual.result
+    let all = surface-promised a.surface.u_degree a.surface.v_degree a.surface.u_knots.now a.surface.v_knots.now a.surface.u_count a.surface.v_count a.surface.points.now a.surface.weights.now a.surface.rational a.u_lo a.u_hi a.v_lo a.v_hi c.from_residual.result
     (rw (p.1, p.2, stop _ h) (ap Err (stopped_by _ h).0)) in
     record { value = all.0; surface_holds = all.1.0; not_idle = all.1.1 }
 
@@ -21,6 +21,6 @@ bound_valid-requires c = let_by _ c.in_ok-surface_refusal.ensures
 pub returns : goal.returns
 unfolding surface_of
 returns c = let a = c.args in
-    let all = surface-promised a.u_degree a.v_degree a.u_knots.now a.v_knots.now a.u_count a.v_count a.points.now a.weights.now a.rational a.u_lo a.u_hi a.v_lo a.v_hi _
+    let all = surface-promised a.surface.u_degree a.surface.v_degree a.surface.u_knots.now a.surface.v_knots.now a.surface.u_count a.surface.v_count a.surface.points.now a.surface.weights.now a.surface.rational a.u_lo a.u_hi a.v_lo a.v_hi _
     (rw (skip _ c.in_ok-surface_refusal.ensures) c.bound_valid.ensures) in
     record { value = all.0; surface_holds = all.1.0; not_idle = all.1.1 }

@@ -19,6 +19,6 @@ shape_of-work c = c.work-2-1.given ∙ c.work-1.given
 pub returns : goal.returns
 returns c = let a = c.args in
     curve-in
-    a.a a.knots.now a.points.now a.rational a.weights.now a.work.now _ _
+    a.a a.curve.knots.now a.curve.points.now a.curve.rational a.curve.weights.now a.work.now _ _
     c.requires.points_len_bound.0 c.lay_rows.ensures
     c.lay_knots.ensures

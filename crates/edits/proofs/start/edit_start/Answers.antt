@@ -17,7 +17,7 @@ returns-in_err-curve_refusal c = let p = err_from_is_err_and c.from_residual.res
 
 pub clamped_ends-requires : goal.clamped_ends-requires
 clamped_ends-requires c = let a = c.args in
-    let v = valid-curve a.degree a.knots.now a.points.now a.rational a.weights.now (let_by _ c.in_ok-curve_refusal.ensures) in
+    let v = valid-curve a.curve.degree a.curve.knots.now a.curve.points.now a.curve.rational a.curve.weights.now (let_by _ c.in_ok-curve_refusal.ensures) in
     let l = v.knots.long in let k = v.knots.count in (k, omega arith)
 
 pub returns-then-not-clamped_ends : goal.returns-then-not-clamped_ends

@@ -12,24 +12,24 @@ use Rattle.edits.proofs.work.lay_curve.Goals as goal
 pub returns-in-Err : goal.returns-in-Err
 returns-in-Err c = let a = c.args in
     let s = stopped_by _ c.in-Err.ensures in
-    let o = lay-refuses a.knots.now a.points.now a.rational a.weights.now a.a (length a.work.now) c.in-Err.ensures in
-    let both = ends-refused a.a a.rational a.work.now _ _ _ o (λ z. s.1 (ap (λ (r : Refusal). r.number) (sym s.0) ∙ z)) c.clear.ensures in
+    let o = lay-refuses a.curve.knots.now a.curve.points.now a.curve.rational a.curve.weights.now a.a (length a.work.now) c.in-Err.ensures in
+    let both = ends-refused a.a a.curve.rational a.work.now _ _ _ o (λ z. s.1 (ap (λ (r : Refusal). r.number) (sym s.0) ∙ z)) c.clear.ensures in
     record { value = both.0; work_after = both.1 }
 
 pub lay_into-requires : goal.lay_into-requires
 lay_into-requires c = let a = c.args in
-    let o = lay-open a.knots.now a.points.now a.rational a.weights.now a.a (length a.work.now) (let_by _ c.in_default.ensures) in
-    record { points_in_bounds = given-room a.rational _ _ o.0; points_len_bound = o.1 }
+    let o = lay-open a.curve.knots.now a.curve.points.now a.curve.rational a.curve.weights.now a.a (length a.work.now) (let_by _ c.in_default.ensures) in
+    record { points_in_bounds = given-room a.curve.rational _ _ o.0; points_len_bound = o.1 }
 
 pub returns : goal.returns
 returns c = let a = c.args in
     let z = let_by _ c.in_default.ensures in
-    let o = lay-open a.knots.now a.points.now a.rational a.weights.now a.a (length a.work.now) z in
+    let o = lay-open a.curve.knots.now a.curve.points.now a.curve.rational a.curve.weights.now a.a (length a.work.now) z in
     let both =
     ends-formed
-    a.a a.rational a.work.now _ _ a.knots.now a.points.now a.weights.now
-    (lay-gives a.knots.now a.points.now a.rational a.weights.now a.a (length a.work.now) z)
+    a.a a.curve.rational a.work.now _ _ a.curve.knots.now a.curve.points.now a.curve.weights.now
+    (lay-gives a.curve.knots.now a.curve.points.now a.curve.rational a.curve.weights.now a.a (length a.work.now) z)
     (laid-is
-    a.a a.work.now a.knots.now a.points.now a.rational a.weights.now _ c.work-2-1.given o.1.0 o.1.1
+    a.a a.work.now a.curve.knots.now a.curve.points.now a.curve.rational a.curve.weights.now _ c.work-2-1.given o.1.0 o.1.1
     c.lay_into.ensures) in
     record { value = both.0; work_after = both.1 }

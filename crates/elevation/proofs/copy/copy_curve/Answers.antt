@@ -6,20 +6,20 @@ use Rattle.runs.proofs.Cleared.{copied-whole}
 use Rattle.elevation.proofs.Overlaid.{given-copied, given-left}
 use Rattle.elevation.proofs.copy.copy_curve.Goals as goal
 
-pub returns-then-rational : goal.returns-then-rational
-returns-then-rational c = let a = c.args in
+pub returns-then-curve : goal.returns-then-curve
+returns-then-curve c = let a = c.args in
     let q = c.requires in (
-      c.copy_run.ensures ∙ copied-whole _ a.knots.now q.knots_in_bounds.0,
-      c.copy_run-2.ensures ∙ copied-whole _ a.points.now q.knots_in_bounds.1,
+      c.copy_run.ensures ∙ copied-whole _ a.curve.knots.now q.knots_in_bounds.0,
+      c.copy_run-2.ensures ∙ copied-whole _ a.curve.points.now q.knots_in_bounds.1,
       given-copied
-          (length a.out_weights.now) a.weights.now _ a.rational c.if-rational.true (q.weights_in_bounds c.if-rational.true)
-          c.copy_run-then-rational.ensures,
+          (length a.out_weights.now) a.curve.weights.now _ a.curve.rational c.if-curve.true (q.weights_in_bounds c.if-curve.true)
+          c.copy_run-then-curve.ensures,
     )
 
-pub returns-else-rational : goal.returns-else-rational
-returns-else-rational c = let a = c.args in
+pub returns-else-curve : goal.returns-else-curve
+returns-else-curve c = let a = c.args in
     let q = c.requires in (
-      c.copy_run.ensures ∙ copied-whole _ a.knots.now q.knots_in_bounds.0,
-      c.copy_run-2.ensures ∙ copied-whole _ a.points.now q.knots_in_bounds.1,
-      given-left (length a.out_weights.now) a.weights.now _ a.rational c.if-rational.false c.clear.ensures,
+      c.copy_run.ensures ∙ copied-whole _ a.curve.knots.now q.knots_in_bounds.0,
+      c.copy_run-2.ensures ∙ copied-whole _ a.curve.points.now q.knots_in_bounds.1,
+      given-left (length a.out_weights.now) a.curve.weights.now _ a.curve.rational c.if-curve.false c.clear.ensures,
     )

@@ -28,7 +28,7 @@ pub elevated_count-count-requires : goal.elevated_count-count-requires
 elevated_count-count-requires c = let a = c.args in
     let all =
     counted_ready
-    a.degree a.knots.now a.points.now a.rational a.weights.now a.raised (length a.out_knots.now) (length a.out_points.now) (length a.out_weights.now)
+    a.curve.degree a.curve.knots.now a.curve.points.now a.curve.rational a.curve.weights.now a.raised (length a.out_knots.now) (length a.out_points.now) (length a.out_weights.now)
     (length a.scratch.now) (let_by _ c.in_default.ensures) in
     record { p_lt_n = all.0; e_bound = all.1 }
 

@@ -12,14 +12,14 @@ use Rattle.elevation.proofs.into.raise_into.Goals as goal
 pub count_breaks-met-requires : goal.count_breaks-met-requires
 count_breaks-met-requires c = let a = c.args in
     in_reach
-    a.degree a.knots.now a.points.now a.rational a.weights.now a.raised (length a.out_knots.now) (length a.out_points.now) (length a.out_weights.now)
+    a.curve.degree a.curve.knots.now a.curve.points.now a.curve.rational a.curve.weights.now a.raised (length a.out_knots.now) (length a.out_points.now) (length a.out_weights.now)
     (length a.work.now) c.requires.work_value
 
 pub overflow_add-m : goal.overflow_add-m
 overflow_add-m c = let a = c.args in
     let r =
     in_reach
-    a.degree a.knots.now a.points.now a.rational a.weights.now a.raised (length a.out_knots.now) (length a.out_points.now) (length a.out_weights.now)
+    a.curve.degree a.curve.knots.now a.curve.points.now a.curve.rational a.curve.weights.now a.raised (length a.out_knots.now) (length a.out_points.now) (length a.out_weights.now)
     (length a.work.now) c.requires.work_value in
     let x = r.0 in search rules
 
@@ -27,7 +27,7 @@ pub overflow_add-m-2 : goal.overflow_add-m-2
 overflow_add-m-2 c = let a = c.args in
     let q =
     sizes
-    a.degree a.knots.now a.points.now a.rational a.weights.now a.raised (length a.out_knots.now) (length a.out_points.now) (length a.out_weights.now)
+    a.curve.degree a.curve.knots.now a.curve.points.now a.curve.rational a.curve.weights.now a.raised (length a.out_knots.now) (length a.out_points.now) (length a.out_weights.now)
     (length a.work.now) c.requires.work_value c.count_breaks-met.result.breaks c.count_breaks-met.result.full
     c.count_breaks-met.ensures in
     let x = q.0 in let y = q.1 in let z = q.2 in search rules
@@ -36,7 +36,7 @@ pub overflow_mul-m : goal.overflow_mul-m
 overflow_mul-m c = let a = c.args in
     let q =
     sizes
-    a.degree a.knots.now a.points.now a.rational a.weights.now a.raised (length a.out_knots.now) (length a.out_points.now) (length a.out_weights.now)
+    a.curve.degree a.curve.knots.now a.curve.points.now a.curve.rational a.curve.weights.now a.raised (length a.out_knots.now) (length a.out_points.now) (length a.out_weights.now)
     (length a.work.now) c.requires.work_value c.count_breaks-met.result.breaks c.count_breaks-met.result.full
     c.count_breaks-met.ensures in
     let x = q.0 in let y = q.1 in let z = q.2 in search rules
@@ -45,7 +45,7 @@ pub overflow_mul-a : goal.overflow_mul-a
 overflow_mul-a c = let a = c.args in
     let q =
     sizes
-    a.degree a.knots.now a.points.now a.rational a.weights.now a.raised (length a.out_knots.now) (length a.out_points.now) (length a.out_weights.now)
+    a.curve.degree a.curve.knots.now a.curve.points.now a.curve.rational a.curve.weights.now a.raised (length a.out_knots.now) (length a.out_points.now) (length a.out_weights.now)
     (length a.work.now) c.requires.work_value c.count_breaks-met.result.breaks c.count_breaks-met.result.full
     c.count_breaks-met.ensures in
     let x = q.0 in let y = q.1 in let z = q.2 in search rules
@@ -54,22 +54,22 @@ pub returns-in_err-lay_curve : goal.returns-in_err-lay_curve
 returns-in_err-lay_curve c = let a = c.args in
     let no =
     lay-none
-    a.degree a.knots.now a.points.now a.rational a.weights.now a.raised (length a.out_knots.now) (length a.out_points.now) (length a.out_weights.now)
+    a.curve.degree a.curve.knots.now a.curve.points.now a.curve.rational a.curve.weights.now a.raised (length a.out_knots.now) (length a.out_points.now) (length a.out_weights.now)
     (length a.work.now) c.requires.work_value
     c.count_breaks-met.result.breaks c.count_breaks-met.result.full
     c.count_breaks-met.ensures
-    ((a.degree + 1) * (c.count_breaks-met.result.breaks + 1)) refl a.work.now refl _
+    ((a.curve.degree + 1) * (c.count_breaks-met.result.breaks + 1)) refl a.work.now refl _
     c.in_err-lay_curve.ensures.value in
     cc
 
 pub extract-requires : goal.extract-requires
 extract-requires c = let all = let a = c.args in
     extract-ready
-    a.degree a.knots.now a.points.now a.rational a.weights.now a.raised (length a.out_knots.now) (length a.out_points.now) (length a.out_weights.now)
+    a.curve.degree a.curve.knots.now a.curve.points.now a.curve.rational a.curve.weights.now a.raised (length a.out_knots.now) (length a.out_points.now) (length a.out_weights.now)
     (length a.work.now) c.requires.work_value
     c.count_breaks-met.result.breaks c.count_breaks-met.result.full
     c.count_breaks-met.ensures
-    ((a.degree + 1) * (c.count_breaks-met.result.breaks + 1)) refl a.work.now refl _
+    ((a.curve.degree + 1) * (c.count_breaks-met.result.breaks + 1)) refl a.work.now refl _
     c.in_ok-lay_curve.ensures.work_after
     _ (omega arith) in
     record { p_lt_n = all.0; valid_knots = all.1.0; knots_bound = all.1.1.0; p_in_bounds = all.1.1.1 }
@@ -80,11 +80,11 @@ returns-in_err-extract c = let p = err_from_is_err_and c.from_residual-in_err-ex
     rw
     (p.1, p.2)
     (into-stop
-    a.degree a.knots.now a.points.now a.rational a.weights.now a.raised (length a.out_knots.now) (length a.out_points.now) (length a.out_weights.now)
+    a.curve.degree a.curve.knots.now a.curve.points.now a.curve.rational a.curve.weights.now a.raised (length a.out_knots.now) (length a.out_points.now) (length a.out_weights.now)
     (length a.work.now) c.requires.work_value
     c.count_breaks-met.result.breaks c.count_breaks-met.result.full
     c.count_breaks-met.ensures
-    ((a.degree + 1) * (c.count_breaks-met.result.breaks + 1)) refl a.work.now refl _
+    ((a.curve.degree + 1) * (c.count_breaks-met.result.breaks + 1)) refl a.work.now refl _
     c.in_ok-lay_curve.ensures.work_after _ _ c.in_err-extract.ensures _ refl _ _ _)
 
 pub raise_extracted-requires : goal.raise_extracted-requires
@@ -92,12 +92,12 @@ raise_extracted-requires c = let all = let b = c.count_breaks-met in
     let a = c.args in
     let q = c.requires in
     raise-ready
-    a.degree a.knots.now a.points.now a.rational a.weights.now a.raised (length a.out_knots.now) (length a.out_points.now) (length a.out_weights.now)
+    a.curve.degree a.curve.knots.now a.curve.points.now a.curve.rational a.curve.weights.now a.raised (length a.out_knots.now) (length a.out_points.now) (length a.out_weights.now)
     (length a.work.now) q.work_value
     b.result.breaks
     b.result.full
     b.ensures
-    ((a.degree + 1) * (b.result.breaks + 1))
+    ((a.curve.degree + 1) * (b.result.breaks + 1))
     refl a.work.now refl _ c.in_ok-lay_curve.ensures.work_after q.fact _ (omega arith) in
     record { p_lt_n = all.0; m_value = all.1.0; e_in_bounds = all.1.1.0; knots_in_bounds = all.1.1.1.0; knots_in_bounds_2 = all.1.1.1.1 }
 
@@ -105,12 +105,12 @@ pub returns : goal.returns
 returns c = let a = c.args in
     let q = c.requires in
     into-end
-    a.degree a.knots.now a.points.now a.rational a.weights.now a.raised (length a.out_knots.now) (length a.out_points.now) (length a.out_weights.now)
+    a.curve.degree a.curve.knots.now a.curve.points.now a.curve.rational a.curve.weights.now a.raised (length a.out_knots.now) (length a.out_points.now) (length a.out_weights.now)
     (length a.work.now) q.work_value
     c.count_breaks-met.result.breaks
     c.count_breaks-met.result.full
     c.count_breaks-met.ensures
-    ((a.degree + 1) * (c.count_breaks-met.result.breaks + 1))
+    ((a.curve.degree + 1) * (c.count_breaks-met.result.breaks + 1))
     refl a.work.now refl _
     c.in_ok-lay_curve.ensures.work_after
     _ _ c.in_ok-extract.ensures

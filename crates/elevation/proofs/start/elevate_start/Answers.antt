@@ -13,7 +13,7 @@ returns-in_err-edit_start c = let p = err_from_is_err_and c.from_residual.result
 
 pub raise_start-requires : goal.raise_start-requires
 raise_start-requires c = let a = c.args in
-    edit-small a.degree a.knots.now a.points.now a.rational a.weights.now (let_by _ c.in_ok-edit_start.ensures)
+    edit-small a.curve.degree a.curve.knots.now a.curve.points.now a.curve.rational a.curve.weights.now (let_by _ c.in_ok-edit_start.ensures)
 
 pub returns : goal.returns
 unfolding elevate_start

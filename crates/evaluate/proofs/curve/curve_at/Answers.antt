@@ -20,7 +20,7 @@ value_and_slope-s-requires c = let q = c.requires in
 pub returns : goal.returns
 returns c = let a = c.args in
     let q = c.requires in
-    let reach : Reach 195 a.p 1 a.knots.now a.span = record { degree = q.p_nonzero; high = q.p_bound; orders = omega arith; low = q.p_le_span; long = q.p_in_bounds; room = refl } in
-    curve-is a.p 1 a.knots.now a.points.now a.rational a.weights.now a.span a.u reach _
+    let reach : Reach 195 a.curve.degree 1 a.curve.knots.now a.span = record { degree = q.p_nonzero; high = q.p_bound; orders = omega arith; low = q.p_le_span; long = q.p_in_bounds; room = refl } in
+    curve-is a.curve.degree 1 a.curve.knots.now a.curve.points.now a.curve.rational a.curve.weights.now a.span a.u reach _
     c.basis_derivatives.ensures _ c.scale_at-scale.ensures (omega arith) _ _ _ _
     c.point_at-o.ensures c.value_and_slope-s.ensures.value_value c.value_and_slope-s.ensures.slope_value c.quotient_of.ensures

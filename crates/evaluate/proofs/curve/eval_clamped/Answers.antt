@@ -9,13 +9,13 @@ use Rattle.evaluate.proofs.curve.eval_clamped.Goals as goal
 
 pub returns-in_err-eval_refusal : goal.returns-in_err-eval_refusal
 returns-in_err-eval_refusal c = let a = c.args in
-    let p = err_from_is_err_and c.from_residual.result c.from_residual.ensures.1 in rw (p.1, p.2) (eval-refused clamping a.degree a.knots.now a.points.now a.rational a.weights.now a.t c.in_err-eval_refusal.ensures)
+    let p = err_from_is_err_and c.from_residual.result c.from_residual.ensures.1 in rw (p.1, p.2) (eval-refused clamping a.curve.degree a.curve.knots.now a.curve.points.now a.curve.rational a.curve.weights.now a.t c.in_err-eval_refusal.ensures)
 
 pub found_at-requires : goal.found_at-requires
 found_at-requires c = let a = c.args in
-    let o = eval-fits a.degree a.knots.now a.points.now a.rational a.weights.now clamping a.t (let_by _ c.in_ok-eval_refusal.ensures) in
+    let o = eval-fits a.curve.degree a.curve.knots.now a.curve.points.now a.curve.rational a.curve.weights.now clamping a.t (let_by _ c.in_ok-eval_refusal.ensures) in
     record { degree_bound = o.0; weights_value = o.1 }
 
 pub returns : goal.returns
 returns c = let a = c.args in
-    eval-is clamping a.degree a.knots.now a.points.now a.rational a.weights.now a.t (let_by _ c.in_ok-eval_refusal.ensures) _ c.found_at.ensures
+    eval-is clamping a.curve.degree a.curve.knots.now a.curve.points.now a.curve.rational a.curve.weights.now a.t (let_by _ c.in_ok-eval_refusal.ensures) _ c.found_at.ensures

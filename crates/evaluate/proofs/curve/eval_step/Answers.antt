@@ -8,13 +8,13 @@ use Rattle.evaluate.proofs.curve.eval_step.Goals as goal
 
 pub returns-in_err-step_refusal : goal.returns-in_err-step_refusal
 returns-in_err-step_refusal c = let a = c.args in
-    let p = err_from_is_err_and c.from_residual.result c.from_residual.ensures.1 in rw (p.1, p.2) (step-refused a.clamps a.degree a.knots.now a.points.now a.rational a.weights.now a.t c.in_err-step_refusal.ensures)
+    let p = err_from_is_err_and c.from_residual.result c.from_residual.ensures.1 in rw (p.1, p.2) (step-refused a.clamps a.curve.degree a.curve.knots.now a.curve.points.now a.curve.rational a.curve.weights.now a.t c.in_err-step_refusal.ensures)
 
 pub found_at-requires : goal.found_at-requires
 found_at-requires c = let a = c.args in
-    let o = step_fits a.degree a.knots.now a.points.now a.rational a.weights.now a.clamps a.t (let_by _ c.in_ok-step_refusal.ensures) in
+    let o = step_fits a.curve.degree a.curve.knots.now a.curve.points.now a.curve.rational a.curve.weights.now a.clamps a.t (let_by _ c.in_ok-step_refusal.ensures) in
     record { degree_bound = o.0; weights_value = o.1 }
 
 pub returns : goal.returns
 returns c = let a = c.args in
-    step_is a.clamps a.degree a.knots.now a.points.now a.rational a.weights.now a.t (let_by _ c.in_ok-step_refusal.ensures) _ c.found_at.ensures
+    step_is a.clamps a.curve.degree a.curve.knots.now a.curve.points.now a.curve.rational a.curve.weights.now a.t (let_by _ c.in_ok-step_refusal.ensures) _ c.found_at.ensures

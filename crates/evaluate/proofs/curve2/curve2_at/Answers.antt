@@ -39,9 +39,9 @@ row_sums-e-requires c = let q = c.requires in
 pub returns : goal.returns
 returns c = let a = c.args in
     let q = c.requires in
-    let reach : Reach 195 a.p 2 a.knots.now a.span = record { degree = q.p_nonzero; high = q.p_bound; orders = omega arith; low = q.p_le_span; long = q.p_in_bounds; room = refl } in
+    let reach : Reach 195 a.curve.degree 2 a.curve.knots.now a.span = record { degree = q.p_nonzero; high = q.p_bound; orders = omega arith; low = q.p_le_span; long = q.p_in_bounds; room = refl } in
     curve2-is
-    a.p 2 a.knots.now a.points.now a.rational a.weights.now a.span a.u reach _
+    a.curve.degree 2 a.curve.knots.now a.curve.points.now a.curve.rational a.curve.weights.now a.span a.u reach _
     c.basis_derivatives.ensures _ c.scale_at-scale.ensures
     (omega arith)
     _ _ _ _ _ c.point_at-o.ensures c.row_sums-a.ensures

@@ -8,10 +8,10 @@ use Rattle.evaluate.proofs.curve2.found2_at.Goals as goal
 pub curve2_at-requires : goal.curve2_at-requires
 curve2_at-requires c = let all = let q = c.requires in
     let a = c.args in
-    found-reach a.degree a.knots.now a.points.now a.rational a.weights.now q.degree_bound q.weights_value _ _ c.span_of-span.ensures.found in
+    found-reach a.curve.degree a.curve.knots.now a.curve.points.now a.curve.rational a.curve.weights.now q.degree_bound q.weights_value _ _ c.span_of-span.ensures.found in
     record { p_nonzero = all.0; p_bound = all.1.0; p_le_span = all.1.1.0; p_in_bounds = all.1.1.1.0; span_in_bounds = all.1.1.1.1.0; span_in_bounds_2 = all.1.1.1.1.1 }
 
 pub returns : goal.returns
 unfolding found2_of
 returns c = let a = c.args in
-    c.curve2_at.ensures ∙ ap₂ (curve2_of a.degree a.knots.now a.points.now a.rational a.weights.now) c.span_of-span.ensures.found c.clamp-u.ensures
+    c.curve2_at.ensures ∙ ap₂ (curve2_of a.curve.degree a.curve.knots.now a.curve.points.now a.curve.rational a.curve.weights.now) c.span_of-span.ensures.found c.clamp-u.ensures

@@ -9,13 +9,13 @@ use Rattle.evaluate.proofs.surface.eval_surface_clamped.Goals as goal
 pub returns-in_err-surface_eval_refusal : goal.returns-in_err-surface_eval_refusal
 returns-in_err-surface_eval_refusal c = let a = c.args in
     let p = err_from_is_err_and c.from_residual.result c.from_residual.ensures.1 in rw (p.1, p.2)
-    (surface-eval-refused a.p a.q a.uk.now a.vk.now a.m a.n a.points.now a.rational a.weights.now clamping a.u a.v c.in_err-surface_eval_refusal.ensures)
+    (surface-eval-refused a.surface.u_degree a.surface.v_degree a.surface.u_knots.now a.surface.v_knots.now a.surface.u_count a.surface.v_count a.surface.points.now a.surface.rational a.surface.weights.now clamping a.u a.v c.in_err-surface_eval_refusal.ensures)
 
 pub surface_found-requires : goal.surface_found-requires
 surface_found-requires c = let a = c.args in
-    let o = surface-eval-fits a.p a.q a.uk.now a.vk.now a.m a.n a.points.now a.rational a.weights.now clamping a.u a.v (let_by _ c.in_ok-surface_eval_refusal.ensures) in
+    let o = surface-eval-fits a.surface.u_degree a.surface.v_degree a.surface.u_knots.now a.surface.v_knots.now a.surface.u_count a.surface.v_count a.surface.points.now a.surface.rational a.surface.weights.now clamping a.u a.v (let_by _ c.in_ok-surface_eval_refusal.ensures) in
     record { p_bound = o.0; q_bound = o.1.0; weights_value = o.1.1 }
 
 pub returns : goal.returns
 returns c = let a = c.args in
-    surface-eval-is a.p a.q a.uk.now a.vk.now a.m a.n a.points.now a.rational a.weights.now clamping a.u a.v (let_by _ c.in_ok-surface_eval_refusal.ensures) _ c.surface_found.ensures
+    surface-eval-is a.surface.u_degree a.surface.v_degree a.surface.u_knots.now a.surface.v_knots.now a.surface.u_count a.surface.v_count a.surface.points.now a.surface.rational a.surface.weights.now clamping a.u a.v (let_by _ c.in_ok-surface_eval_refusal.ensures) _ c.surface_found.ensures

@@ -22,19 +22,19 @@ net_scale-scale-requires c = let q = c.requires in
 pub overflow_mul-corner : goal.overflow_mul-corner
 overflow_mul-corner c = let a = c.args in
     let q = c.requires in
-    let h = corner-in (length a.points.now / 3) a.columns (a.s - a.p) a.p (a.t - a.q) a.q q.net_reach in
+    let h = corner-in (length a.surface.points.now / 3) a.surface.v_count (a.s - a.surface.u_degree) a.surface.u_degree (a.t - a.surface.v_degree) a.surface.v_degree q.net_reach in
     omega arith
 
 pub overflow_add-corner : goal.overflow_add-corner
 overflow_add-corner c = let a = c.args in
     let q = c.requires in
-    let h = corner-in (length a.points.now / 3) a.columns (a.s - a.p) a.p (a.t - a.q) a.q q.net_reach in
+    let h = corner-in (length a.surface.points.now / 3) a.surface.v_count (a.s - a.surface.u_degree) a.surface.u_degree (a.t - a.surface.v_degree) a.surface.v_degree q.net_reach in
     omega arith
 
 pub point_at-o-requires : goal.point_at-o-requires
 point_at-o-requires c = let a = c.args in
     let q = c.requires in
-    let h = corner-in (length a.points.now / 3) a.columns (a.s - a.p) a.p (a.t - a.q) a.q q.net_reach in
+    let h = corner-in (length a.surface.points.now / 3) a.surface.v_count (a.s - a.surface.u_degree) a.surface.u_degree (a.t - a.surface.v_degree) a.surface.v_degree q.net_reach in
     omega arith
 
 pub net_sums-c-requires : goal.net_sums-c-requires
@@ -79,7 +79,7 @@ net_sums-e-requires c = let q = c.requires in
 pub returns : goal.returns
 returns c = let a = c.args in
     let q = c.requires in
-    let along-u : Reach 195 a.p 1 a.u_knots.now a.s = record {
+    let along-u : Reach 195 a.surface.u_degree 1 a.surface.u_knots.now a.s = record {
       degree = q.p_nonzero;
       high = q.p_bound;
       orders = omega arith;
@@ -87,9 +87,9 @@ returns c = let a = c.args in
       long = q.p_in_bounds;
       room = refl;
     } in
-    let along-v : Reach 195 a.q 1 a.v_knots.now a.t = record
+    let along-v : Reach 195 a.surface.v_degree 1 a.surface.v_knots.now a.t = record
     { degree = q.q_nonzero; high = q.q_bound; orders = omega arith; low = q.q_le_t; long = q.q_in_bounds; room = refl } in
-    surface-is a.p a.q a.u_knots.now a.v_knots.now a.columns a.points.now a.rational a.weights.now a.s a.t a.u a.v _ _
+    surface-is a.surface.u_degree a.surface.v_degree a.surface.u_knots.now a.surface.v_knots.now a.surface.v_count a.surface.points.now a.surface.rational a.surface.weights.now a.s a.t a.u a.v _ _
     along-u
     c.basis_derivatives.ensures along-v
     c.basis_derivatives-2.ensures _

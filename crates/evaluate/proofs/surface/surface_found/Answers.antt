@@ -11,11 +11,11 @@ use Rattle.evaluate.proofs.surface.surface_found.Goals as goal
 pub surface_at-requires : goal.surface_at-requires
 surface_at-requires c = let h = c.requires in
     let a = c.args in
-    let o = surface-shaped a.p a.q a.uk.now a.vk.now a.m a.n a.points.now a.rational a.weights.now h.weights_value in
+    let o = surface-shaped a.surface.u_degree a.surface.v_degree a.surface.u_knots.now a.surface.v_knots.now a.surface.u_count a.surface.v_count a.surface.points.now a.surface.rational a.surface.weights.now h.weights_value in
     let s =
     subst
-    (Found a.p a.m a.uk.now) (sym c.span_of-s.ensures.found) (found a.p a.m a.uk.now o.u (clamped a.p a.m a.uk.now a.u)) in
-    let t = subst (Found a.q a.n a.vk.now) (sym c.span_of-t.ensures.found) (found a.q a.n a.vk.now o.v (clamped a.q a.n a.vk.now a.v)) in
+    (Found a.surface.u_degree a.surface.u_count a.surface.u_knots.now) (sym c.span_of-s.ensures.found) (found a.surface.u_degree a.surface.u_count a.surface.u_knots.now o.u (clamped a.surface.u_degree a.surface.u_count a.surface.u_knots.now a.u)) in
+    let t = subst (Found a.surface.v_degree a.surface.v_count a.surface.v_knots.now) (sym c.span_of-t.ensures.found) (found a.surface.v_degree a.surface.v_count a.surface.v_knots.now o.v (clamped a.surface.v_degree a.surface.v_count a.surface.v_knots.now a.v)) in
     record {
       p_nonzero = o.u.degree;
       q_nonzero = o.v.degree;
@@ -25,8 +25,8 @@ surface_at-requires c = let h = c.requires in
       q_le_t = t.from;
       p_in_bounds = s.reach;
       q_in_bounds = t.reach;
-      net_reach = points-net a.p a.q a.uk.now a.vk.now a.m a.n a.points.now a.rational a.weights.now o _ _ s t;
-      net_reach_2 = weights-net a.p a.q a.uk.now a.vk.now a.m a.n a.points.now a.rational a.weights.now o _ _ s t;
+      net_reach = points-net a.surface.u_degree a.surface.v_degree a.surface.u_knots.now a.surface.v_knots.now a.surface.u_count a.surface.v_count a.surface.points.now a.surface.rational a.surface.weights.now o _ _ s t;
+      net_reach_2 = weights-net a.surface.u_degree a.surface.v_degree a.surface.u_knots.now a.surface.v_knots.now a.surface.u_count a.surface.v_count a.surface.points.now a.surface.rational a.surface.weights.now o _ _ s t;
     }
 
 pub returns : goal.returns
@@ -35,9 +35,9 @@ returns c = let a = c.args in
     let x = c.clamp-x.result in
     let y = c.clamp-y.result in
     c.surface_at.ensures
-    ∙ (ap₂ (λ (i j : ℕ). surface_of a.p a.q a.uk.now a.vk.now a.n a.points.now a.rational a.weights.now i j x y)
+    ∙ (ap₂ (λ (i j : ℕ). surface_of a.surface.u_degree a.surface.v_degree a.surface.u_knots.now a.surface.v_knots.now a.surface.v_count a.surface.points.now a.surface.rational a.surface.weights.now i j x y)
     c.span_of-s.ensures.found c.span_of-t.ensures.found
     ∙ ap₂
-    (surface_of a.p a.q a.uk.now a.vk.now a.n a.points.now a.rational a.weights.now (searched a.p a.m a.uk.now (clamped a.p a.m a.uk.now a.u))
-    (searched a.q a.n a.vk.now (clamped a.q a.n a.vk.now a.v)))
+    (surface_of a.surface.u_degree a.surface.v_degree a.surface.u_knots.now a.surface.v_knots.now a.surface.v_count a.surface.points.now a.surface.rational a.surface.weights.now (searched a.surface.u_degree a.surface.u_count a.surface.u_knots.now (clamped a.surface.u_degree a.surface.u_count a.surface.u_knots.now a.u))
+    (searched a.surface.v_degree a.surface.v_count a.surface.v_knots.now (clamped a.surface.v_degree a.surface.v_count a.surface.v_knots.now a.v)))
     c.clamp-x.ensures c.clamp-y.ensures)

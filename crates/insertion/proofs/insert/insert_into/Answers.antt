@@ -15,7 +15,7 @@ pub returns-in_err-lay_curve : goal.returns-in_err-lay_curve
 returns-in_err-lay_curve c = let a = c.args in
     let pr = c.requires in
     let l = c.in_err-lay_curve.ensures in
-    let no = given-laid a.degree a.knots.now a.points.now a.rational a.weights.now a.inserted.now a.work.now pr.valid_curve pr.degree_in_bounds_2 _ _ l.value l.work_after in
+    let no = given-laid a.curve.degree a.curve.knots.now a.curve.points.now a.curve.rational a.curve.weights.now a.inserted.now a.work.now pr.valid_curve pr.degree_in_bounds_2 _ _ l.value l.work_after in
     cc
 
 pub insert_all-requires : goal.insert_all-requires
@@ -25,7 +25,7 @@ insert_all-requires c = let a = c.args in
     let w = c.work-1.given in
     let l = c.in_ok-lay_curve.ensures in
     record {
-      valid_knots = given-valid a.degree a.knots.now a.points.now a.rational a.weights.now a.inserted.now a.work.now pr.valid_curve pr.degree_in_bounds_2 _ _ l.value l.work_after;
+      valid_knots = given-valid a.curve.degree a.curve.knots.now a.curve.points.now a.curve.rational a.curve.weights.now a.inserted.now a.work.now pr.valid_curve pr.degree_in_bounds_2 _ _ l.value l.work_after;
       inserted_bound = (omega arith, omega arith);
     }
 
@@ -37,9 +37,9 @@ returns-in_err-insert_all c = let p = err_from_is_err_and c.from_residual-in_err
     rw
     (p.1, p.2)
     (out-refused
-    ((length a.points.now / 3 + length a.inserted.now) * 4) a.degree (length a.points.now / 3 + length a.inserted.now) a.rational _ _ (length a.out_knots.now)
+    ((length a.curve.points.now / 3 + length a.inserted.now) * 4) a.curve.degree (length a.curve.points.now / 3 + length a.inserted.now) a.curve.rational _ _ (length a.out_knots.now)
     (length a.out_points.now) (length a.out_weights.now) _ _ _ _ _ _
-    (given-goal a.degree a.knots.now a.points.now a.rational a.weights.now a.inserted.now a.work.now pr.valid_curve pr.degree_in_bounds_2 _ _ l.value l.work_after)
+    (given-goal a.curve.degree a.curve.knots.now a.curve.points.now a.curve.rational a.curve.weights.now a.inserted.now a.work.now pr.valid_curve pr.degree_in_bounds_2 _ _ l.value l.work_after)
     c.in_err-insert_all.ensures)
 
 pub returns : goal.returns
@@ -47,13 +47,13 @@ returns c = let a = c.args in
     let pr = c.requires in
     let l = c.in_ok-lay_curve.ensures in
     let t = c.take_curve.ensures in
-    let m = length a.points.now / 3 + length a.inserted.now in
+    let m = length a.curve.points.now / 3 + length a.inserted.now in
     let q = pr.degree_in_bounds_2 in
     let x = pr.degree_in_bounds in
     let long = c.work-2-1.given ∙ c.work-1.given in
-    let n = take_none a.degree m 0 a.rational (m * 4) _ (length a.out_knots.now) (length a.out_points.now) (length a.out_weights.now) (omega arith) (omega arith) (omega arith) pr.inserted_in_bounds pr.inserted_in_bounds_2 in
+    let n = take_none a.curve.degree m 0 a.curve.rational (m * 4) _ (length a.out_knots.now) (length a.out_points.now) (length a.out_weights.now) (omega arith) (omega arith) (omega arith) pr.inserted_in_bounds pr.inserted_in_bounds_2 in
     out-formed
-    (m * 4) a.degree m a.rational _ _ (length a.out_knots.now) (length a.out_points.now) (length a.out_weights.now) _ _ _ _ _
-    (given-goal a.degree a.knots.now a.points.now a.rational a.weights.now a.inserted.now a.work.now pr.valid_curve pr.degree_in_bounds_2 _ _ l.value l.work_after)
+    (m * 4) a.curve.degree m a.curve.rational _ _ (length a.out_knots.now) (length a.out_points.now) (length a.out_weights.now) _ _ _ _ _
+    (given-goal a.curve.degree a.curve.knots.now a.curve.points.now a.curve.rational a.curve.weights.now a.inserted.now a.work.now pr.valid_curve pr.degree_in_bounds_2 _ _ l.value l.work_after)
     c.in_ok-insert_all.ensures
     (t.knots_after ∙ left-padded _ _ _ n) (t.points_after ∙ left-padded _ _ _ n) (t.weights_after ∙ left-padded _ _ _ n) _ (t.value ∙ checked-none _ n)

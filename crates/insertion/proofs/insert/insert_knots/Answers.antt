@@ -19,7 +19,7 @@ pub insert_into-late-requires : goal.insert_into-late-requires
 insert_into-late-requires c = let a = c.args in
     let o =
     start-open
-    a.degree a.knots.now a.points.now a.rational a.weights.now a.inserted.now (length a.out_knots.now) (length a.out_points.now) (length a.out_weights.now)
+    a.curve.degree a.curve.knots.now a.curve.points.now a.curve.rational a.curve.weights.now a.inserted.now (length a.out_knots.now) (length a.out_points.now) (length a.out_weights.now)
     (length a.scratch.now) (let_by _ c.in_default.ensures) in
     let h = o.out.knots in
     let i = o.out.points in
@@ -45,7 +45,7 @@ pub overflow_add-count : goal.overflow_add-count
 overflow_add-count c = let a = c.args in
     let o =
     start-open
-    a.degree a.knots.now a.points.now a.rational a.weights.now a.inserted.now (length a.out_knots.now) (length a.out_points.now) (length a.out_weights.now)
+    a.curve.degree a.curve.knots.now a.curve.points.now a.curve.rational a.curve.weights.now a.inserted.now (length a.out_knots.now) (length a.out_points.now) (length a.out_weights.now)
     (length a.scratch.now) (let_by _ c.in_default.ensures) in
     let f = o.few in
     let s = o.curve.short.points in

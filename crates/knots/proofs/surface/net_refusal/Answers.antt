@@ -13,14 +13,14 @@ pub returns-then-any_long : goal.returns-then-any_long
 unfolding net_refusal checked
 returns-then-any_long c = simp (sym c.over_long.ensures ∙ c.if-over_long.false, sym c.any_long.ensures ∙ c.if-any_long.true) (ap Err c.refuse-then-any_long.ensures)
 
-pub returns-then-points-ne0 : goal.returns-then-points-ne0
+pub returns-then-surface-ne0 : goal.returns-then-surface-ne0
 unfolding net_refusal checked
-returns-then-points-ne0 c = simp (sym c.over_long.ensures ∙ c.if-over_long.false, sym c.any_long.ensures ∙ c.if-any_long.false, ne_eqb _ _ c.if-points-ne0.true) (ap Err c.refuse-then-points-ne0.ensures)
+returns-then-surface-ne0 c = simp (sym c.over_long.ensures ∙ c.if-over_long.false, sym c.any_long.ensures ∙ c.if-any_long.false, ne_eqb _ _ c.if-surface-ne0.true) (ap Err c.refuse-then-surface-ne0.ensures)
 
 pub returns-then-not-is_product : goal.returns-then-not-is_product
 unfolding net_refusal checked
-returns-then-not-is_product c = simp (sym c.over_long.ensures ∙ c.if-over_long.false, sym c.any_long.ensures ∙ c.if-any_long.false, eq-eqb _ _ c.if-points-ne0.false, sym c.is_product.ensures ∙ c.if-not-is_product.true) (ap Err c.refuse-then-not-is_product.ensures)
+returns-then-not-is_product c = simp (sym c.over_long.ensures ∙ c.if-over_long.false, sym c.any_long.ensures ∙ c.if-any_long.false, eq-eqb _ _ c.if-surface-ne0.false, sym c.is_product.ensures ∙ c.if-not-is_product.true) (ap Err c.refuse-then-not-is_product.ensures)
 
 pub returns : goal.returns
 unfolding net_refusal checked
-returns c = simp (sym c.over_long.ensures ∙ c.if-over_long.false, sym c.any_long.ensures ∙ c.if-any_long.false, eq-eqb _ _ c.if-points-ne0.false, sym c.is_product.ensures ∙ c.if-not-is_product.false)
+returns c = simp (sym c.over_long.ensures ∙ c.if-over_long.false, sym c.any_long.ensures ∙ c.if-any_long.false, eq-eqb _ _ c.if-surface-ne0.false, sym c.is_product.ensures ∙ c.if-not-is_product.false)

@@ -17,17 +17,17 @@ pub returns-in-Some : goal.returns-in-Some
 unfolding box_of
 returns-in-Some c = let all = let a = c.args in
     let s = c.in-Some.field-0.span in
-    let text : Float → Float → List ℕ = λ lower upper. box_line a.speeds s lower upper (bound_at a.degree s a.knots.now a.points.now a.rational a.weights.now lower upper) in
+    let text : Float → Float → List ℕ = λ lower upper. box_line a.speeds s lower upper (bound_at a.curve.degree s a.curve.knots.now a.curve.points.now a.curve.rational a.curve.weights.now lower upper) in
     let shown = rw c.bound_span-answer.ensures.value at c.box_line-length.ensures in
-    next-shown (box_of a.speeds a.degree a.knots.now a.points.now a.rational a.weights.now) a.knots.now
-    (next_span a.degree (count_of a.points.now) a.knots.now a.«from») 2304 text
+    next-shown (box_of a.speeds a.curve.degree a.curve.knots.now a.curve.points.now a.curve.rational a.curve.weights.now) a.curve.knots.now
+    (next_span a.curve.degree (count_of a.curve.points.now) a.curve.knots.now a.«from») 2304 text
     (sym c.in-Some.is ∙ c.next_range.ensures) refl shown in
     record { value = all.0; shown = all.1 }
 
 pub returns-in-None : goal.returns-in-None
 returns-in-None c = let all = let a = c.args in
     let long : length a.out.now ≡ 2304 = search rules in
-    end-shown (box_of a.speeds a.degree a.knots.now a.points.now a.rational a.weights.now) a.knots.now
-    (next_span a.degree (count_of a.points.now) a.knots.now a.«from») 2304
+    end-shown (box_of a.speeds a.curve.degree a.curve.knots.now a.curve.points.now a.curve.rational a.curve.weights.now) a.curve.knots.now
+    (next_span a.curve.degree (count_of a.curve.points.now) a.curve.knots.now a.«from») 2304
     (sym c.in-None.is ∙ c.next_range.ensures) c.clear_bytes.ensures long in
     record { value = all.0; shown = all.1 }

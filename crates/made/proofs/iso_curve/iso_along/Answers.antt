@@ -33,9 +33,9 @@ iso_fill-good-requires c = let a = c.args in
       p_bound = q.degree_bound;
       p_bound_2 = omega arith;
       by_index = strip-in
-          a.points.now a.rational a.weights.now a.held.constant_u a.held.columns (length a.points.now / 3) a.held.degree
+          a.surface.points.now a.surface.rational a.surface.weights.now a.held.constant_u a.held.columns (length a.surface.points.now / 3) a.held.degree
           c.span_of-span.result a.held.count a.held.other_count f b q.by_index;
-      iso_reach = (λ e. strip-in a.points.now a.rational a.weights.now a.held.constant_u a.held.columns (length a.weights.now) a.held.degree
+      iso_reach = (λ e. strip-in a.surface.points.now a.surface.rational a.surface.weights.now a.held.constant_u a.held.columns (length a.surface.weights.now) a.held.degree
           c.span_of-span.result a.held.count a.held.other_count f b (q.k_in_bounds e));
       count_in_bounds = q.other_count_in_bounds;
       count_in_bounds_2 = q.other_count_in_bounds_2;
@@ -58,7 +58,7 @@ returns-then-not-good c = let d = c.span_of-span in
     along-stopped
     _ _ (side_from a.held.degree a.held.count a.fixed.now a.held.other_degree a.held.other_count a.other.now) a.out_points.now a.out_weights.now _ _ _
     (hull-is
-    a.points.now a.rational a.weights.now a.held.constant_u a.held.columns
+    a.surface.points.now a.surface.rational a.surface.weights.now a.held.constant_u a.held.columns
     (side_from a.held.degree a.held.count a.fixed.now a.held.other_degree a.held.other_count a.other.now) a.held.t
     d.result s.1 reach _
     c.basis_derivatives.ensures)
@@ -106,7 +106,7 @@ returns c = let d = c.span_of-span in
     along-formed
     _ _ (side_from a.held.degree a.held.count a.fixed.now a.held.other_degree a.held.other_count a.other.now) a.out_points.now a.out_weights.now _ _ _
     (hull-is
-    a.points.now a.rational a.weights.now a.held.constant_u a.held.columns
+    a.surface.points.now a.surface.rational a.surface.weights.now a.held.constant_u a.held.columns
     (side_from a.held.degree a.held.count a.fixed.now a.held.other_degree a.held.other_count a.other.now) a.held.t
     d.result s.1 reach _
     c.basis_derivatives.ensures)

@@ -13,7 +13,7 @@ pub returns-in_err-iso_start : goal.returns-in_err-iso_start
 returns-in_err-iso_start c = let a = c.args in
     let p = err_from_is_err_and c.from_residual.result c.from_residual.ensures.1 in rw (p.1, p.2)
     (iso-refused
-    a.u_degree a.v_degree a.u_knots.now a.v_knots.now a.u_count a.v_count a.points.now a.rational a.weights.now a.t (length a.out_points.now)
+    a.surface.u_degree a.surface.v_degree a.surface.u_knots.now a.surface.v_knots.now a.surface.u_count a.surface.v_count a.surface.points.now a.surface.rational a.surface.weights.now a.t (length a.out_points.now)
     (length a.out_weights.now) a.constant_u c.in_err-iso_start.ensures _ _ c.clear_two.ensures.0 c.clear_two.ensures.1)
 
 pub iso_into-formed-requires : goal.iso_into-formed-requires
@@ -21,10 +21,10 @@ iso_into-formed-requires c = let b = c.clear_two in
     let a = c.args in
     let x = cleared-length _ (length a.out_points.now) b.ensures.0 in
     let y = cleared-length _ (length a.out_weights.now) b.ensures.1 in
-    let m : (iso_start a.u_degree a.v_degree a.u_knots.now a.v_knots.now a.u_count a.v_count a.points.now a.rational a.weights.now a.constant_u
+    let m : (iso_start a.surface.u_degree a.surface.v_degree a.surface.u_knots.now a.surface.v_knots.now a.surface.u_count a.surface.v_count a.surface.points.now a.surface.rational a.surface.weights.now a.constant_u
     a.t (length b.new.x) (length b.new.y)).number ≡ 0 =
     ap₂
-    (λ (i j : ℕ). (iso_start a.u_degree a.v_degree a.u_knots.now a.v_knots.now a.u_count a.v_count a.points.now a.rational a.weights.now a.constant_u
+    (λ (i j : ℕ). (iso_start a.surface.u_degree a.surface.v_degree a.surface.u_knots.now a.surface.v_knots.now a.surface.u_count a.surface.v_count a.surface.points.now a.surface.rational a.surface.weights.now a.constant_u
     a.t i j).number)
     x y
     ∙ let_by _ c.in_ok-iso_start.ensures in
@@ -40,11 +40,11 @@ returns-then-is_err c = let a = c.args in
     let y = cleared-length _ (length a.out_weights.now) c.clear_two.ensures.1 in
     let k = c.clear_two-then-is_err.ensures in
     iso-unformed
-    a.u_degree a.v_degree a.u_knots.now a.v_knots.now a.u_count a.v_count a.points.now a.rational a.weights.now a.t (length a.out_points.now)
+    a.surface.u_degree a.surface.v_degree a.surface.u_knots.now a.surface.v_knots.now a.surface.u_count a.surface.v_count a.surface.points.now a.surface.rational a.surface.weights.now a.t (length a.out_points.now)
     (length a.out_weights.now) a.constant_u (let_by _ c.in_ok-iso_start.ensures) _ _ _
     (along-resized
-    (iso_hull a.u_degree a.v_degree a.u_knots.now a.v_knots.now a.u_count a.v_count a.points.now a.rational a.weights.now a.constant_u a.t)
-    (iso_side a.u_degree a.v_degree a.u_knots.now a.v_knots.now a.u_count a.v_count a.points.now a.rational a.weights.now a.constant_u a.t)
+    (iso_hull a.surface.u_degree a.surface.v_degree a.surface.u_knots.now a.surface.v_knots.now a.surface.u_count a.surface.v_count a.surface.points.now a.surface.rational a.surface.weights.now a.constant_u a.t)
+    (iso_side a.surface.u_degree a.surface.v_degree a.surface.u_knots.now a.surface.v_knots.now a.surface.u_count a.surface.v_count a.surface.points.now a.surface.rational a.surface.weights.now a.constant_u a.t)
     (length a.out_points.now) (length a.out_weights.now) _ _ _ _ _ x y c.iso_into-formed.ensures)
     (sym c.is_err.ensures.value ∙ c.if-is_err.true) _ _
     (k.0 ∙ ap zeros (c.out_points-2-1.given ∙ x))
@@ -55,10 +55,10 @@ returns-else-is_err c = let a = c.args in
     let x = cleared-length _ (length a.out_points.now) c.clear_two.ensures.0 in
     let y = cleared-length _ (length a.out_weights.now) c.clear_two.ensures.1 in
     iso-answered
-    a.u_degree a.v_degree a.u_knots.now a.v_knots.now a.u_count a.v_count a.points.now a.rational a.weights.now a.t (length a.out_points.now)
+    a.surface.u_degree a.surface.v_degree a.surface.u_knots.now a.surface.v_knots.now a.surface.u_count a.surface.v_count a.surface.points.now a.surface.rational a.surface.weights.now a.t (length a.out_points.now)
     (length a.out_weights.now) a.constant_u (let_by _ c.in_ok-iso_start.ensures) _ _ _
     (along-resized
-    (iso_hull a.u_degree a.v_degree a.u_knots.now a.v_knots.now a.u_count a.v_count a.points.now a.rational a.weights.now a.constant_u a.t)
-    (iso_side a.u_degree a.v_degree a.u_knots.now a.v_knots.now a.u_count a.v_count a.points.now a.rational a.weights.now a.constant_u a.t)
+    (iso_hull a.surface.u_degree a.surface.v_degree a.surface.u_knots.now a.surface.v_knots.now a.surface.u_count a.surface.v_count a.surface.points.now a.surface.rational a.surface.weights.now a.constant_u a.t)
+    (iso_side a.surface.u_degree a.surface.v_degree a.surface.u_knots.now a.surface.v_knots.now a.surface.u_count a.surface.v_count a.surface.points.now a.surface.rational a.surface.weights.now a.constant_u a.t)
     (length a.out_points.now) (length a.out_weights.now) _ _ _ _ _ x y c.iso_into-formed.ensures)
     (sym c.is_err.ensures.value ∙ c.if-is_err.false)

@@ -11,11 +11,11 @@ iso_along-requires c = let a = c.args in
     let q = c.requires in
     let o =
     subst
-    (λ (x : Bool). HeldOpen a.form.u_degree a.form.v_degree a.us.now a.vs.now a.form.u_count a.form.v_count a.points.now a.form.rational
-    a.weights.now x a.t (length a.out_points.now) (length a.out_weights.now))
+    (λ (x : Bool). HeldOpen a.surface.u_degree a.surface.v_degree a.surface.u_knots.now a.surface.v_knots.now a.surface.u_count a.surface.v_count a.surface.points.now a.surface.rational
+    a.surface.weights.now x a.t (length a.out_points.now) (length a.out_weights.now))
     c.if-constant_u.true
     (held-open
-    a.form.u_degree a.form.v_degree a.us.now a.vs.now a.form.u_count a.form.v_count a.points.now a.form.rational a.weights.now a.t
+    a.surface.u_degree a.surface.v_degree a.surface.u_knots.now a.surface.v_knots.now a.surface.u_count a.surface.v_count a.surface.points.now a.surface.rational a.surface.weights.now a.t
     (length a.out_points.now) (length a.out_weights.now) a.constant_u q.out_weights_value)
     in
     record {
@@ -34,7 +34,7 @@ iso_along-requires c = let a = c.args in
 pub returns-then-constant_u : goal.returns-then-constant_u
 returns-then-constant_u c = let a = c.args in
     chosen
-    a.form.u_degree a.form.v_degree a.us.now a.vs.now a.form.u_count a.form.v_count a.points.now a.form.rational a.weights.now a.t
+    a.surface.u_degree a.surface.v_degree a.surface.u_knots.now a.surface.v_knots.now a.surface.u_count a.surface.v_count a.surface.points.now a.surface.rational a.surface.weights.now a.t
     (length a.out_points.now) (length a.out_weights.now) a.constant_u true c.if-constant_u.true _ _ _
     c.iso_along.ensures
 
@@ -43,11 +43,11 @@ iso_along-requires-2 c = let a = c.args in
     let q = c.requires in
     let o =
     subst
-    (λ (x : Bool). HeldOpen a.form.u_degree a.form.v_degree a.us.now a.vs.now a.form.u_count a.form.v_count a.points.now a.form.rational
-    a.weights.now x a.t (length a.out_points.now) (length a.out_weights.now))
+    (λ (x : Bool). HeldOpen a.surface.u_degree a.surface.v_degree a.surface.u_knots.now a.surface.v_knots.now a.surface.u_count a.surface.v_count a.surface.points.now a.surface.rational
+    a.surface.weights.now x a.t (length a.out_points.now) (length a.out_weights.now))
     c.if-constant_u.false
     (held-open
-    a.form.u_degree a.form.v_degree a.us.now a.vs.now a.form.u_count a.form.v_count a.points.now a.form.rational a.weights.now a.t
+    a.surface.u_degree a.surface.v_degree a.surface.u_knots.now a.surface.v_knots.now a.surface.u_count a.surface.v_count a.surface.points.now a.surface.rational a.surface.weights.now a.t
     (length a.out_points.now) (length a.out_weights.now) a.constant_u q.out_weights_value)
     in
     record {
@@ -66,6 +66,6 @@ iso_along-requires-2 c = let a = c.args in
 pub returns : goal.returns
 returns c = let a = c.args in
     chosen
-    a.form.u_degree a.form.v_degree a.us.now a.vs.now a.form.u_count a.form.v_count a.points.now a.form.rational a.weights.now a.t
+    a.surface.u_degree a.surface.v_degree a.surface.u_knots.now a.surface.v_knots.now a.surface.u_count a.surface.v_count a.surface.points.now a.surface.rational a.surface.weights.now a.t
     (length a.out_points.now) (length a.out_weights.now) a.constant_u false c.if-constant_u.false _ _ _
     c.iso_along-2.ensures

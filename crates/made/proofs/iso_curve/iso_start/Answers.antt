@@ -21,9 +21,9 @@ pub along_start-requires : goal.along_start-requires
 along_start-requires c = let a = c.args in
     let s =
     valid-surface
-    a.form.u_degree a.form.v_degree a.u_knots.now a.v_knots.now a.form.u_count a.form.v_count a.points.now a.form.rational a.weights.now
+    a.surface.u_degree a.surface.v_degree a.surface.u_knots.now a.surface.v_knots.now a.surface.u_count a.surface.v_count a.surface.points.now a.surface.rational a.surface.weights.now
     (let_by _ c.in_ok-surface_refusal.ensures) in
-    few-v a.form.u_degree a.form.v_degree a.u_knots.now a.v_knots.now a.form.u_count a.form.v_count a.points.now a.form.rational a.weights.now s
+    few-v a.surface.u_degree a.surface.v_degree a.surface.u_knots.now a.surface.v_knots.now a.surface.u_count a.surface.v_count a.surface.points.now a.surface.rational a.surface.weights.now s
 
 pub returns-then-constant_u : goal.returns-then-constant_u
 unfolding iso_start
@@ -33,9 +33,9 @@ pub along_start-requires-2 : goal.along_start-requires-2
 along_start-requires-2 c = let a = c.args in
     let s =
     valid-surface
-    a.form.u_degree a.form.v_degree a.u_knots.now a.v_knots.now a.form.u_count a.form.v_count a.points.now a.form.rational a.weights.now
+    a.surface.u_degree a.surface.v_degree a.surface.u_knots.now a.surface.v_knots.now a.surface.u_count a.surface.v_count a.surface.points.now a.surface.rational a.surface.weights.now
     (let_by _ c.in_ok-surface_refusal.ensures) in
-    few-u a.form.u_degree a.form.v_degree a.u_knots.now a.v_knots.now a.form.u_count a.form.v_count a.points.now a.form.rational a.weights.now s
+    few-u a.surface.u_degree a.surface.v_degree a.surface.u_knots.now a.surface.v_knots.now a.surface.u_count a.surface.v_count a.surface.points.now a.surface.rational a.surface.weights.now s
 
 pub returns : goal.returns
 unfolding iso_start

@@ -27,7 +27,7 @@ run_back-requires-2 c = let q = c.requires in
 pub run_back-requires-3 : goal.run_back-requires-3
 run_back-requires-3 c = let a = c.args in
     let n = c.given_len-w.ensures in
-    let h = given-in a.rational a.weights.now in
+    let h = given-in a.curve.rational a.curve.weights.now in
     let q = c.requires.weights_in_bounds in
     record {
       n_in_bounds = omega arith;
@@ -51,7 +51,7 @@ unfolding back_place back_number
 returns c = let a = c.args in
     let q = c.requires in
     formed-is
-    a.degree a.knots.now a.points.now a.rational a.weights.now a.out_knots.now a.out_points.now a.out_weights.now _ _ _ q.out_knots_value q.out_points_value q.out_weights_value
+    a.curve.degree a.curve.knots.now a.curve.points.now a.curve.rational a.curve.weights.now a.out_knots.now a.out_points.now a.out_weights.now _ _ _ q.out_knots_value q.out_points_value q.out_weights_value
     c.run_back.ensures
     c.run_back-2.ensures _
     c.given_len-w.ensures

@@ -12,14 +12,14 @@ pub returns-in_err-reverse_start : goal.returns-in_err-reverse_start
 returns-in_err-reverse_start c = let a = c.args in
     let p = err_from_is_err_and c.from_residual.result c.from_residual.ensures.1 in rw (p.1, p.2)
     (reverse-refused
-    a.degree a.knots.now a.points.now a.rational a.weights.now (length a.out_knots.now) (length a.out_points.now) (length a.out_weights.now)
+    a.curve.degree a.curve.knots.now a.curve.points.now a.curve.rational a.curve.weights.now (length a.out_knots.now) (length a.out_points.now) (length a.out_weights.now)
     c.in_err-reverse_start.ensures _ _ _ c.clear_three.ensures.0 c.clear_three.ensures.1 c.clear_three.ensures.2)
 
 pub reverse_into-formed-requires : goal.reverse_into-formed-requires
 reverse_into-formed-requires c = let b = c.clear_three in
     let a = c.args in
     let o =
-    start-open a.degree a.knots.now a.points.now a.rational a.weights.now (length a.out_knots.now) (length a.out_points.now) (length a.out_weights.now)
+    start-open a.curve.degree a.curve.knots.now a.curve.points.now a.curve.rational a.curve.weights.now (length a.out_knots.now) (length a.out_points.now) (length a.out_weights.now)
     (let_by _ c.in_ok-reverse_start.ensures) in
     let x = cleared-length _ (length a.out_knots.now) b.ensures.0 in
     let y = cleared-length _ (length a.out_points.now) b.ensures.1 in
@@ -44,10 +44,10 @@ returns-then-is_err c = let a = c.args in
     let z = cleared-length _ (length a.out_weights.now) c.clear_three.ensures.2 in
     let k = c.clear_three-then-is_err.ensures in
     reverse-unformed
-    a.degree a.knots.now a.points.now a.rational a.weights.now (length a.out_knots.now) (length a.out_points.now) (length a.out_weights.now)
+    a.curve.degree a.curve.knots.now a.curve.points.now a.curve.rational a.curve.weights.now (length a.out_knots.now) (length a.out_points.now) (length a.out_weights.now)
     (let_by _ c.in_ok-reverse_start.ensures) _ _ _ _
     (resized
-    a.degree a.knots.now a.points.now a.rational a.weights.now (length a.out_knots.now) (length a.out_points.now) (length a.out_weights.now) _ _ _ _ _ _ _ x y z
+    a.curve.degree a.curve.knots.now a.curve.points.now a.curve.rational a.curve.weights.now (length a.out_knots.now) (length a.out_points.now) (length a.out_weights.now) _ _ _ _ _ _ _ x y z
     c.reverse_into-formed.ensures)
     (sym c.is_err.ensures.value ∙ c.if-is_err.true) _ _ _
     (k.0 ∙ ap zeros (c.out_knots-2-1.given ∙ x))
@@ -60,9 +60,9 @@ returns-else-is_err c = let a = c.args in
     let y = cleared-length _ (length a.out_points.now) c.clear_three.ensures.1 in
     let z = cleared-length _ (length a.out_weights.now) c.clear_three.ensures.2 in
     reverse-answered
-    a.degree a.knots.now a.points.now a.rational a.weights.now (length a.out_knots.now) (length a.out_points.now) (length a.out_weights.now)
+    a.curve.degree a.curve.knots.now a.curve.points.now a.curve.rational a.curve.weights.now (length a.out_knots.now) (length a.out_points.now) (length a.out_weights.now)
     (let_by _ c.in_ok-reverse_start.ensures) _ _ _ _
     (resized
-    a.degree a.knots.now a.points.now a.rational a.weights.now (length a.out_knots.now) (length a.out_points.now) (length a.out_weights.now) _ _ _ _ _ _ _ x y z
+    a.curve.degree a.curve.knots.now a.curve.points.now a.curve.rational a.curve.weights.now (length a.out_knots.now) (length a.out_points.now) (length a.out_weights.now) _ _ _ _ _ _ _ x y z
     c.reverse_into-formed.ensures)
     (sym c.is_err.ensures.value ∙ c.if-is_err.false)

@@ -5,5 +5,5 @@ use Rattle.many.proofs.boxes.bound_spans.Goals as goal
 
 pub returns : goal.returns
 returns c = let all = let a = c.args in
-    spans-promised a.degree a.knots.now a.points.now a.rational a.weights.now _ _ _ _ _ (spans-meet a.degree a.knots.now a.points.now a.rational a.weights.now _ _ _ _ _ c.bound_all.ensures) in
+    spans-promised a.curve.degree a.curve.knots.now a.curve.points.now a.curve.rational a.curve.weights.now _ _ _ _ _ (spans-meet a.curve.degree a.curve.knots.now a.curve.points.now a.curve.rational a.curve.weights.now _ _ _ _ _ c.bound_all.ensures) in
     record { spans_meet = all.0; rows_hold = all.1 }

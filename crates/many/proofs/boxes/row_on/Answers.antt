@@ -10,10 +10,10 @@ pub returns-then-alone : goal.returns-then-alone
 returns-then-alone c = let a = c.args in
     c.point_row_of.ensures
     ∙ (ap point_box_row c.point_span.ensures.value
-    ∙ ap (λ (d : Bool). row_by d (bound_at a.degree a.s a.knots.now a.points.now a.rational a.weights.now a.lo a.hi)) (sym c.if-alone.true))
+    ∙ ap (λ (d : Bool). row_by d (bound_at a.curve.degree a.s a.curve.knots.now a.curve.points.now a.curve.rational a.curve.weights.now a.lo a.hi)) (sym c.if-alone.true))
 
 pub returns : goal.returns
 returns c = let a = c.args in
     c.row_of.ensures
     ∙ (ap box_row c.bound_span.ensures.value
-    ∙ ap (λ (d : Bool). row_by d (bound_at a.degree a.s a.knots.now a.points.now a.rational a.weights.now a.lo a.hi)) (sym c.if-alone.false))
+    ∙ ap (λ (d : Bool). row_by d (bound_at a.curve.degree a.s a.curve.knots.now a.curve.points.now a.curve.rational a.curve.weights.now a.lo a.hi)) (sym c.if-alone.false))

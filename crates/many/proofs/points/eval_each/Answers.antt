@@ -12,19 +12,19 @@ use Rattle.many.proofs.points.eval_each.Goals as goal
 pub loop-i-init : goal.loop-i-init
 loop-i-init c = let a = c.args in
     each_start
-    (number_at a.clamps a.degree a.knots.now a.points.now a.rational a.weights.now a.two) (λ t. refl)
-    (numbers_at a.clamps a.degree a.knots.now a.points.now a.rational a.weights.now a.two) (width a.two)
-    (λ t. (row-says a.clamps a.degree a.knots.now a.points.now a.rational a.weights.now a.two t).count) a.ts.now a.numbers.now a.rows.now
+    (number_at a.clamps a.curve.degree a.curve.knots.now a.curve.points.now a.curve.rational a.curve.weights.now a.two) (λ t. refl)
+    (numbers_at a.clamps a.curve.degree a.curve.knots.now a.curve.points.now a.curve.rational a.curve.weights.now a.two) (width a.two)
+    (λ t. (row-says a.clamps a.curve.degree a.curve.knots.now a.curve.points.now a.curve.rational a.curve.weights.now a.two t).count) a.ts.now a.numbers.now a.rows.now
 
 pub loop-i-preserved : goal.loop-i-preserved
 loop-i-preserved c = let l = c.loop-i in
     let q = c.requires in
     let a = c.args in
-    let s = row-says a.clamps a.degree a.knots.now a.points.now a.rational a.weights.now a.two (at a.ts.now l.i) in
+    let s = row-says a.clamps a.curve.degree a.curve.knots.now a.curve.points.now a.curve.rational a.curve.weights.now a.two (at a.ts.now l.i) in
     each_more
-    (number_at a.clamps a.degree a.knots.now a.points.now a.rational a.weights.now a.two) (λ t. refl)
-    (numbers_at a.clamps a.degree a.knots.now a.points.now a.rational a.weights.now a.two) (width a.two)
-    (λ t. (row-says a.clamps a.degree a.knots.now a.points.now a.rational a.weights.now a.two t).count) a.ts.now a.numbers.now a.rows.now q.ts_in_bounds q.two_in_bounds
+    (number_at a.clamps a.curve.degree a.curve.knots.now a.curve.points.now a.curve.rational a.curve.weights.now a.two) (λ t. refl)
+    (numbers_at a.clamps a.curve.degree a.curve.knots.now a.curve.points.now a.curve.rational a.curve.weights.now a.two) (width a.two)
+    (λ t. (row-says a.clamps a.curve.degree a.curve.knots.now a.curve.points.now a.curve.rational a.curve.weights.now a.two t).count) a.ts.now a.numbers.now a.rows.now q.ts_in_bounds q.two_in_bounds
     l.numbers l.rows l.i l.invariant c.loop-i-test.true _ _ _ _
     (ap (λ (x : PointRow). x.number ∷ []) c.row_at-row.ensures ∙ s.number)
     (ap (numbers_of a.two) c.row_at-row.ensures ∙ s.numbers) c.put_row.ensures.numbers_after

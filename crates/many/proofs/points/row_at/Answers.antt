@@ -12,7 +12,7 @@ returns-then-two c = let a = c.args in
     (c.row2_of.ensures
     ∙ ap
     point_row2
-    (c.eval2_step.ensures ∙ valid-answered2 a.clamps a.degree a.knots.now a.points.now a.rational a.weights.now c.requires a.t))
+    (c.eval2_step.ensures ∙ valid-answered2 a.clamps a.curve.degree a.curve.knots.now a.curve.points.now a.curve.rational a.curve.weights.now c.requires a.t))
 
 pub returns : goal.returns
 returns c = let a = c.args in
@@ -21,4 +21,4 @@ returns c = let a = c.args in
     (c.row_of.ensures
     ∙ ap
     point_row
-    (c.eval_step.ensures ∙ valid-answered a.clamps a.degree a.knots.now a.points.now a.rational a.weights.now c.requires a.t))
+    (c.eval_step.ensures ∙ valid-answered a.clamps a.curve.degree a.curve.knots.now a.curve.points.now a.curve.rational a.curve.weights.now c.requires a.t))

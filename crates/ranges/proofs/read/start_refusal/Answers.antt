@@ -19,10 +19,10 @@ returns-in_err-curve_shape c = let p = err_from_is_err_and c.from_residual.resul
 
 pub place_refusal-requires : goal.place_refusal-requires
 place_refusal-requires c = let a = c.args in
-    let k = shaped a.degree a.knots.now a.points.now a.rational a.weights.now (let_by _ c.in_ok-curve_shape.ensures) in
+    let k = shaped a.curve.degree a.curve.knots.now a.curve.points.now a.curve.rational a.curve.weights.now (let_by _ c.in_ok-curve_shape.ensures) in
     record {
       knots_len = k.knots.long;
-      points_len_bound = (short a.knots.now a.points.now a.rational a.weights.now
+      points_len_bound = (short a.curve.knots.now a.curve.points.now a.curve.rational a.curve.weights.now
           (sym c.any_long.ensures ∙ c.if-any_long.false)).points;
       weights_len = k.weights;
     }

@@ -21,7 +21,7 @@ returns-in_err-lay_curve c = let a = c.args in
     let q = c.requires in
     let no =
     laid_none
-    a.a a.degree a.knots.now a.points.now a.rational a.weights.now q.valid_curve a.lo a.hi a.work.now q.hi_bound.0 q.hi_bound.1 _
+    a.a a.curve.degree a.curve.knots.now a.curve.points.now a.curve.rational a.curve.weights.now q.valid_curve a.lo a.hi a.work.now q.hi_bound.0 q.hi_bound.1 _
     c.in_err-lay_curve.ensures.value in
     record { value = cc; work_after = cc }
 
@@ -32,7 +32,7 @@ returns-in_err-insert_times c = let p = err_from_is_err_and c.from_residual-in_e
     let t = c.in_err-insert_times.ensures in
     let all =
     first-refused
-    a.a a.degree a.knots.now a.points.now a.rational a.weights.now q.valid_curve a.lo a.hi a.work.now q.hi_bound.0 q.hi_bound.1 _ _ _
+    a.a a.curve.degree a.curve.knots.now a.curve.points.now a.curve.rational a.curve.weights.now q.valid_curve a.lo a.hi a.work.now q.hi_bound.0 q.hi_bound.1 _ _ _
     c.in_ok-lay_curve.ensures.work_after _
     c.missing-x.ensures t.value t.work_after _ refl in
     record { value = rw (p.1, p.2) all.0; work_after = all.1 }
@@ -52,7 +52,7 @@ returns c = let a = c.args in
     let t = c.in_ok-insert_times.ensures in
     let all =
     second-done
-    a.a a.degree a.knots.now a.points.now a.rational a.weights.now q.valid_curve a.lo a.hi a.work.now q.hi_bound.0 q.hi_bound.1 _ _ _
+    a.a a.curve.degree a.curve.knots.now a.curve.points.now a.curve.rational a.curve.weights.now q.valid_curve a.lo a.hi a.work.now q.hi_bound.0 q.hi_bound.1 _ _ _
     c.in_ok-lay_curve.ensures.work_after _
     c.missing-x.ensures t.value t.work_after refl _
     c.missing-y.ensures _ _

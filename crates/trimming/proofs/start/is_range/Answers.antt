@@ -1,5 +1,4 @@
 use mathlib.Core.Path.{sym, ◌∙◌}
-use borrow.Author.Tests.{not-true, not-false}
 use Rattle.trimming.specs.Trim.{in_range}
 use Rattle.trimming.proofs.start.is_range.Goals as goal
 

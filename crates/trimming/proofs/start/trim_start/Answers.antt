@@ -13,7 +13,7 @@ returns-in_err-edit_start c = let p = err_from_is_err_and c.from_residual.result
 
 pub range_refusal-requires : goal.range_refusal-requires
 range_refusal-requires c = let a = c.args in
-    let o = (edit-open a.degree a.knots.now a.points.now a.rational a.weights.now (let_by _ c.in_ok-edit_start.ensures)).0 in
+    let o = (edit-open a.curve.degree a.curve.knots.now a.curve.points.now a.curve.rational a.curve.weights.now (let_by _ c.in_ok-edit_start.ensures)).0 in
     record {
       valid_knots = o.knots;
       knots_len_bound = o.short.knots;

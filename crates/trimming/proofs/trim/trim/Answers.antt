@@ -18,11 +18,11 @@ pub trim_into-late-requires : goal.trim_into-late-requires
 trim_into-late-requires c = let a = c.args in
     let o =
     start-open
-    a.degree a.knots.now a.points.now a.rational a.weights.now a.lo a.hi (length a.out_knots.now) (length a.out_points.now) (length a.out_weights.now)
+    a.curve.degree a.curve.knots.now a.curve.points.now a.curve.rational a.curve.weights.now a.lo a.hi (length a.out_knots.now) (length a.out_points.now) (length a.out_weights.now)
     (length a.scratch.now) (let_by _ c.in_default.ensures) in
     record {
       valid_curve = o.curve;
-      lo_bound = range-order a.degree _ a.knots.now o.curve.knots a.lo a.hi o.range;
+      lo_bound = range-order a.curve.degree _ a.curve.knots.now o.curve.knots a.lo a.hi o.range;
       degree_in_bounds = o.out.knots;
       hi_in_bounds = o.out.points;
       hi_in_bounds_2 = o.out.weights;
@@ -41,7 +41,7 @@ pub kept-count-requires : goal.kept-count-requires
 kept-count-requires c = let a = c.args in
     let o =
     start-open
-    a.degree a.knots.now a.points.now a.rational a.weights.now a.lo a.hi (length a.out_knots.now) (length a.out_points.now) (length a.out_weights.now)
+    a.curve.degree a.curve.knots.now a.curve.points.now a.curve.rational a.curve.weights.now a.lo a.hi (length a.out_knots.now) (length a.out_points.now) (length a.out_weights.now)
     (length a.scratch.now) (let_by _ c.in_default.ensures) in
     let v = o.curve in
     let l = v.knots.long in
@@ -50,7 +50,7 @@ kept-count-requires c = let a = c.args in
     record {
       p_bound = omega arith;
       knots_len_bound = s;
-      lo_bound = range-order a.degree _ a.knots.now v.knots a.lo a.hi o.range;
+      lo_bound = range-order a.curve.degree _ a.curve.knots.now v.knots a.lo a.hi o.range;
     }
 
 pub returns : goal.returns

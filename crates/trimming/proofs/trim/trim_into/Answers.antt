@@ -16,7 +16,7 @@ overflow_add-degree c = let pr = c.requires in
     let l = v.knots.long in
     let k = v.knots.count in
     let s = v.short.knots in
-    let q = pr.degree_in_bounds_2 in let g = c.well_formed in let f = c.ranges in search rules
+    let q = pr.degree_in_bounds_2 in let g = c.well_formed in search rules
 
 pub overflow_add-degree-2 : goal.overflow_add-degree-2
 overflow_add-degree-2 c = let pr = c.requires in
@@ -25,7 +25,7 @@ overflow_add-degree-2 c = let pr = c.requires in
     let k = v.knots.count in
     let s = v.short.knots in
     let q = pr.degree_in_bounds_2 in
-    let g = c.well_formed in let f = c.ranges in search rules
+    let g = c.well_formed in search rules
 
 pub overflow_add-a : goal.overflow_add-a
 overflow_add-a c = let pr = c.requires in
@@ -35,7 +35,7 @@ overflow_add-a c = let pr = c.requires in
     let s = v.short.knots in
     let q = pr.degree_in_bounds_2 in
     let g = c.well_formed in
-    let f = c.ranges in let x = c.missing-x.ensures in let y = c.missing-y.ensures in omega arith
+    let x = c.missing-x.ensures in let y = c.missing-y.ensures in omega arith
 
 pub overflow_add-a-2 : goal.overflow_add-a-2
 overflow_add-a-2 c = let pr = c.requires in
@@ -45,7 +45,7 @@ overflow_add-a-2 c = let pr = c.requires in
     let s = v.short.knots in
     let q = pr.degree_in_bounds_2 in
     let g = c.well_formed in
-    let f = c.ranges in let x = c.missing-x.ensures in let y = c.missing-y.ensures in omega arith
+    let x = c.missing-x.ensures in let y = c.missing-y.ensures in omega arith
 
 pub overflow_mul-a : goal.overflow_mul-a
 overflow_mul-a c = let pr = c.requires in
@@ -55,7 +55,7 @@ overflow_mul-a c = let pr = c.requires in
     let s = v.short.knots in
     let q = pr.degree_in_bounds_2 in
     let g = c.well_formed in
-    let f = c.ranges in let x = c.missing-x.ensures in let y = c.missing-y.ensures in omega (arith, g, f)
+    let x = c.missing-x.ensures in let y = c.missing-y.ensures in omega (arith, g)
 
 pub insert_ends-requires : goal.insert_ends-requires
 insert_ends-requires c = let pr = c.requires in
@@ -65,7 +65,6 @@ insert_ends-requires c = let pr = c.requires in
     let s = v.short.knots in
     let q = pr.degree_in_bounds_2 in
     let g = c.well_formed in
-    let f = c.ranges in
     let x = c.missing-x.ensures in let y = c.missing-y.ensures in
     record {
       valid_curve = pr.valid_curve;
@@ -78,7 +77,7 @@ returns-in_err-insert_ends c = let p = err_from_is_err_and c.from_residual.resul
     rw
     (p.1, p.2)
     (into-refused
-    a.degree a.knots.now a.points.now a.rational a.weights.now
+    a.curve.degree a.curve.knots.now a.curve.points.now a.curve.rational a.curve.weights.now
     c.requires.valid_curve a.lo a.hi (length a.out_knots.now)
     (length a.out_points.now) (length a.out_weights.now) _ _ _ _ c.in_err-insert_ends.ensures.value)
 
@@ -90,7 +89,6 @@ kept-m-requires c = let pr = c.requires in
     let s = v.short.knots in
     let q = pr.degree_in_bounds_2 in
     let g = c.well_formed in
-    let f = c.ranges in
     record {
       p_bound = omega arith;
       knots_len_bound = s;
@@ -106,7 +104,6 @@ cut-requires c = let a = c.args in
     let s = v.short.knots in
     let q = pr.degree_in_bounds_2 in
     let g = c.well_formed in
-    let f = c.ranges in
     let x = c.missing-x.ensures in
     let y = c.missing-y.ensures in
     let F = c.below-f.ensures in
@@ -114,8 +111,8 @@ cut-requires c = let a = c.args in
     let w = c.work-1.given in
     let b =
     (kept-fits
-    a.degree (length a.points.now / 3) a.knots.now pr.valid_curve.knots a.lo a.hi pr.lo_bound
-    (multiplicity-most a.degree (length a.points.now / 3) a.knots.now pr.valid_curve.knots a.hi)) in
+    a.curve.degree (length a.curve.points.now / 3) a.curve.knots.now pr.valid_curve.knots a.lo a.hi pr.lo_bound
+    (multiplicity-most a.curve.degree (length a.curve.points.now / 3) a.curve.knots.now pr.valid_curve.knots a.hi)) in
     let i = pr.degree_in_bounds in
     let j = pr.hi_in_bounds in
     record {
@@ -136,18 +133,17 @@ returns c = let b = c.missing-x in
     let s = v.short.knots in
     let q = pr.degree_in_bounds_2 in
     let g = c.well_formed in
-    let f = c.ranges in
     let x = b.ensures in
     let y = d.ensures in
     into-cut
-    a.degree a.knots.now a.points.now a.rational a.weights.now pr.valid_curve a.lo a.hi (length a.out_knots.now) (length a.out_points.now) (length a.out_weights.now)
+    a.curve.degree a.curve.knots.now a.curve.points.now a.curve.rational a.curve.weights.now pr.valid_curve a.lo a.hi (length a.out_knots.now) (length a.out_points.now) (length a.out_weights.now)
     _ _ _
-    ((length a.points.now / 3 + (b.result + d.result)) * 4)
+    ((length a.curve.points.now / 3 + (b.result + d.result)) * 4)
     a.work.now _ _ c.below-f.ensures
     c.kept-m.ensures
     (kept-fits
-    a.degree (length a.points.now / 3) a.knots.now pr.valid_curve.knots a.lo a.hi pr.lo_bound
-    (multiplicity-most a.degree (length a.points.now / 3) a.knots.now pr.valid_curve.knots a.hi))
+    a.curve.degree (length a.curve.points.now / 3) a.curve.knots.now pr.valid_curve.knots a.lo a.hi pr.lo_bound
+    (multiplicity-most a.curve.degree (length a.curve.points.now / 3) a.curve.knots.now pr.valid_curve.knots a.hi))
     (omega arith) (omega arith) c.in_ok-insert_ends.ensures.value _
     c.in_ok-insert_ends.ensures.work_after _
     c.cut.ensures
