@@ -45,10 +45,6 @@ module _ {before after : List Float} {r : ℕ} where
   pub no_both : {p : Option (Interval × Interval)} (f : Interval → Interval → Answer) → p ≡ None → Leaves (refused no-interval) before after r → Leaves (on_both p f) before after r
   no_both f e = leaves_by (sym (ap (λ (k : Option (Interval × Interval)). on_both k f) e))
 
-  pub on_one : (n : Option Interval) (f : Interval → Interval → Answer) → Leaves (on_both (both_of n n) f) before after r → Leaves (on_new n (λ a. f a a)) before after r
-  on_one (Some a) f h = h
-  on_one None f h = h
-
   -- the ends that were put are those of the operation's result
   pub ends_of : {i j : Interval} → i ≡ j → Leaves (ends i) before after r → Leaves (ends j) before after r
   ends_of e = leaves_by (ap ends e)

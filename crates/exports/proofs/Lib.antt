@@ -1,3 +1,4 @@
+pub mod ByNumber
 pub mod Put
 pub mod Branches
 pub mod Box

@@ -29,9 +29,6 @@ abbrev pub quotient_answer : Result Interval DivideError → Answer
 quotient_answer q = told (quotient_refusal q) (quotient_values q)
 
 -- ---- an operation on operands that are intervals
-abbrev pub operation_of : ℕ → Interval → Interval → Interval
-operation_of code a b = cond (eqb code 0) (sqr_of a) (cond (eqb code 1) (neg_of a) (cond (eqb code 2) (hull_of a b) (cond (eqb code 3) (add_of a b) (cond (eqb code 4) (sub_of a b) (mul_of a b)))))
-
 abbrev pub on_new : Option Interval → (Interval → Answer) → Answer
 on_new (Some a) f = f a
 on_new None f = refused no-interval

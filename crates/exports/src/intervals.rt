@@ -3,7 +3,8 @@ ghost use Rattle.std.specs.Prelude.{◌≡◌, ◌∷◌, []};
 ghost use Rattle.interval.specs.Ops.{entire, new_of, point_of, width_of, hull_of, sqr_of, add_of, sub_of, mul_of, neg_of, divide_of};
 ghost use Rattle.bounds.specs.Holds.{NotIdle};
 ghost use Rattle.exports.specs.Answer.{Leaves, values};
-ghost use Rattle.exports.specs.Intervals.{operation_of, ends, new_answer, quotient_answer, on_new, on_both, both_of, sign_number, inside_number};
+ghost use Rattle.interval.specs.declared.Interval.{Interval};
+ghost use Rattle.exports.specs.Intervals.{ends, new_answer, quotient_answer, on_new, on_both, both_of, sign_number, inside_number};
 
 use crate::answer::{put, put_one, refuse};
 use crate::operands::pair;
@@ -13,47 +14,33 @@ use knots::refusal::Refusal;
 // What is returned where two doubles are no interval: document 01 has no number for it.
 const NO_INTERVAL: u32 = 99;
 
-// Which operation a call is. At each call it is known to the compiler, so nothing is left of the tests.
-const SQR: u32 = 0;
-
-const NEG: u32 = 1;
-
-const HULL: u32 = 2;
-
-const ADD: u32 = 3;
-
-const SUB: u32 = 4;
-
-const MUL: u32 = 5;
-
-fn operation(code: u32, a: Interval, b: Interval) -> Interval
-    ensures { result ≡ operation_of code a b }
-{
-    match code {
-        SQR => a.sqr(),
-        NEG => a.neg(),
-        HULL => a.hull(b),
-        ADD => a.add(b),
-        SUB => a.sub(b),
-        _ => a.mul(b),
-    }
-}
-
-// An operation on two operands.
-fn binary(code: u32, al: f64, ah: f64, bl: f64, bh: f64, out: &mut [f64]) -> u32
-    ensures { Leaves (on_both (both_of (new_of al ah) (new_of bl bh)) (λ a b. ends (operation_of code a b))) out.old out.new result }
+// An operation on two operands. The contract is said of any f that it computes.
+fn binary<F: FnOnce(Interval, Interval) -> Interval>(
+    al: f64,
+    ah: f64,
+    bl: f64,
+    bh: f64,
+    out: &mut [f64],
+    of: F,
+) -> u32
+    requires { F.IsAlwaysCallable of }
+    ensures { (f : Interval → Interval → Interval) → ((a b c : Interval) → F.post of a b c → c ≡ f a b) → Leaves (on_both (both_of (new_of al ah) (new_of bl bh)) (λ a b. ends (f a b))) out.old out.new result }
 {
     match pair(al, ah, bl, bh) {
-        Some((a, b)) => put(out, operation(code, a, b)),
+        Some((a, b)) => put(out, of(a, b)),
         None => refuse(out, NO_INTERVAL),
     }
 }
 
-// An operation on one operand.
-fn unary(code: u32, lo: f64, hi: f64, out: &mut [f64]) -> u32
-    ensures { Leaves (on_new (new_of lo hi) (λ a. ends (operation_of code a a))) out.old out.new result }
+// An operation on one operand. The contract is said of any f that it computes.
+fn unary<F: FnOnce(Interval) -> Interval>(lo: f64, hi: f64, out: &mut [f64], of: F) -> u32
+    requires { F.IsAlwaysCallable of }
+    ensures { (f : Interval → Interval) → ((a c : Interval) → F.post of a c → c ≡ f a) → Leaves (on_new (new_of lo hi) (λ a. ends (f a))) out.old out.new result }
 {
-    binary(code, lo, hi, lo, hi, out)
+    match Interval::new(lo, hi) {
+        Some(a) => put(out, of(a)),
+        None => refuse(out, NO_INTERVAL),
+    }
 }
 
 // The whole line.
@@ -118,38 +105,38 @@ pub fn tasulogi_interval_sign(lo: f64, hi: f64) -> u32
 pub fn tasulogi_interval_sqr(lo: f64, hi: f64, out: &mut [f64]) -> u32
     ensures { Leaves (on_new (new_of lo hi) (λ a. ends (sqr_of a))) out.old out.new result }
 {
-    unary(SQR, lo, hi, out)
+    unary(lo, hi, out, Interval::sqr)
 }
 
 pub fn tasulogi_interval_neg(lo: f64, hi: f64, out: &mut [f64]) -> u32
     ensures { Leaves (on_new (new_of lo hi) (λ a. ends (neg_of a))) out.old out.new result }
 {
-    unary(NEG, lo, hi, out)
+    unary(lo, hi, out, Interval::neg)
 }
 
 // The least interval with both in it.
 pub fn tasulogi_interval_hull(al: f64, ah: f64, bl: f64, bh: f64, out: &mut [f64]) -> u32
     ensures { Leaves (on_both (both_of (new_of al ah) (new_of bl bh)) (λ a b. ends (hull_of a b))) out.old out.new result }
 {
-    binary(HULL, al, ah, bl, bh, out)
+    binary(al, ah, bl, bh, out, Interval::hull)
 }
 
 pub fn tasulogi_interval_add(al: f64, ah: f64, bl: f64, bh: f64, out: &mut [f64]) -> u32
     ensures { Leaves (on_both (both_of (new_of al ah) (new_of bl bh)) (λ a b. ends (add_of a b))) out.old out.new result }
 {
-    binary(ADD, al, ah, bl, bh, out)
+    binary(al, ah, bl, bh, out, Interval::add)
 }
 
 pub fn tasulogi_interval_sub(al: f64, ah: f64, bl: f64, bh: f64, out: &mut [f64]) -> u32
     ensures { Leaves (on_both (both_of (new_of al ah) (new_of bl bh)) (λ a b. ends (sub_of a b))) out.old out.new result }
 {
-    binary(SUB, al, ah, bl, bh, out)
+    binary(al, ah, bl, bh, out, Interval::sub)
 }
 
 pub fn tasulogi_interval_mul(al: f64, ah: f64, bl: f64, bh: f64, out: &mut [f64]) -> u32
     ensures { Leaves (on_both (both_of (new_of al ah) (new_of bl bh)) (λ a b. ends (mul_of a b))) out.old out.new result }
 {
-    binary(MUL, al, ah, bl, bh, out)
+    binary(al, ah, bl, bh, out, Interval::mul)
 }
 
 // By the steps of `divide`, which the compiler then joins. 26 where the divisor contains 0. 28 is never given.

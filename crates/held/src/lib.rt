@@ -17,7 +17,7 @@ use knots::curve::{Curve as Runs, curve_refusal};
 use knots::refusal::Refusal;
 use knots::span::{find_span, find_span_clamped};
 
-// The fields stand in the order in which every call takes them. Weights count only where rational is true.
+// The fields of `knots::curve::Curve`, in its order. Weights count only where rational is true.
 #[derive(Clone, Copy)]
 pub struct Curve<'a> {
     pub degree: usize,

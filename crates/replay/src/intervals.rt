@@ -1,5 +1,6 @@
 // Intervals: the operands of a case, the number that the Rust answers, and the answer's words.
-use interval::{DivideError, Interval, Sign, float};
+use interval::{Interval, Sign, float};
+use knots::refusal::Refusal;
 use replaying::answers;
 use replaying::answers::same;
 use replaying::words::{double, word};
@@ -127,8 +128,7 @@ fn quotient() -> bool {
     match operands() {
         Some((a, b)) => match interval::divide(a, b) {
             Ok(i) => ends(i, false),
-            Err(DivideError::HoldsZero) => refused(26),
-            Err(DivideError::Unbounded) => refused(28),
+            Err(e) => refused(u64::from(Refusal::from(e).number)),
         },
         None => refused(NO_INTERVAL),
     }
