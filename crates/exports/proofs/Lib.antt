@@ -1,4 +1,3 @@
-pub mod ByNumber
 pub mod Put
 pub mod Branches
 pub mod Box

@@ -1,4 +1,3 @@
-pub mod Placed
 pub mod Tables
 pub mod Answer
 pub mod Intervals

@@ -6,6 +6,7 @@ pub mod Refusals
 pub mod Valid
 pub mod FirstPlace
 pub mod Curves
+pub mod ByNumber
 pub mod Shapes
 pub mod Surfaces
 pub mod Fractions

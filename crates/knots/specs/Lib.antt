@@ -4,6 +4,7 @@ pub mod Clear
 pub mod Knots
 pub mod Curve
 pub mod Fine
+pub mod Placed
 pub mod Surface
 pub mod Shape
 pub mod Span

@@ -1,6 +1,7 @@
 // Validation of a curve: refusals 30, 32, 1 to 10, in this order.
 ghost use Rattle.std.specs.Prelude.{◌≡◌};
 ghost use Rattle.knots.specs.Curve.{is_weight, all_weights, control_refusal, formed_refusal, any_long, curve_refusal};
+ghost use Rattle.knots.specs.Placed.{control_placed};
 ghost use Rattle.knots.specs.Refusal.{checked};
 ghost use Rattle.knots.specs.Whole.{on};
 
@@ -34,7 +35,21 @@ pub fn all_weights(xs: &[f64]) -> bool
     all_fine(xs, true)
 }
 
-// Refusals 8, 9, 10 of points and of the weights, where they are given.
+// The refusal of points and weights by its number, with the place of 8 and 10.
+fn control_placed(number: u32, points: &[f64], weights: &[f64]) -> Refusal
+    ensures { result ≡ control_placed number points.now weights.now }
+{
+    if number == 8 {
+        return refuse_at(number, non_finite_at(points) / 3);
+    }
+    if number == 10 {
+        return refuse_at(number, bad_weight_at(weights));
+    }
+    refuse(number)
+}
+
+// Refusals 8, 9, 10 of points and of the weights, where they are given. Not inlined: behind the many tests of a surface its walks were taken for seldom.
+#[inline(never)]
 pub fn control_refusal(
     count: usize,
     points: &[f64],
@@ -44,7 +59,8 @@ pub fn control_refusal(
     ensures { result ≡ checked (control_refusal count points.now rational weights.now) }
 {
     if !all_finite(points) {
-        return Err(refuse_at(Reason::PointNotFinite, non_finite_at(points) / 3));
+        let number = Reason::PointNotFinite.number();
+        return Err(control_placed(number, points, weights));
     }
     if !rational {
         return Ok(());
@@ -53,7 +69,8 @@ pub fn control_refusal(
         return Err(refuse(Reason::WeightCount));
     }
     if !all_weights(weights) {
-        return Err(refuse_at(Reason::WeightBad, bad_weight_at(weights)));
+        let number = Reason::WeightBad.number();
+        return Err(control_placed(number, points, weights));
     }
     Ok(())
 }

@@ -1,6 +1,7 @@
 // Validation of a knot run: refusals 1 to 7.
 ghost use Rattle.std.specs.Prelude.{◌≡◌, ◌+◌, ◌≤◌, length};
 ghost use Rattle.knots.specs.Knots.{all_finite, in_order, ordered, apart, order_refusal, knot_refusal};
+ghost use Rattle.knots.specs.Placed.{knot_placed};
 ghost use Rattle.knots.specs.Refusal.{checked};
 
 use crate::limits::is_sum;
@@ -59,7 +60,8 @@ fn order_refusal(degree: usize, count: usize, knots: &[f64]) -> Result<(), Refus
     let lo = knots[degree];
     let hi = knots[count];
     if !ordered {
-        return Err(refuse_at(Reason::KnotsUnordered, unordered_at(knots)));
+        let number = Reason::KnotsUnordered.number();
+        return Err(knot_placed(number, degree, knots));
     }
     if lo >= hi {
         return Err(refuse(Reason::DomainEmpty));
@@ -68,7 +70,8 @@ fn order_refusal(degree: usize, count: usize, knots: &[f64]) -> Result<(), Refus
         return Err(refuse(Reason::DomainWide));
     }
     if !apart_by(knots, degree + 1) {
-        return Err(refuse_at(Reason::KnotRepeated, repeated_at(knots, degree)));
+        let number = Reason::KnotRepeated.number();
+        return Err(knot_placed(number, degree, knots));
     }
     Ok(())
 }
@@ -87,4 +90,27 @@ pub fn knot_refusal(degree: usize, count: usize, knots: &[f64]) -> Result<(), Re
         return Err(refuse(Reason::KnotCount));
     }
     order_refusal(degree, count, knots)
+}
+
+// The number of a knot run's refusal, for any degree and count, or 0.
+pub fn knot_number(degree: usize, count: usize, knots: &[f64]) -> u32
+    ensures { result ≡ (knot_refusal degree count knots.now).number }
+{
+    match knot_refusal(degree, count, knots) {
+        Ok(()) => 0,
+        Err(refusal) => refusal.number,
+    }
+}
+
+// The refusal of a knot run by its number, with the place of 4 and 7.
+pub fn knot_placed(number: u32, degree: usize, knots: &[f64]) -> Refusal
+    ensures { result ≡ knot_placed number degree knots.now }
+{
+    if number == 4 {
+        return refuse_at(number, unordered_at(knots));
+    }
+    if number == 7 {
+        return refuse_at(number, repeated_at(knots, degree));
+    }
+    refuse(number)
 }

@@ -1,6 +1,6 @@
 // A refusal, its reason and its class, and how one is made. Every call of every crate that refuses answers `Err` of this one type.
-ghost use Rattle.std.specs.Prelude.{◌≡◌};
-ghost use Rattle.knots.specs.Refusal.{refuse, row, placed, along, refused_quotient, checked, class_of};
+ghost use Rattle.std.specs.Prelude.{◌≡◌, ℕ};
+ghost use Rattle.knots.specs.Refusal.{numbered, row, placed, along, refused_quotient, checked, class_of};
 ghost use Rattle.knots.specs.declared.refusal.Refusal.{Refusal};
 
 use interval::DivideError;
@@ -96,25 +96,48 @@ pub struct Refusal {
     pub place: usize,
 }
 
+// What a refusal is made of: a reason of document 01's table, or any number.
+pub trait Numbered: Copy {
+    ghost number_in: { Self → ℕ };
+
+    fn refusal_number(self) -> u32
+        ensures { result ≡ number_in self };
+}
+
+impl Numbered for Reason {
+    ghost number_in = { λ reason. (row reason).0 };
+
+    fn refusal_number(self) -> u32 {
+        self.number()
+    }
+}
+
+impl Numbered for u32 {
+    ghost number_in = { λ number. number };
+
+    fn refusal_number(self) -> u32 {
+        self
+    }
+}
+
 // A refusal with no direction and no place.
-pub fn refuse(reason: Reason) -> Refusal
-    ensures { result ≡ refuse reason }
+pub fn refuse<N: Numbered>(of: N) -> Refusal
+    ensures { result ≡ numbered (N.number_in of) }
 {
     Refusal {
-        number: reason.number(),
+        number: of.refusal_number(),
         direction: 2,
         place: 0,
     }
 }
 
 // A refusal with the place of what it is for: of 4 and 7 a knot, of 8 a point, of 10 a weight.
-pub fn refuse_at(reason: Reason, place: usize) -> Refusal
-    ensures { result ≡ placed place (refuse reason) }
+pub fn refuse_at<N: Numbered>(of: N, place: usize) -> Refusal
+    ensures { result ≡ placed place (numbered (N.number_in of)) }
 {
     Refusal {
-        number: reason.number(),
-        direction: 2,
         place,
+        ..refuse(of)
     }
 }
 

@@ -14,7 +14,7 @@ use Rattle.knots.specs.Knots.{all_finite, ordered, apart, order_refusal, knot_re
 use Rattle.knots.specs.Curve.{over_long, any_long, all_weights, count_of, control_refusal}
 use Rattle.knots.specs.Surface.{net_refusal}
 use Rattle.knots.specs.Span.{outside, domain_refusal, span_refusal}
-use Rattle.exports.specs.Placed.{knot_placed, control_placed}
+use Rattle.knots.specs.Placed.{knot_placed, control_placed}
 use Rattle.knots.specs.declared.refusal.Refusal.{Refusal}
 use Rattle.knots.proofs.Refusals.{row-both}
 
