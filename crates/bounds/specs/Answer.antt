@@ -20,3 +20,7 @@ bounds_of b = record {
 abbrev pub bounded_of : Result Bounds Refusal → Result NurbsBounds Refusal
 bounded_of (Ok b) = Ok (bounds_of b)
 bounded_of (Err r) = Err r
+
+-- three intervals of a point, or the refusal
+abbrev pub point_bounded_of : Result Triple Refusal → Result Triple Refusal
+point_bounded_of a = a

@@ -1,9 +1,10 @@
 // What a bound answers.
 ghost use Rattle.std.specs.Prelude.{◌≡◌};
-ghost use Rattle.bounds.specs.Answer.{triple_of, bounds_of};
+ghost use Rattle.bounds.specs.Answer.{triple_of, bounds_of, bounded_of, point_bounded_of};
 
 use interval::Interval;
 use jets::cartesian::Bounds;
+use knots::refusal::Refusal;
 
 // An interval for each coordinate.
 #[derive(Clone, Copy)]
@@ -27,8 +28,7 @@ fn triple_of(x: Interval, y: Interval, z: Interval) -> Triple
     Triple { x, y, z }
 }
 
-// By point and derivatives, and not by coordinate.
-pub(crate) fn bounds_of(b: Bounds) -> NurbsBounds
+fn bounds_of(b: Bounds) -> NurbsBounds
     ensures { result ≡ bounds_of b }
 {
     let x = b.x;
@@ -38,4 +38,18 @@ pub(crate) fn bounds_of(b: Bounds) -> NurbsBounds
     let du = triple_of(x.du, y.du, z.du);
     let dv = triple_of(x.dv, y.dv, z.dv);
     NurbsBounds { point, du, dv }
+}
+
+// The point's three intervals, or the refusal, which is one already.
+pub fn point_answer(a: Result<Triple, Refusal>) -> Result<Triple, Refusal>
+    ensures { result ≡ point_bounded_of a }
+{
+    a
+}
+
+// The same bounds by point and derivatives, and not by coordinate, or the refusal.
+pub fn answer_of(a: Result<Bounds, Refusal>) -> Result<NurbsBounds, Refusal>
+    ensures { result ≡ bounded_of a }
+{
+    Ok(bounds_of(a?))
 }

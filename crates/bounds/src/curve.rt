@@ -7,7 +7,7 @@ ghost use Rattle.runs.specs.Fraction.{coordinate_value};
 ghost use Rattle.bounds.specs.Numbers.{bounded_refusal};
 ghost use Rattle.bounds.specs.Holds.{Holds, HoldsOn, NotIdle};
 
-use crate::answer::{NurbsBounds, bounds_of};
+use crate::answer::{NurbsBounds, answer_of};
 use crate::levels::Along;
 use crate::start::{row_of, weights_of};
 use interval::Interval;
@@ -42,8 +42,8 @@ fn on_span(curve: Curve, s: usize, lo: f64, hi: f64) -> Result<Bounds, Refusal>
     };
     let t = parameter(range);
     let along = Along { degree, span: s, t };
-    let h = row_of(points, weights, rational, first, o, w.scale, knots, along)?;
-    cartesian_of(h, o, w.bound)
+    let net = row_of(points, weights, rational, first, o, w.scale, knots, along);
+    cartesian_of(net, o, w.bound)
 }
 
 // The bounds of a curve over the closed range [lo, hi], which one nonempty span must contain. The first such span is taken, so a range that is one inner knot belongs to the span before it. They hold the exact point and its exact first derivative at every fraction of the range, and dv holds 0. 28 and 29 are never given.
@@ -56,8 +56,7 @@ pub fn bound_curve(curve: Curve, lo: f64, hi: f64) -> Result<NurbsBounds, Refusa
     let count = curve.points.len() / 3;
     let s = span_over(curve.degree, count, curve.knots, lo, hi);
     range_refusal(curve.degree, count, s, lo, hi)?;
-    let b = on_span(curve, s, lo, hi)?;
-    Ok(bounds_of(b))
+    answer_of(on_span(curve, s, lo, hi))
 }
 
 // The bounds on a span that is asked for by its index: no number but the span's own is read, so that a walk over all spans of a valid curve validates once. Where it answers, its bounds hold the exact point and derivative, and dv holds 0, whatever the rest of the table is. 28 and 29 are never given.
@@ -67,6 +66,5 @@ pub fn bound_span(curve: Curve, span: usize, lo: f64, hi: f64) -> Result<NurbsBo
     ensures not_idle { NotIdle (bounded_refusal result).number }
 {
     start_refusal(curve, span, lo, hi)?;
-    let b = on_span(curve, span, lo, hi)?;
-    Ok(bounds_of(b))
+    answer_of(on_span(curve, span, lo, hi))
 }

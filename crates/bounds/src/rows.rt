@@ -129,8 +129,8 @@ pub fn on_spans(
         span: us,
         t: parameter(iu),
     };
-    let h = rows_of(
+    let net = rows_of(
         points, weights, rational, row, nv, col, o, w.scale, vk, along_v, uk, along_u,
-    )?;
-    cartesian_of(h, o, w.bound)
+    );
+    cartesian_of(net, o, w.bound)
 }

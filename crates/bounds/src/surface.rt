@@ -8,7 +8,7 @@ ghost use Rattle.bounds.specs.Surface.{ranges_refusal, bounded_by, surface_of};
 ghost use Rattle.bounds.specs.Numbers.{bounded_refusal};
 ghost use Rattle.bounds.specs.Holds.{SurfaceHolds, NotIdle};
 
-use crate::answer::{NurbsBounds, bounds_of};
+use crate::answer::{NurbsBounds, answer_of};
 use crate::rows::{Side, on_spans};
 use knots::refusal::{Reason, Refusal, refuse};
 use knots::surface::{Surface, surface_refusal};
@@ -41,8 +41,7 @@ fn bound_valid(
     let us = span_over(u.degree, u.count, uk, u.lo, u.hi);
     let vs = span_over(v.degree, v.count, vk, v.lo, v.hi);
     ranges_refusal(u, v, us, vs)?;
-    let b = on_spans(u, v, us, vs, uk, vk, points, weights, rational)?;
-    Ok(bounds_of(b))
+    answer_of(on_spans(u, v, us, vs, uk, vk, points, weights, rational))
 }
 
 // The bounds of a surface over a closed rectangle, which one rectangle of nonempty spans must contain. They hold the exact point and both its first derivatives at every pair of fractions. 28 and 29 are never given.

@@ -1,6 +1,6 @@
 // From the homogeneous net to Cartesian bounds.
 ghost use Rattle.std.specs.Prelude.{◌≡◌};
-ghost use Rattle.jets.specs.Cartesian.{coordinate_of, cartesian_of};
+ghost use Rattle.jets.specs.Cartesian.{coordinate_of, cartesian_of, net_by};
 
 use crate::jet::Jet;
 use crate::net::Control;
@@ -29,8 +29,8 @@ fn coordinate(h: Jet, weight: Jet, r: Interval, o: f64) -> Jet
     }
 }
 
-// The bounds by the net's last point: its weight is cut with its other enclosure before it divides.
-pub fn cartesian_of(h: Control, o: Vector, bound: Interval) -> Result<Bounds, Refusal>
+// The bounds by a point: its weight is cut with its other enclosure before it divides.
+fn cartesian(h: Control, o: Vector, bound: Interval) -> Result<Bounds, Refusal>
     ensures { result ≡ cartesian_of h o bound }
 {
     let weight = h.w;
@@ -46,4 +46,15 @@ pub fn cartesian_of(h: Control, o: Vector, bound: Interval) -> Result<Bounds, Re
         y: coordinate(h.y, weight, r, o.y),
         z: coordinate(h.z, weight, r, o.z),
     })
+}
+
+// The bounds by the net's last point, or the net's refusal.
+pub fn cartesian_of(
+    a: Result<Control, Refusal>,
+    o: Vector,
+    bound: Interval,
+) -> Result<Bounds, Refusal>
+    ensures { result ≡ net_by o bound a }
+{
+    cartesian(a?, o, bound)
 }

@@ -26,17 +26,9 @@ on_span-requires c = let a = c.args in
     let k = curve-asked a.curve.degree a.curve.knots.now a.curve.points.now a.curve.weights.now a.curve.rational a.lo a.hi c.span_over-s.result c.in_ok-curve_refusal.ensures c.span_over-s.ensures c.in_ok-range_refusal.ensures in
     record { degree_bound = k.small; degree_le_s = k.first; degree_in_bounds = k.room; s_bound = k.few }
 
-pub returns-in_err-b : goal.returns-in_err-b
-returns-in_err-b c = let a = c.args in
-    let p = err_from_is_err_and c.from_residual-in_err-b.result c.from_residual-in_err-b.ensures.1 in
-    let all = bound-promised a.curve.degree a.curve.knots.now a.curve.points.now a.curve.weights.now a.curve.rational a.lo a.hi c.from_residual-in_err-b.result
-    (rw (p.1, p.2) (ap bounded_of c.in_err-b.ensures
-    ∙ curve-is a.curve.degree a.curve.knots.now a.curve.points.now a.curve.weights.now a.curve.rational a.lo a.hi c.span_over-s.result c.in_ok-curve_refusal.ensures c.span_over-s.ensures c.in_ok-range_refusal.ensures)) in
-    record { value = all.0; holds = all.1.0; not_idle = all.1.1 }
-
 pub returns : goal.returns
 returns c = let a = c.args in
     let all = bound-promised a.curve.degree a.curve.knots.now a.curve.points.now a.curve.weights.now a.curve.rational a.lo a.hi _
-    (ap Ok c.bounds_of.ensures ∙ (ap bounded_of c.in_ok-b.ensures
+    (c.answer_of.ensures ∙ (ap bounded_of c.on_span.ensures
     ∙ curve-is a.curve.degree a.curve.knots.now a.curve.points.now a.curve.weights.now a.curve.rational a.lo a.hi c.span_over-s.result c.in_ok-curve_refusal.ensures c.span_over-s.ensures c.in_ok-range_refusal.ensures)) in
     record { value = all.0; holds = all.1.0; not_idle = all.1.1 }

@@ -10,11 +10,6 @@ pub returns-in_default : goal.returns-in_default
 unfolding span_bound
 returns-in_default c = rw (← c.in_ok-w.ensures, ← c.new.ensures, c.in_default.is, c.refuse.ensures)
 
-pub returns-in_err-h : goal.returns-in_err-h
-unfolding span_bound
-returns-in_err-h c = let p = err_from_is_err_and c.from_residual-in_err-h.result c.from_residual-in_err-h.ensures.1 in
-    rw (p.1, p.2, ← c.in_ok-w.ensures, ← c.in-Some.ensures, ← c.parameter-t.ensures, ← c.point_at-o.ensures, ← c.in_err-h.ensures)
-
 pub returns : goal.returns
 unfolding span_bound
-returns c = rw (← c.in_ok-w.ensures, ← c.in-Some.ensures, ← c.parameter-t.ensures, ← c.point_at-o.ensures, ← c.in_ok-h.ensures) c.cartesian_of.ensures
+returns c = rw (← c.in_ok-w.ensures, ← c.in-Some.ensures, ← c.parameter-t.ensures, ← c.point_at-o.ensures, ← c.row_of-net.ensures) c.cartesian_of.ensures

@@ -14,11 +14,6 @@ pub returns-in_default-new : goal.returns-in_default-new
 unfolding spans_bound row_at
 returns-in_default-new c = rw (← c.in_ok-w.ensures, ← c.in-Some.ensures, ← c.new-2.ensures, c.in_default-new.is, c.refuse-in_default-new.ensures)
 
-pub returns-in_err-h : goal.returns-in_err-h
-unfolding spans_bound row_at
-returns-in_err-h c = let p = err_from_is_err_and c.from_residual-in_err-h.result c.from_residual-in_err-h.ensures.1 in
-    rw (p.1, p.2, ← c.in_ok-w.ensures, ← c.in-Some.ensures, ← c.in-Some-new.ensures, ← c.point_at-o.ensures, ← c.second.ensures, ← c.parameter.ensures, ← c.in_err-h.ensures)
-
 pub returns : goal.returns
 unfolding spans_bound row_at
 returns c = rw (
@@ -28,5 +23,5 @@ returns c = rw (
   ← c.point_at-o.ensures,
   ← c.second.ensures,
   ← c.parameter.ensures,
-  ← c.in_ok-h.ensures,
+  ← c.rows_of-net.ensures,
 ) c.cartesian_of.ensures

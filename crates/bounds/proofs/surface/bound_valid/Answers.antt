@@ -40,19 +40,10 @@ on_spans-requires c = let a = c.args in
     a.u.degree a.v.degree a.uk.now a.vk.now a.u.count a.v.count a.points.now a.weights.now a.rational a.u.lo a.u.hi a.v.lo a.v.hi _ _ va
     ok.0 ok.1))
 
-pub returns-in_err-b : goal.returns-in_err-b
-unfolding bounded_by
-returns-in_err-b c = let a = c.args in
-    let p = err_from_is_err_and c.from_residual-in_err-b.result c.from_residual-in_err-b.ensures.1 in
-    let va = valid-surface a.u.degree a.v.degree a.uk.now a.vk.now a.u.count a.v.count a.points.now a.rational a.weights.now c.requires in
-    let e = c.span_over-us.ensures ∙ span-is a.u.degree a.u.count a.uk.now a.u.lo a.u.hi va.u in
-    let f = c.span_over-vs.ensures ∙ span-is a.v.degree a.v.count a.vk.now a.v.lo a.v.hi va.v in
-    rw (p.1, p.2, ← e, ← f, skip _ c.in_ok-ranges_refusal.ensures) (ap bounded_of c.in_err-b.ensures)
-
 pub returns : goal.returns
 unfolding bounded_by
 returns c = let a = c.args in
     let va = valid-surface a.u.degree a.v.degree a.uk.now a.vk.now a.u.count a.v.count a.points.now a.rational a.weights.now c.requires in
     let e = c.span_over-us.ensures ∙ span-is a.u.degree a.u.count a.uk.now a.u.lo a.u.hi va.u in
     let f = c.span_over-vs.ensures ∙ span-is a.v.degree a.v.count a.vk.now a.v.lo a.v.hi va.v in
-    rw (← e, ← f, skip _ c.in_ok-ranges_refusal.ensures) (ap Ok c.bounds_of.ensures ∙ ap bounded_of c.in_ok-b.ensures)
+    rw (← e, ← f, skip _ c.in_ok-ranges_refusal.ensures) (c.answer_of.ensures ∙ ap bounded_of c.on_spans.ensures)

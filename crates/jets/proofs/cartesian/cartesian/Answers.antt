@@ -4,7 +4,7 @@ use Rattle.std.proofs.lemmas.Result.{err_from_is_err_and}
 use Rattle.interval.specs.Ops.{new_of}
 use Rattle.doubles.specs.Neighbour.{fmin, fmax}
 use Rattle.jets.specs.Cartesian.{cartesian_of, box_by, cut_by}
-use Rattle.jets.proofs.cartesian.cartesian_of.Goals as goal
+use Rattle.jets.proofs.cartesian.cartesian.Goals as goal
 
 pub returns-in_default : goal.returns-in_default
 unfolding cartesian_of
