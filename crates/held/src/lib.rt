@@ -1,4 +1,4 @@
-// A curve that holds its three runs, with methods.
+// A curve that holds its three runs, with methods, and beside each a function of plain runs.
 #![tactic(auto)]
 
 ghost use Rattle.std.specs.Prelude.{◌≡◌};
@@ -133,4 +133,132 @@ impl<'a> Curve<'a> {
             hi,
         )
     }
+}
+
+// What `Curve::refusal` answers, of plain runs; one lifetime for the three, as the struct has.
+pub fn refusal_of<'a>(
+    degree: usize,
+    knots: &'a [f64],
+    points: &'a [f64],
+    rational: bool,
+    weights: &'a [f64],
+) -> Result<(), Refusal>
+    ensures { result ≡ checked (curve_refusal degree knots.now points.now rational weights.now) }
+{
+    Curve {
+        degree,
+        knots,
+        points,
+        rational,
+        weights,
+    }
+    .refusal()
+}
+
+// What `Curve::span` answers, of plain runs. Of the points only their count matters, and weights do not.
+pub fn span_in<'a>(
+    degree: usize,
+    knots: &'a [f64],
+    points: &'a [f64],
+    rational: bool,
+    weights: &'a [f64],
+    u: f64,
+) -> Result<usize, Refusal>
+    ensures { result ≡ span_answer refusing degree (count_of points.now) knots.now u }
+{
+    Curve {
+        degree,
+        knots,
+        points,
+        rational,
+        weights,
+    }
+    .span(u)
+}
+
+// The same, where a finite u outside the domain becomes the nearer end.
+pub fn span_clamped_in<'a>(
+    degree: usize,
+    knots: &'a [f64],
+    points: &'a [f64],
+    rational: bool,
+    weights: &'a [f64],
+    u: f64,
+) -> Result<usize, Refusal>
+    ensures { result ≡ span_answer clamping degree (count_of points.now) knots.now u }
+{
+    Curve {
+        degree,
+        knots,
+        points,
+        rational,
+        weights,
+    }
+    .span_clamped(u)
+}
+
+// What `Curve::eval` answers, of plain runs.
+pub fn eval_in<'a>(
+    degree: usize,
+    knots: &'a [f64],
+    points: &'a [f64],
+    rational: bool,
+    weights: &'a [f64],
+    t: f64,
+) -> Result<CurveDerivs, Refusal>
+    ensures { result ≡ eval_of refusing degree knots.now points.now rational weights.now t }
+{
+    Curve {
+        degree,
+        knots,
+        points,
+        rational,
+        weights,
+    }
+    .eval(t)
+}
+
+// The same, where a finite t outside the domain becomes the nearer end.
+pub fn eval_clamped_in<'a>(
+    degree: usize,
+    knots: &'a [f64],
+    points: &'a [f64],
+    rational: bool,
+    weights: &'a [f64],
+    t: f64,
+) -> Result<CurveDerivs, Refusal>
+    ensures { result ≡ eval_of clamping degree knots.now points.now rational weights.now t }
+{
+    Curve {
+        degree,
+        knots,
+        points,
+        rational,
+        weights,
+    }
+    .eval_clamped(t)
+}
+
+// What `Curve::bound` answers, of plain runs: the same three promises.
+pub fn bound_in<'a>(
+    degree: usize,
+    knots: &'a [f64],
+    points: &'a [f64],
+    rational: bool,
+    weights: &'a [f64],
+    lo: f64,
+    hi: f64,
+) -> Result<NurbsBounds, Refusal>
+    ensures value { result ≡ bound_of degree knots.now points.now rational weights.now lo hi }
+    ensures holds { Holds degree knots.now points.now rational weights.now lo hi result }
+    ensures not_idle { NotIdle (bounded_refusal result).number }
+{
+    Curve {
+        degree,
+        knots,
+        points,
+        rational,
+        weights,
+    }
+    .bound(lo, hi)
 }
