@@ -56,7 +56,7 @@ step_sum P N c f d R t e =
     simp ring (omega (arith, simp ring at h))
 
 -- what a figure and a carry make
-product_small : (d f carry : ℕ) → d < 10 → f ≤ 4294967296 → carry ≤ 1152921504606846976 → d * f + carry ≤ 1152921543261552640
+pub product_small : (d f carry : ℕ) → d < 10 → f ≤ 4294967296 → carry ≤ 1152921504606846976 → d * f + carry ≤ 1152921543261552640
 product_small d f carry h k l = let p : d * f ≤ 9 * 4294967296 = mul-le-mul {n₂ = 9} (omega arith) k in omega arith
 
 pub raising-step : {goal f len : ℕ} {run : List ℕ} {carry i : ℕ} → f ≤ 4294967296 → Raising goal f len run carry i → i < len →
@@ -123,7 +123,7 @@ down-sum P N W g rest d t e =
     let h : P * (t / g * g + t % g) ≡ P * (rest * 10 + d) = ap (λ z. P * z) (div-add-mod' t g ∙ e) in
     simp ring (omega (arith, simp ring at h))
 
-quotient-small : (g rest d : ℕ) → rest < g → d < 10 → (rest * 10 + d) / g < 10
+pub quotient-small : (g rest d : ℕ) → rest < g → d < 10 → (rest * 10 + d) / g < 10
 quotient-small g rest d h k = let pos : 0 < g = omega arith in (div-lt_iff_lt-mul pos).1 (omega arith)
 
 lowering-at : {goal g len : ℕ} {run : List ℕ} {rest : ℕ} (j : ℕ) → Lowering goal g len run rest (suc j) →

@@ -79,7 +79,9 @@ fn double(run: &mut [u64], k: usize)
     for _ in 0..k / 32 {
         raise(run, power(32), 0);
     }
-    raise(run, power(k % 32), 0);
+    if k % 32 > 0 {
+        raise(run, power(k % 32), 0);
+    }
 }
 
 // The number divided by 2^k, rounded, at most 32 factors at once.
@@ -92,7 +94,9 @@ fn halve(run: &mut [u64], away: bool, k: usize)
     for _ in 0..k / 32 {
         divide(run, away, power(32));
     }
-    divide(run, away, power(k % 32));
+    if k % 32 > 0 {
+        divide(run, away, power(k % 32));
+    }
 }
 
 // The number in units of 2^-1074 as a whole one, rounded.

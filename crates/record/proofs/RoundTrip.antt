@@ -25,11 +25,11 @@ use Rattle.record.proofs.Tables.{complete}
 abbrev pub Doubles : List Float → Type 0
 Doubles xs = (i : ℕ) → T (fits binary64 (get_or xs i nan))
 
-bits-patterns : (xs : List Float) → Doubles xs → Patterns (bits xs)
+pub bits-patterns : (xs : List Float) → Doubles xs → Patterns (bits xs)
 bits-patterns [] d = tt
 bits-patterns (x ∷ xs) d = (to_bits-lt binary64 x (d 0), bits-patterns xs (λ i. d (suc i)))
 
-numbers-bits : (xs : List Float) → Doubles xs → numbers (bits xs) ≡ xs
+pub numbers-bits : (xs : List Float) → Doubles xs → numbers (bits xs) ≡ xs
 numbers-bits [] d = refl
 numbers-bits (x ∷ xs) d = rw (of_bits-to_bits binary64 x (d 0), numbers-bits xs (λ i. d (suc i)))
 

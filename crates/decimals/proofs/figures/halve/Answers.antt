@@ -3,9 +3,9 @@
 use Prim.Native.Nat.{◌+◌, ◌-◌, ◌*◌}
 use native.Mathlib.Nat.{le_trans}
 use native.Mathlib.Omega.{arith}
-use mathlib.Core.Path.{◌≡◌, ◌∙◌}
+use mathlib.Core.Path.{◌≡◌, sym, ◌∙◌}
 use lib.Pow.{pow_pos}
-use Rattle.decimals.proofs.Rounding.{halving-step, whole_le}
+use Rattle.decimals.proofs.Rounding.{halving-step, whole-one, whole_le}
 use Rattle.decimals.proofs.figures.halve.Goals as goal
 
 pub loop-preserved : goal.loop-preserved
@@ -16,3 +16,8 @@ loop-preserved c = let i = c.loop.invariant in
       rw (c.divide.ensures.run_after, c.power.ensures) (le_trans (whole_le _ _ _ (pow_pos 32)) i.1),
       rw (c.divide.ensures.run_after, c.power.ensures, e) (halving-step _ _ 32 left (omega arith) ∙ i.2),
     )
+
+pub returns-else-k-gt0-clause-run_after : goal.returns-else-k-gt0-clause-run_after
+returns-else-k-gt0-clause-run_after c =
+    let e : c.args.k - 32 * c.loop.counter ≡ 0 = omega arith in
+    sym (whole-one _ _) ∙ rw e at c.loop.invariant.2
