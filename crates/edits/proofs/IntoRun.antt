@@ -7,11 +7,9 @@ use mathlib.Core.Logic.{◌⊎◌, inl, inr}
 use mathlib.Core.List.{List, ◌++◌}
 use native.Mathlib.Omega.{arith}
 use lib.ListN.{length, set, take, drop, length-set, length-take, length-drop, length-append}
-use lib.Seq.{get_or-take, get_or-drop}
+use borrow.Author.Count.{below_more}
+use lib.Seq.{get_or-set_same, get_or-set_other, get_or-take, get_or-drop, ext_get_or}
 use lib.Ieee.{Float, nan}
-use borrow.Rule.Slice.PartMut.{put_mid}
-use Rattle.std.proofs.lemmas.List.{get_or_append_left, get_or-append_right}
-use Rattle.std.proofs.lemmas.Slice.{between-put_mid}
 use Rattle.doubles.specs.Run.{at}
 use Rattle.doubles.specs.Value.{one+}
 use Rattle.knots.specs.Clear.{zeros}
@@ -31,27 +29,45 @@ use Rattle.runs.proofs.Cleared.{front-taken}
 use Rattle.edits.proofs.RowReads.{row-axis}
 use Rattle.edits.proofs.RowStores.{rows_same}
 
--- ---- knots are copied to place a and on
-module _ (a k : ℕ) (ks w₀ ys : List Float) (K : k ≡ length ks) (l : a + length ks ≤ length w₀) (Y : ys ≡ ks) where
-  front : length (take a w₀) ≡ a
-  front = length-take a w₀ ∙ omega arith
+-- ---- knots to place a and on: i of them are there
+pub record InKnots (a : ℕ) (ks w₀ w₁ : List Float) (i : ℕ) : Type 0 where
+  pub upto : i ≤ length ks
+  pub long : length w₁ ≡ length w₀
+  pub knots : (j : ℕ) → j < i → at w₁ (a + j) ≡ at ks j
+  pub rest : (j : ℕ) → (j < a) ⊎ (a + i ≤ j) → at w₁ j ≡ at w₀ j
 
-  long : length ys ≡ k
-  long = ap length Y ∙ sym K
+module _ (a : ℕ) (ks w₀ : List Float) where
+  pub knots-start : InKnots a ks w₀ w₀ 0
+  knots-start = record { upto = omega arith; long = refl; knots = λ j l. absurd (omega arith); rest = λ j u. refl }
 
-  others : (j : ℕ) → (j < a) ⊎ (a + length ks ≤ j) → at (put_mid a k w₀ ys) j ≡ at w₀ j
-  others j (inl u) = get_or_append_left (take a w₀) _ nan j (omega (arith, front)) ∙ get_or-take a w₀ j nan u
-  others j (inr u) =
-      get_or-append_right (take a w₀) _ a j nan front (omega arith)
-      ∙ (get_or-append_right ys _ k (j - a) nan long (omega arith)
-      ∙ (get_or-drop k (drop a w₀) (j - a - k) nan ∙ (get_or-drop a w₀ (k + (j - a - k)) nan ∙ ap (at w₀) (omega arith))))
+  module _ (w₁ : List Float) (i : ℕ) (I : InKnots a ks w₀ w₁ i) where
+    pub knots-more : i < length ks → a + length ks ≤ length w₀ → InKnots a ks w₀ (set w₁ (a + i) (at ks i)) (i + 1)
+    knots-more b l =
+        let L = I.long in
+        record {
+          upto = omega arith;
+          long = length-set w₁ (a + i) (at ks i) ∙ I.long;
+          knots = below_more (λ j. at (set w₁ (a + i) (at ks i)) (a + j) ≡ at ks j) i
+              (λ j k. get_or-set_other w₁ (a + i) (a + j) (at ks i) nan (λ e. omega arith) ∙ I.knots j k)
+              (get_or-set_same w₁ (a + i) (at ks i) nan (omega arith));
+          rest = others;
+        }
+      where
+        others : (j : ℕ) → (j < a) ⊎ (a + (i + 1) ≤ j) → at (set w₁ (a + i) (at ks i)) j ≡ at w₀ j
+        others j (inl u) = get_or-set_other w₁ (a + i) j (at ks i) nan (λ e. omega arith) ∙ I.rest j (inl u)
+        others j (inr u) = get_or-set_other w₁ (a + i) j (at ks i) nan (λ e. omega arith) ∙ I.rest j (inr (omega arith))
 
-  pub knots-laid : KnotsLaid a ks w₀ (put_mid a k w₀ ys)
-  knots-laid = record {
-    knots = let e : length ks ≡ a + k - a = omega arith in
-        ap (λ (i : ℕ). take i (drop a (put_mid a k w₀ ys))) e ∙ (between-put_mid a k w₀ ys (a + k) (omega arith) (long ∙ (omega arith)) ∙ Y);
-    rest = others;
-  }
+    pub knots-end : length ks ≤ i → a + length ks ≤ length w₀ → KnotsLaid a ks w₀ w₁
+    knots-end b l =
+        let U = I.upto in
+        let L = I.long in
+        let e : i ≡ length ks = omega arith in
+        let m : length (take (length ks) (drop a w₁)) ≡ length ks = length-take (length ks) (drop a w₁) ∙ omega (arith, length-drop a w₁) in
+        record {
+          knots = ext_get_or nan (take (length ks) (drop a w₁)) ks m
+              (λ j c. get_or-take (length ks) (drop a w₁) j nan (omega (arith, m)) ∙ (get_or-drop a w₁ j nan ∙ I.knots j (omega (arith, m))));
+          rest = subst (λ (k : ℕ). (j : ℕ) → (j < a) ⊎ (a + k ≤ j) → at w₁ j ≡ at w₀ j) e I.rest;
+        }
 
 -- ---- points and weights of rows to the front of two runs: i of them are there
 weights-more : (g : Bool) (i : ℕ) (f : ℕ → Float) (d xs : List Float) (x : Float) → (g ≡ true → i < length d) → xs ≡ tabulate (given g i) f ++ drop (given g i) d → (g ≡ true → x ≡ f i)

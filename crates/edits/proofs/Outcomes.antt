@@ -23,7 +23,7 @@ module _ (p n : ℕ) (start : Refusal) (aim : Outcome) (a b c d : ℕ) (s₁ : L
   whole = cond (eqb start.number 0) aim (refuses start)
 
   -- a refusal, wherever it comes from
-  edit-refused : (r : Refusal) → whole ≡ refuses r → (k₁ p₁ w₁ : List Float) → k₁ ≡ zeros a → p₁ ≡ zeros b → w₁ ≡ zeros c → EditMeets p n whole a b c d k₁ p₁ w₁ s₁ (Err r)
+  pub edit-refused : (r : Refusal) → whole ≡ refuses r → (k₁ p₁ w₁ : List Float) → k₁ ≡ zeros a → p₁ ≡ zeros b → w₁ ≡ zeros c → EditMeets p n whole a b c d k₁ p₁ w₁ s₁ (Err r)
   edit-refused r e k₁ p₁ w₁ K P W = record {
     answer = ap (answer_of p n) (sym e);
     knots = K ∙ ap (knots_in a) (sym e);

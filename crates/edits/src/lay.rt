@@ -31,7 +31,9 @@ pub fn lay_knots(knots: &[f64], a: usize, work: &mut [f64])
     requires { a + length knots.now ≤ length work.old }
     ensures { KnotsLaid a knots.now work.old work.new }
 {
-    work[a..a + knots.len()].copy_from_slice(knots);
+    for i in 0..knots.len() {
+        work[a + i] = knots[i];
+    }
 }
 
 // A curve goes into a run, its knots to place a.

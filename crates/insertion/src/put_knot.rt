@@ -8,6 +8,10 @@ pub fn put_knot(knots: &mut [f64], k: usize, m: usize, t: f64)
     requires { (k < m) × (m < length knots.old) }
     ensures { knots.new ≡ tabulate (m + 1) (knot_at k t knots.old) ++ drop (m + 1) knots.old }
 {
-    knots[k + 1..=m].rotate_right(1);
-    knots[k + 1] = t;
+    let mut carry = t;
+    for i in k + 1..m + 1 {
+        let next = knots[i];
+        knots[i] = carry;
+        carry = next;
+    }
 }
