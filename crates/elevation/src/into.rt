@@ -14,7 +14,7 @@ ghost use Rattle.elevation.specs.Passes.{Raised};
 use crate::extract::extract;
 use crate::join::join;
 use crate::start::elevated_count;
-use crate::walk::count_breaks;
+use crate::walk::break_count;
 use edits::rows::{lift_in, row_at, scale_in, vector_of};
 use edits::work::lay_curve;
 use knots::curve::Curve;
@@ -80,8 +80,8 @@ pub fn raise_into(
         ..
     } = curve;
     let n = curve.points.len() / 3;
-    let met = count_breaks(degree, n, knots);
-    let m = (degree + 1) * (met.breaks + 1);
+    let breaks = break_count(degree, n, knots);
+    let m = (degree + 1) * (breaks + 1);
     let a = m * 4;
     lay_curve(curve, a, work)?;
     extract(degree, n, knots, rational, a, work)?;

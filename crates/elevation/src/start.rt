@@ -4,7 +4,7 @@ ghost use Rattle.knots.specs.Refusal.{checked};
 ghost use Rattle.knots.specs.Whole.{on};
 ghost use Rattle.elevation.specs.Whole.{elevated_count, raise_start, elevate_start};
 
-use crate::walk::count_breaks;
+use crate::walk::{break_count, count_breaks};
 use edits::start::{edit_start, out_room, scratch_room};
 use knots::curve::Curve;
 use knots::refusal::{Reason, Refusal, refuse};
@@ -59,8 +59,8 @@ fn raise_start(
         return Err(refuse(Reason::ElevationHigh));
     }
     let count = elevated_count(p, e, n, knots);
-    let met = count_breaks(p, n, knots);
-    let extracted = (p + 1) * (met.breaks + 1);
+    let breaks = break_count(p, n, knots);
+    let extracted = (p + 1) * (breaks + 1);
     out_room(e, count, rational, a, b, c)?;
     scratch_room(p, extracted, d)
 }

@@ -20,11 +20,20 @@ pub fn is_full(p: usize, knots: &[f64], t: f64) -> bool
     multiplicity(knots, t) > p
 }
 
+// How many breaks there are: one look at each knot, where those that are full take a look at all knots for each break.
+pub fn break_count(p: usize, n: usize, knots: &[f64]) -> usize
+    requires { (p < n) × (n ≤ length knots.now) }
+    ensures { result ≡ length (breaks_of p n knots.now) }
+{
+    Breaks::new(p, n, knots).count()
+}
+
+// How many breaks there are, and how many of them are full.
 pub fn count_breaks(p: usize, n: usize, knots: &[f64]) -> BreakCount
     requires { (p < n) × (n ≤ length knots.now) }
     ensures { BreaksCounted p knots.now (breaks_of p n knots.now) result.breaks result.full }
 {
-    let breaks = Breaks::new(p, n, knots).count();
+    let breaks = break_count(p, n, knots);
     let full = Breaks::new(p, n, knots)
         .filter(|t| is_full(p, knots, *t))
         .count();

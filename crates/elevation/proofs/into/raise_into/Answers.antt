@@ -9,8 +9,8 @@ use Rattle.elevation.proofs.RaisedInto.{in_reach, sizes, lay-none, extract-ready
 use borrow.Author.Rules.{rules}
 use Rattle.elevation.proofs.into.raise_into.Goals as goal
 
-pub count_breaks-met-requires : goal.count_breaks-met-requires
-count_breaks-met-requires c = let a = c.args in
+pub break_count-breaks-requires : goal.break_count-breaks-requires
+break_count-breaks-requires c = let a = c.args in
     in_reach
     a.curve.degree a.curve.knots.now a.curve.points.now a.curve.rational a.curve.weights.now a.raised (length a.out_knots.now) (length a.out_points.now) (length a.out_weights.now)
     (length a.work.now) c.requires.work_value
@@ -28,8 +28,8 @@ overflow_add-m-2 c = let a = c.args in
     let q =
     sizes
     a.curve.degree a.curve.knots.now a.curve.points.now a.curve.rational a.curve.weights.now a.raised (length a.out_knots.now) (length a.out_points.now) (length a.out_weights.now)
-    (length a.work.now) c.requires.work_value c.count_breaks-met.result.breaks c.count_breaks-met.result.full
-    c.count_breaks-met.ensures in
+    (length a.work.now) c.requires.work_value c.break_count-breaks.result _
+    (record { breaks = c.break_count-breaks.ensures; full = refl }) in
     let x = q.0 in let y = q.1 in let z = q.2 in search rules
 
 pub overflow_mul-m : goal.overflow_mul-m
@@ -37,8 +37,8 @@ overflow_mul-m c = let a = c.args in
     let q =
     sizes
     a.curve.degree a.curve.knots.now a.curve.points.now a.curve.rational a.curve.weights.now a.raised (length a.out_knots.now) (length a.out_points.now) (length a.out_weights.now)
-    (length a.work.now) c.requires.work_value c.count_breaks-met.result.breaks c.count_breaks-met.result.full
-    c.count_breaks-met.ensures in
+    (length a.work.now) c.requires.work_value c.break_count-breaks.result _
+    (record { breaks = c.break_count-breaks.ensures; full = refl }) in
     let x = q.0 in let y = q.1 in let z = q.2 in search rules
 
 pub overflow_mul-a : goal.overflow_mul-a
@@ -46,8 +46,8 @@ overflow_mul-a c = let a = c.args in
     let q =
     sizes
     a.curve.degree a.curve.knots.now a.curve.points.now a.curve.rational a.curve.weights.now a.raised (length a.out_knots.now) (length a.out_points.now) (length a.out_weights.now)
-    (length a.work.now) c.requires.work_value c.count_breaks-met.result.breaks c.count_breaks-met.result.full
-    c.count_breaks-met.ensures in
+    (length a.work.now) c.requires.work_value c.break_count-breaks.result _
+    (record { breaks = c.break_count-breaks.ensures; full = refl }) in
     let x = q.0 in let y = q.1 in let z = q.2 in search rules
 
 pub returns-in_err-lay_curve : goal.returns-in_err-lay_curve
@@ -56,9 +56,9 @@ returns-in_err-lay_curve c = let a = c.args in
     lay-none
     a.curve.degree a.curve.knots.now a.curve.points.now a.curve.rational a.curve.weights.now a.raised (length a.out_knots.now) (length a.out_points.now) (length a.out_weights.now)
     (length a.work.now) c.requires.work_value
-    c.count_breaks-met.result.breaks c.count_breaks-met.result.full
-    c.count_breaks-met.ensures
-    ((a.curve.degree + 1) * (c.count_breaks-met.result.breaks + 1)) refl a.work.now refl _
+    c.break_count-breaks.result _
+    (record { breaks = c.break_count-breaks.ensures; full = refl })
+    ((a.curve.degree + 1) * (c.break_count-breaks.result + 1)) refl a.work.now refl _
     c.in_err-lay_curve.ensures.value in
     cc
 
@@ -67,9 +67,9 @@ extract-requires c = let all = let a = c.args in
     extract-ready
     a.curve.degree a.curve.knots.now a.curve.points.now a.curve.rational a.curve.weights.now a.raised (length a.out_knots.now) (length a.out_points.now) (length a.out_weights.now)
     (length a.work.now) c.requires.work_value
-    c.count_breaks-met.result.breaks c.count_breaks-met.result.full
-    c.count_breaks-met.ensures
-    ((a.curve.degree + 1) * (c.count_breaks-met.result.breaks + 1)) refl a.work.now refl _
+    c.break_count-breaks.result _
+    (record { breaks = c.break_count-breaks.ensures; full = refl })
+    ((a.curve.degree + 1) * (c.break_count-breaks.result + 1)) refl a.work.now refl _
     c.in_ok-lay_curve.ensures.work_after
     _ (omega arith) in
     record { p_lt_n = all.0; valid_knots = all.1.0; knots_bound = all.1.1.0; p_in_bounds = all.1.1.1 }
@@ -82,22 +82,19 @@ returns-in_err-extract c = let p = err_from_is_err_and c.from_residual-in_err-ex
     (into-stop
     a.curve.degree a.curve.knots.now a.curve.points.now a.curve.rational a.curve.weights.now a.raised (length a.out_knots.now) (length a.out_points.now) (length a.out_weights.now)
     (length a.work.now) c.requires.work_value
-    c.count_breaks-met.result.breaks c.count_breaks-met.result.full
-    c.count_breaks-met.ensures
-    ((a.curve.degree + 1) * (c.count_breaks-met.result.breaks + 1)) refl a.work.now refl _
+    c.break_count-breaks.result _
+    (record { breaks = c.break_count-breaks.ensures; full = refl })
+    ((a.curve.degree + 1) * (c.break_count-breaks.result + 1)) refl a.work.now refl _
     c.in_ok-lay_curve.ensures.work_after _ _ c.in_err-extract.ensures _ refl _ _ _)
 
 pub raise_extracted-requires : goal.raise_extracted-requires
-raise_extracted-requires c = let all = let b = c.count_breaks-met in
-    let a = c.args in
+raise_extracted-requires c = let all = let a = c.args in
     let q = c.requires in
     raise-ready
     a.curve.degree a.curve.knots.now a.curve.points.now a.curve.rational a.curve.weights.now a.raised (length a.out_knots.now) (length a.out_points.now) (length a.out_weights.now)
     (length a.work.now) q.work_value
-    b.result.breaks
-    b.result.full
-    b.ensures
-    ((a.curve.degree + 1) * (b.result.breaks + 1))
+    c.break_count-breaks.result _ (record { breaks = c.break_count-breaks.ensures; full = refl })
+    ((a.curve.degree + 1) * (c.break_count-breaks.result + 1))
     refl a.work.now refl _ c.in_ok-lay_curve.ensures.work_after q.fact _ (omega arith) in
     record { p_lt_n = all.0; m_value = all.1.0; e_in_bounds = all.1.1.0; knots_in_bounds = all.1.1.1.0; knots_in_bounds_2 = all.1.1.1.1 }
 
@@ -107,10 +104,10 @@ returns c = let a = c.args in
     into-end
     a.curve.degree a.curve.knots.now a.curve.points.now a.curve.rational a.curve.weights.now a.raised (length a.out_knots.now) (length a.out_points.now) (length a.out_weights.now)
     (length a.work.now) q.work_value
-    c.count_breaks-met.result.breaks
-    c.count_breaks-met.result.full
-    c.count_breaks-met.ensures
-    ((a.curve.degree + 1) * (c.count_breaks-met.result.breaks + 1))
+    c.break_count-breaks.result
+    _
+    (record { breaks = c.break_count-breaks.ensures; full = refl })
+    ((a.curve.degree + 1) * (c.break_count-breaks.result + 1))
     refl a.work.now refl _
     c.in_ok-lay_curve.ensures.work_after
     _ _ c.in_ok-extract.ensures

@@ -3,7 +3,7 @@
 use Rattle.std.specs.Prelude.{Err}
 use Rattle.std.proofs.lemmas.Result.{err_from_is_err_and}
 use Prim.Native.Nat.{ℕ}
-use mathlib.Core.Path.{sym, ◌∙◌, ap}
+use mathlib.Core.Path.{refl, sym, ◌∙◌, ap}
 use borrow.Author.Tests.{lt-ltb, le-ltb}
 use Rattle.knots.specs.Refusal.{checked}
 use Rattle.knots.proofs.Refusals.{skip, refused-first}
@@ -34,15 +34,15 @@ pub overflow_add-extracted-2 : goal.overflow_add-extracted-2
 overflow_add-extracted-2 c = let a = c.args in
     let q = c.requires in
     let w = breaks-small a.p a.n a.knots.now q.0 q.2 in
-    let x = c.count_breaks-met.ensures.breaks in
-    let m = extracted-small a.p a.n a.knots.now q.0 q.2 c.count_breaks-met.result.breaks c.count_breaks-met.ensures.breaks in search rules
+    let x = c.break_count-breaks.ensures in
+    let m = extracted-small a.p a.n a.knots.now q.0 q.2 c.break_count-breaks.result c.break_count-breaks.ensures in search rules
 
 pub overflow_mul-extracted : goal.overflow_mul-extracted
 overflow_mul-extracted c = let a = c.args in
     let q = c.requires in
     let w = breaks-small a.p a.n a.knots.now q.0 q.2 in
-    let x = c.count_breaks-met.ensures.breaks in
-    let m = extracted-small a.p a.n a.knots.now q.0 q.2 c.count_breaks-met.result.breaks c.count_breaks-met.ensures.breaks in search rules
+    let x = c.break_count-breaks.ensures in
+    let m = extracted-small a.p a.n a.knots.now q.0 q.2 c.break_count-breaks.result c.break_count-breaks.ensures in search rules
 
 pub returns-in_err-out_room : goal.returns-in_err-out_room
 unfolding raise_start
@@ -61,4 +61,4 @@ returns c = let a = c.args in
     simp
     (le-ltb a.e a.p c.if-e-p.false, sym c.is_high.ensures ∙ c.if-is_high.false, skip _ (c.in_ok-out_room.ensures ∙ ap (λ (k : ℕ). checked (out_room a.e k a.rational a.a a.b a.c)) c.elevated_count-count.ensures))
     (c.scratch_room.ensures
-    ∙ ap (λ (k : ℕ). checked (scratch_room a.p k a.d)) (extracted-is a.p a.n a.knots.now q.0 q.2 _ _ c.count_breaks-met.ensures))
+    ∙ ap (λ (k : ℕ). checked (scratch_room a.p k a.d)) (extracted-is a.p a.n a.knots.now q.0 q.2 _ _ (record { breaks = c.break_count-breaks.ensures; full = refl })))

@@ -14,17 +14,11 @@ use Rattle.elevation.specs.Passes.{breaks_left}
 use Rattle.elevation.proofs.BreakWalks.{breaks-few, full-kept}
 use Rattle.elevation.proofs.walk.count_breaks.Goals as goal
 
-pub count-breaks-requires-clause-fits : goal.count-breaks-requires-clause-fits
-count-breaks-requires-clause-fits c = let w = breaks-few c.args.p c.args.n c.args.knots.now c.requires.0 in
-    let e = ap (λ (x : List Float). length x) c.new.ensures in
-    let f = c.ranges.n.fits in
-    inl (omega arith)
-
 pub returns : goal.returns
 returns c = let a = c.args in
     let bs = breaks_of a.p a.n a.knots.now in
     record {
-      breaks = count_from_yields_List _ _ c.count-breaks.ensures.ran (YieldsList-from_first (λ (x : Float). x) breaks_left bs c.new.ensures);
-      full = count_from_yields_List _ _ c.count-full.ensures.ran (YieldsList-from_filter _ (is_full a.p a.knots.now) (YieldsList-from_first (λ (x : Float). x) breaks_left bs (ap breaks_left c.filter.ensures.source ∙ c.new-2.ensures)) c.filter.ensures.closure (λ x r q k. search (rules, tests)))
+      breaks = c.break_count-breaks.ensures;
+      full = count_from_yields_List _ _ c.count-full.ensures.ran (YieldsList-from_filter _ (is_full a.p a.knots.now) (YieldsList-from_first (λ (x : Float). x) breaks_left bs (ap breaks_left c.filter.ensures.source ∙ c.new.ensures)) c.filter.ensures.closure (λ x r q k. search (rules, tests)))
           ∙ full-kept a.p a.knots.now bs;
     }
